@@ -13,12 +13,13 @@ use Rattle.fs_base.proofs.Lists.{each, each_weaker, each_both, filter-append, fi
 use Rattle.fs_nlri.specs.Rule.{destination_prefix}
 use Rattle.fs_unicast.specs.Unicast.{Route}
 use Rattle.fs_flows.specs.Kept.{Kept}
-use Rattle.fs_flows.specs.Group.{mended, retested, is_related_kept}
+use Rattle.fs_flows.specs.Group.{mended, retested, is_related_kept, is_of_other}
 use Rattle.fs_flows.specs.Groups.{Entry, kept_in, IsTo, ArePlaced, AreInOrder, IsGrouped, with_group, keep_at}
 use Rattle.fs_flows.specs.Listed.{Listed, lists, is_among, StaysListed, IsAmong, IsListed, keep_along}
 use Rattle.fs_flows.proofs.Apart.{each_front, each_back}
 use Rattle.fs_flows.proofs.Changed.{each-filtered}
-use Rattle.fs_flows.proofs.Takes.{kept_with, placed_at, each_at, sorted_at, other_keys, length-filter}
+use Rattle.fs_flows.proofs.TakingFromGroups.{kept_with, placed_at, each_at, sorted_at, other_keys, length-filter}
+use Rattle.fs_flows.proofs.Grouping.{few_left}
 
 module _ (keeps : Kept → Bool) where
   abbrev passes : Kept → Type 0
@@ -99,21 +100,19 @@ module _ (keeps : Kept → Bool) where
     in_groups ds es rest placed.1 (each_back (λ k. keeps k ≡ false → IsAmong ds k) e.1 (kept_in es rest) h),
   )
 
-  pub kept_along : (ds : List Prefix) (es new : List Entry) (rest left : List Kept) (bound : ℕ) → IsGrouped es rest bound → AllByRecursion (λ k. keeps k ≡ false → IsAmong ds k) (kept_in es rest)
-      → new ≡ keep_along ds keeps es → left ≡ filter keeps rest → kept_in new left ≡ filter keeps (kept_in es rest)
-  kept_along ds es new rest left bound g h e f = ap (λ fs. kept_in fs left) e ∙ ap (kept_in (keep_along ds keeps es)) f
-      ∙ sym (all_left (keep_along ds keeps es) rest (in_along ds es g.ordered (in_groups ds es rest g.placed h))) ∙ left_along ds es rest
+  module _ (ds : List Prefix) {es new : List Entry} {rest left : List Kept} {bound : ℕ} (g : IsGrouped es rest bound) (h : AllByRecursion (λ k. keeps k ≡ false → IsAmong ds k) (kept_in es rest)) (e : new ≡ keep_along ds keeps es) (f : left ≡ filter keeps rest) where
+    pub kept_along : kept_in new left ≡ filter keeps (kept_in es rest)
+    kept_along = ap (λ fs. kept_in fs left) e ∙ ap (kept_in (keep_along ds keeps es)) f
+        ∙ sym (all_left (keep_along ds keeps es) rest (in_along ds es g.ordered (in_groups ds es rest g.placed h))) ∙ left_along ds es rest
 
-  pub grouped_along : (ds : List Prefix) (es new : List Entry) (rest left : List Kept) (bound : ℕ) → IsGrouped es rest bound → AllByRecursion (λ k. keeps k ≡ false → IsAmong ds k) (kept_in es rest)
-      → new ≡ keep_along ds keeps es → left ≡ filter keeps rest → IsGrouped new left bound
-  grouped_along ds es new rest left bound g h e f = record {
-    ordered = subst AreInOrder (sym e) (along_sorted ds es g.ordered);
-    placed = subst ArePlaced (sym e) (along_placed ds es g.placed);
-    bare = subst (AllByRecursion (IsTo None)) (sym f) (each_filtered (IsTo None) keeps rest g.bare);
-    most = let a : length (kept_in new left) ≡ length (filter keeps (kept_in es rest)) = ap length (kept_along ds es new rest left bound g h e f) in
-        let b : length (filter keeps (kept_in es rest)) ≤ length (kept_in es rest) = length-filter keeps (kept_in es rest) in let c : length (kept_in es rest) ≤ bound = g.most in omega arith;
-    small = g.small;
-  }
+    pub grouped_along : IsGrouped new left bound
+    grouped_along = record {
+      ordered = subst AreInOrder (sym e) (along_sorted ds es g.ordered);
+      placed = subst ArePlaced (sym e) (along_placed ds es g.placed);
+      bare = subst (AllByRecursion (IsTo None)) (sym f) (each_filtered (IsTo None) keeps rest g.bare);
+      most = few_left g keeps (kept_in new left) kept_along;
+      small = g.small;
+    }
 
 -- What is listed stays so.
 pub listed_still : (old new : Listed) → StaysListed old new → (ks : List Kept) → AllByRecursion (IsListed old) ks → AllByRecursion (IsListed new) ks
@@ -142,16 +141,16 @@ still_one : (old now : Listed) (peer other : ℕ) (d : Option Prefix) → StaysB
 still_one old now peer other None stays n l = tt
 still_one old now peer other (Some p) stays n l = stays other p n l
 
-others_each : (old now : Listed) (peer : ℕ) (ks : List Kept) → StaysBut peer old now → AllByRecursion (IsListed old) ks → AllByRecursion (IsListed now) (filter (λ k. not (k.route.peer == peer)) ks)
+others_each : (old now : Listed) (peer : ℕ) (ks : List Kept) → StaysBut peer old now → AllByRecursion (IsListed old) ks → AllByRecursion (IsListed now) (filter (is_of_other peer) ks)
 others_each old now peer [] stays h = tt
 others_each old now peer (k ∷ ks) stays h = at (k.route.peer == peer) refl (others_each old now peer ks stays h.1) where
-  at : (b : Bool) → (k.route.peer == peer) ≡ b → AllByRecursion (IsListed now) (filter (λ k. not (k.route.peer == peer)) ks)
-      → AllByRecursion (IsListed now) (cond (not b) (k ∷ filter (λ k. not (k.route.peer == peer)) ks) (filter (λ k. not (k.route.peer == peer)) ks))
+  at : (b : Bool) → (k.route.peer == peer) ≡ b → AllByRecursion (IsListed now) (filter (is_of_other peer) ks)
+      → AllByRecursion (IsListed now) (cond (not b) (k ∷ filter (is_of_other peer) ks) (filter (is_of_other peer) ks))
   at true n ih = ih
   at false n ih = (still_one old now peer k.route.peer (destination_prefix k.route.rule) stays n h.0, ih)
 
 -- of the other peers
-pub listed_others : (old now : Listed) (peer : ℕ) (kept new : List Kept) → StaysBut peer old now → new ≡ filter (λ k. not (k.route.peer == peer)) kept → AllByRecursion (IsListed old) kept → AllByRecursion (IsListed now) new
+pub listed_others : (old now : Listed) (peer : ℕ) (kept new : List Kept) → StaysBut peer old now → new ≡ filter (is_of_other peer) kept → AllByRecursion (IsListed old) kept → AllByRecursion (IsListed now) new
 listed_others old now peer kept new stays e h = subst (AllByRecursion (IsListed now)) (sym e) (others_each old now peer kept stays h)
 
 -- the destinations of the peer's routes are those that are handed out

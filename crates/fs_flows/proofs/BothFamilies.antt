@@ -18,7 +18,7 @@ use Rattle.fs_unicast.specs.Unicast.{Route}
 use Rattle.fs_flows.specs.Kept.{Kept}
 use Rattle.fs_flows.specs.Table.{is_key, is_of_family, is_valid, related_count}
 use Rattle.fs_flows.specs.Changes.{Noted}
-use Rattle.fs_flows.specs.Group.{AreSorted, routes_of, put_kept, mended, retested, is_related_kept, is_beaten, is_chosen, chosen, of_family}
+use Rattle.fs_flows.specs.Group.{AreSorted, routes_of, put_kept, mended, retested, is_related_kept, is_beaten, is_chosen, chosen, of_family, is_other_key, HaveRules}
 use Rattle.fs_flows.specs.Groups.{Entry, IsSound}
 use Rattle.fs_flows.specs.Lending.{AreLent}
 use Rattle.fs_flows.specs.Search.{MendsKept}
@@ -29,7 +29,7 @@ use Rattle.fs_flows.proofs.ChosenParts.{chosen-append}
 use Rattle.fs_flows.proofs.Changed.{any_back, any_front, each-filtered, each-put, left_back, left_front}
 use Rattle.fs_flows.proofs.Mending.{marked_families}
 use Rattle.fs_flows.proofs.Placing.{related-append}
-use Rattle.fs_flows.proofs.Puts.{put_left, put_right, sorted_front, sorted_back}
+use Rattle.fs_flows.proofs.PuttingInGroups.{put_left, put_right, sorted_front, sorted_back}
 
 before_each : (xs ys : List Kept) → AreOfFamilies xs ys → AllBefore xs ys
 before_each xs ys h = each_weaker (IsSound V4) (λ x. AllByRecursion (RuleBefore x) ys) (λ x s. each_weaker (IsSound V6) (RuleBefore x) (λ y t. families_before x y s t) ys h.second) xs h.first
@@ -45,7 +45,7 @@ put_first k xs ys h g = sym (put_left k xs ys (each_weaker (IsSound V6) (RuleBef
 pub put_second : (k : Kept) (xs ys : List Kept) → IsSound V6 k → AreOfFamilies xs ys → xs ++ put_kept k ys ≡ put_kept k (xs ++ ys)
 put_second k xs ys h g = sym (put_right k xs ys (each_weaker (IsSound V4) (λ x. RuleBefore x k) (λ x s. families_before x k s h) xs g.first))
 
-pub rules_of : (f : Family) (ks : List Kept) → AllByRecursion (IsSound f) ks → AllByRecursion (λ k. IsRule k.route.rule) ks
+pub rules_of : (f : Family) (ks : List Kept) → AllByRecursion (IsSound f) ks → HaveRules ks
 rules_of f ks h = each_weaker (IsSound f) (λ k. IsRule k.route.rule) (λ k s. s.rule) ks h
 
 abbrev test_at : Ruled → ℕ → Kept → Family → Family → Bool
@@ -58,10 +58,10 @@ none_second rule peer ys h g = each_weaker (IsSound V6) (λ k. is_key rule peer 
 none_first : (rule : Ruled) (peer : ℕ) (xs : List Kept) → rule.family ≡ V6 → AllByRecursion (IsSound V4) xs → AllByRecursion (λ k. is_key rule peer k.route ≡ false) xs
 none_first rule peer xs h g = each_weaker (IsSound V4) (λ k. is_key rule peer k.route ≡ false) (λ k s. ap₂ (test_at rule peer k) h s.family) xs g
 
-pub take_first : (rule : Ruled) (peer : ℕ) (xs ys : List Kept) → rule.family ≡ V4 → AreOfFamilies xs ys → filter (λ k. not (is_key rule peer k.route)) xs ++ ys ≡ filter (λ k. not (is_key rule peer k.route)) (xs ++ ys)
+pub take_first : (rule : Ruled) (peer : ℕ) (xs ys : List Kept) → rule.family ≡ V4 → AreOfFamilies xs ys → filter (is_other_key rule peer) xs ++ ys ≡ filter (is_other_key rule peer) (xs ++ ys)
 take_first rule peer xs ys h g = left_front (λ k. is_key rule peer k.route) xs ys (none_second rule peer ys h g.second)
 
-pub take_second : (rule : Ruled) (peer : ℕ) (xs ys : List Kept) → rule.family ≡ V6 → AreOfFamilies xs ys → xs ++ filter (λ k. not (is_key rule peer k.route)) ys ≡ filter (λ k. not (is_key rule peer k.route)) (xs ++ ys)
+pub take_second : (rule : Ruled) (peer : ℕ) (xs ys : List Kept) → rule.family ≡ V6 → AreOfFamilies xs ys → xs ++ filter (is_other_key rule peer) ys ≡ filter (is_other_key rule peer) (xs ++ ys)
 take_second rule peer xs ys h g = left_back (λ k. is_key rule peer k.route) xs ys (none_first rule peer xs h g.first)
 
 pub held_first : (rule : Ruled) (peer : ℕ) (xs ys : List Kept) → rule.family ≡ V4 → AreOfFamilies xs ys → list_any (λ k. is_key rule peer k.route) xs ≡ list_any (λ k. is_key rule peer k.route) (xs ++ ys)
@@ -84,15 +84,16 @@ pub mended_now : (f : Family) (p : Prefix) (unicast : List Route) (config : Conf
 mended_now f p unicast config old new e h = subst (AllByRecursion (IsSound f)) (sym e) (mended_sound f p unicast config old h)
 
 -- one family behind the other
-pub mends_families : (p : Prefix) (unicast : List Route) (config : Config) (xs ys xs' ys' : List Kept) (noted between more : Noted) (before amid after : ℕ) → MendsKept p unicast config xs xs' noted between before amid → MendsKept p unicast config ys ys' between more amid after
-    → MendsKept p unicast config (xs ++ ys) (xs' ++ ys') noted more before after
-mends_families p unicast config xs ys xs' ys' noted between more before amid after h k = record {
-  kept = ap₂ (λ a b. a ++ b) h.kept k.kept ∙ sym (map-append (mended p unicast config) xs ys);
-  stays = λ rule n. k.stays rule (h.stays rule n);
-  marked = marked_families unicast config p xs ys between more k.stays h.marked k.marked;
-  later = omega (arith, h.later, k.later);
-  steps = let e : related_count p (routes_of (xs ++ ys)) ≡ related_count p (routes_of xs) + related_count p (routes_of ys) = related-append p xs ys in omega (arith, h.steps, k.steps);
-}
+module _ (p : Prefix) (unicast : List Route) (config : Config) where
+  pub mends_families : {xs ys xs' ys' : List Kept} {noted between more : Noted} {before amid after : ℕ} → MendsKept p unicast config xs xs' noted between before amid → MendsKept p unicast config ys ys' between more amid after
+      → MendsKept p unicast config (xs ++ ys) (xs' ++ ys') noted more before after
+  mends_families {xs} {ys} {between = between} {more} h k = record {
+    kept = ap₂ (λ a b. a ++ b) h.kept k.kept ∙ sym (map-append (mended p unicast config) xs ys);
+    stays = λ rule n. k.stays rule (h.stays rule n);
+    marked = marked_families unicast config p xs ys between more k.stays h.marked k.marked;
+    later = omega (arith, h.later, k.later);
+    steps = let e : related_count p (routes_of (xs ++ ys)) ≡ related_count p (routes_of xs) + related_count p (routes_of ys) = related-append p xs ys in omega (arith, h.steps, k.steps);
+  }
 
 -- What is read of a family.
 of_other : (family f g : Family) (k : Kept) → family ≡ f → IsSound g k → is_of_family family k.route ≡ (afi_of g == afi_of f)
@@ -142,5 +143,5 @@ sorted_first xs ys now e h = sorted_front xs ys (subst (λ ks. AreSorted (routes
 pub sorted_second : (xs ys now : List Kept) → xs ++ ys ≡ now → AreSorted (routes_of now) → AreSorted (routes_of ys)
 sorted_second xs ys now e h = sorted_back xs ys (subst (λ ks. AreSorted (routes_of ks)) (sym e) h)
 
-pub rules_each : (xs ys now : List Kept) → xs ++ ys ≡ now → AreOfFamilies xs ys → AllByRecursion (λ k. IsRule k.route.rule) now
-rules_each xs ys now e h = subst (AllByRecursion (λ k. IsRule k.route.rule)) e (each_append (λ k. IsRule k.route.rule) xs ys (rules_of V4 xs h.first) (rules_of V6 ys h.second))
+pub rules_each : (xs ys now : List Kept) → xs ++ ys ≡ now → AreOfFamilies xs ys → HaveRules now
+rules_each xs ys now e h = subst HaveRules e (each_append (λ k. IsRule k.route.rule) xs ys (rules_of V4 xs h.first) (rules_of V6 ys h.second))

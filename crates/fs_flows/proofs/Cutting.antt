@@ -12,12 +12,12 @@ use Rattle.fs_order.specs.Comparison.{rule_cmp}
 use Rattle.fs_order.specs.Ranked.{rule_total}
 use Rattle.fs_flows.specs.Kept.{Kept}
 use Rattle.fs_flows.specs.Table.{key_cmp, is_key}
-use Rattle.fs_flows.specs.Group.{put_kept, AreSorted, routes_of}
+use Rattle.fs_flows.specs.Group.{put_kept, AreSorted, routes_of, is_other_key}
 use Rattle.fs_flows.specs.Blocks.{flat, RuleBefore, AllBefore, AreCut, is_filled, AreFilled, IsCut, AreEachSorted, begins_by, begun, block_of, with_block, keep_blocks, cut_list, CanCut}
 use Rattle.fs_flows.proofs.Apart.{each_front, each_back, take_each, drop_each}
 use Rattle.fs_flows.proofs.Changed.{any_back, any_front, each-put, left_back, left_front, routes-put, sorted-put}
-use Rattle.fs_flows.proofs.Puts.{put_left, put_right, sorted_front, sorted_back}
-use Rattle.fs_flows.proofs.Takes.{empty, not_empty}
+use Rattle.fs_flows.proofs.PuttingInGroups.{put_left, put_right, sorted_front, sorted_back}
+use Rattle.fs_flows.proofs.TakingFromGroups.{empty, not_empty}
 
 -- Of a rule, the routes of earlier rules and those of later ones.
 abbrev pub IsAhead : Ruled → Kept → Type 0
@@ -148,7 +148,7 @@ module _ (rule : Ruled) (peer : ℕ) where
   any_block (x ∷ xs) zero b e h = ap (list_any hits) e ∙ any_front hits x (flat xs) (each_weaker (IsAfter rule) (λ k. hits k ≡ false) misses_after (flat xs) h)
   any_block (x ∷ xs) (suc n) b e h = any_block xs n b e h.1 ∙ any_back hits x (flat xs) (each_weaker (IsAhead rule) (λ k. hits k ≡ false) misses_ahead x h.0)
 
-  pub flat_take : (bs : List (List Kept)) (n : ℕ) (b : List Kept) → b ≡ get_or bs n b → Around rule n bs → flat (set bs n (filter (λ k. not (is_key rule peer k.route)) b)) ≡ filter (λ k. not (is_key rule peer k.route)) (flat bs)
+  pub flat_take : (bs : List (List Kept)) (n : ℕ) (b : List Kept) → b ≡ get_or bs n b → Around rule n bs → flat (set bs n (filter (is_other_key rule peer) b)) ≡ filter (is_other_key rule peer) (flat bs)
   flat_take [] n b e h = absurd h
   flat_take (x ∷ xs) zero b e h = ap (λ ks. filter (λ k. not (hits k)) ks ++ flat xs) e ∙ left_front hits x (flat xs) (each_weaker (IsAfter rule) (λ k. hits k ≡ false) misses_after (flat xs) h)
   flat_take (x ∷ xs) (suc n) b e h = ap (λ ks. x ++ ks) (flat_take xs n b e h.1) ∙ left_back hits x (flat xs) (each_weaker (IsAhead rule) (λ k. hits k ≡ false) misses_ahead x h.0)

@@ -1,5 +1,5 @@
 -- That routes stay grouped.
-use Rattle.std.proofs.Common.{ℕ, ◌≡◌, ◌+◌, ◌≤◌, ◌<◌, ◌^◌, refl, sym, ap, subst, ◌∙◌, Bool, not, List, [], ◌∷◌, filter, map, length, Some, None, Ordering, Less, Equal, Greater, arith}
+use Rattle.std.proofs.Common.{ℕ, ◌≡◌, ◌+◌, ◌≤◌, ◌<◌, ◌^◌, refl, sym, ap, subst, ◌∙◌, Bool, List, [], ◌∷◌, filter, map, length, Some, None, Ordering, Less, Equal, Greater, arith}
 use Rattle.std.specs.List.{AllByRecursion}
 use Rattle.std.proofs.lemmas.List.{length-map}
 use Rattle.std.specs.Map.{keys_of}
@@ -15,14 +15,13 @@ use Rattle.fs_nlri.specs.Parts.{Ruled}
 use Rattle.fs_nlri.specs.Rule.{IsRule, destination_prefix}
 use Rattle.fs_validate.specs.Laws.{is_related}
 use Rattle.fs_flows.specs.Kept.{Kept}
-use Rattle.fs_flows.specs.Table.{is_key}
 use Rattle.fs_flows.specs.Changes.{Noted}
-use Rattle.fs_flows.specs.Group.{put_kept, mended, chosen}
+use Rattle.fs_flows.specs.Group.{put_kept, mended, chosen, is_other_key, HaveRules}
 use Rattle.fs_flows.specs.Groups.{Entry, kept_in, IsTo, ArePlaced, AreInOrder, IsSound, IsGrouped, put_entry, keep_at, keep_each}
-use Rattle.fs_flows.specs.Search.{Mends, MendsKept}
+use Rattle.fs_flows.specs.Search.{Mends, MendsKept, Moment}
 use Rattle.fs_flows.specs.Lending.{chosen_in}
-use Rattle.fs_flows.proofs.Puts.{put_entries, put_rest, put_placed, each_entry, length-put}
-use Rattle.fs_flows.proofs.Takes.{kept_each, placed_each, placed_at, sorted_at, parts_sorted, taken_kept, taken_rest, length-filter}
+use Rattle.fs_flows.proofs.PuttingInGroups.{put_entries, put_rest, put_placed, each_entry, length-put}
+use Rattle.fs_flows.proofs.TakingFromGroups.{kept_each, placed_each, placed_at, sorted_at, parts_sorted, taken_kept, taken_rest, length-filter}
 use Rattle.fs_flows.proofs.Mending.{mended_in, marks_kept, mends_placed, mends_ordered, size_related}
 use Rattle.fs_flows.proofs.ChosenParts.{chosen_groups}
 use Rattle.fs_flows.proofs.Changed.{each-put}
@@ -38,82 +37,85 @@ sorted_entry p k (e ∷ es) h = at (prefix_cmp p e.0) refl (sorted_entry p k es 
   at Equal same ih = h
   at Greater more ih = parts_sorted e.0 (keys_of (put_entry p k es)) (each_entry (λ q. prefix_cmp e.0 q ≡ Less) p k es (prefix_total.antisymm e.0 p ∙ ap ordering_reverse more) heads) ih
 
-pub grouped_put : (family : Family) (p : Prefix) (k : Kept) (es new : List Entry) (rest : List Kept) (bound most : ℕ) → IsSound family k → IsTo (Some p) k → AllByRecursion (IsSound family) (kept_in es rest) → IsGrouped es rest bound
-    → new ≡ put_entry p k es → most ≡ bound + 1 → most < 2 ^ 64 → IsGrouped new rest most
-grouped_put family p k es new rest bound most h d sound g e m small = record {
-  ordered = subst AreInOrder (sym e) (sorted_entry p k es g.ordered);
-  placed = subst ArePlaced (sym e) (put_placed p k es d g.placed);
-  bare = g.bare;
-  most = let a : length (kept_in new rest) ≡ length (put_kept k (kept_in es rest)) = ap length (ap (λ fs. kept_in fs rest) e ∙ put_entries family p k es rest h d g.ordered g.placed g.bare sound) in
-      let b : length (put_kept k (kept_in es rest)) ≤ length (kept_in es rest) + 1 = length-put k (kept_in es rest) in let c : length (kept_in es rest) ≤ bound = g.most in omega arith;
-  small = small;
-}
+module _ {es : List Entry} {rest : List Kept} {bound : ℕ} (g : IsGrouped es rest bound) where
+  -- at most one route more, or none
+  few_put : (k : Kept) (now : List Kept) (most : ℕ) → now ≡ put_kept k (kept_in es rest) → most ≡ bound + 1 → length now ≤ most
+  few_put k now most e m = omega (arith, ap length e, length-put k (kept_in es rest), g.most, m)
 
-pub grouped_rest : (family : Family) (k : Kept) (es : List Entry) (rest new : List Kept) (bound most : ℕ) → IsSound family k → IsTo None k → AllByRecursion (IsSound family) (kept_in es rest) → IsGrouped es rest bound
-    → new ≡ put_kept k rest → most ≡ bound + 1 → most < 2 ^ 64 → IsGrouped es new most
-grouped_rest family k es rest new bound most h d sound g e m small = record {
-  ordered = g.ordered;
-  placed = g.placed;
-  bare = subst (AllByRecursion (IsTo None)) (sym e) (each-put (IsTo None) k d rest g.bare);
-  most = let a : length (kept_in es new) ≡ length (put_kept k (kept_in es rest)) = ap length (ap (kept_in es) e ∙ put_rest family k es rest h d g.placed sound) in
-      let b : length (put_kept k (kept_in es rest)) ≤ length (kept_in es rest) + 1 = length-put k (kept_in es rest) in let c : length (kept_in es rest) ≤ bound = g.most in omega arith;
-  small = small;
-}
+  pub few_left : (keeps : Kept → Bool) (now : List Kept) → now ≡ filter keeps (kept_in es rest) → length now ≤ bound
+  few_left keeps now e = omega (arith, ap length e, length-filter keeps (kept_in es rest), g.most)
 
-pub grouped_taken : (rule : Ruled) (peer : ℕ) (p : Prefix) (es new : List Entry) (rest : List Kept) (bound : ℕ) → IsRule rule → destination_prefix rule ≡ Some p → AllByRecursion (λ k. IsRule k.route.rule) (kept_in es rest) → IsGrouped es rest bound
-    → new ≡ keep_at p (λ k. not (is_key rule peer k.route)) es → IsGrouped new rest bound
-grouped_taken rule peer p es new rest bound h d sound g e = record {
-  ordered = subst AreInOrder (sym e) (sorted_at p (λ k. not (is_key rule peer k.route)) es g.ordered);
-  placed = subst ArePlaced (sym e) (placed_at p (λ k. not (is_key rule peer k.route)) es g.placed);
-  bare = g.bare;
-  most = let a : length (kept_in new rest) ≡ length (filter (λ k. not (is_key rule peer k.route)) (kept_in es rest)) = ap length (ap (λ fs. kept_in fs rest) e ∙ taken_kept rule peer h p es rest d g.ordered g.placed g.bare sound) in
-      let b : length (filter (λ k. not (is_key rule peer k.route)) (kept_in es rest)) ≤ length (kept_in es rest) = length-filter (λ k. not (is_key rule peer k.route)) (kept_in es rest) in let c : length (kept_in es rest) ≤ bound = g.most in omega arith;
-  small = g.small;
-}
+  module _ (family : Family) (k : Kept) (h : IsSound family k) (sound : AllByRecursion (IsSound family) (kept_in es rest)) {most : ℕ} (m : most ≡ bound + 1) (small : most < 2 ^ 64) where
+    pub grouped_put : (p : Prefix) → IsTo (Some p) k → {new : List Entry} → new ≡ put_entry p k es → IsGrouped new rest most
+    grouped_put p d {new} e = record {
+      ordered = subst AreInOrder (sym e) (sorted_entry p k es g.ordered);
+      placed = subst ArePlaced (sym e) (put_placed p k es d g.placed);
+      bare = g.bare;
+      most = few_put k (kept_in new rest) most (ap (λ fs. kept_in fs rest) e ∙ put_entries family p k es rest h d g.ordered g.placed g.bare sound) m;
+      small = small;
+    }
 
-pub grouped_taken_rest : (rule : Ruled) (peer : ℕ) (es : List Entry) (rest new : List Kept) (bound : ℕ) → IsRule rule → destination_prefix rule ≡ None → AllByRecursion (λ k. IsRule k.route.rule) (kept_in es rest) → IsGrouped es rest bound
-    → new ≡ filter (λ k. not (is_key rule peer k.route)) rest → IsGrouped es new bound
-grouped_taken_rest rule peer es rest new bound h d sound g e = record {
-  ordered = g.ordered;
-  placed = g.placed;
-  bare = subst (AllByRecursion (IsTo None)) (sym e) (each_filtered (IsTo None) (λ k. not (is_key rule peer k.route)) rest g.bare);
-  most = let a : length (kept_in es new) ≡ length (filter (λ k. not (is_key rule peer k.route)) (kept_in es rest)) = ap length (ap (kept_in es) e ∙ taken_rest rule peer h es rest d g.placed sound) in
-      let b : length (filter (λ k. not (is_key rule peer k.route)) (kept_in es rest)) ≤ length (kept_in es rest) = length-filter (λ k. not (is_key rule peer k.route)) (kept_in es rest) in let c : length (kept_in es rest) ≤ bound = g.most in omega arith;
-  small = g.small;
-}
+    pub grouped_rest : IsTo None k → {new : List Kept} → new ≡ put_kept k rest → IsGrouped es new most
+    grouped_rest d {new} e = record {
+      ordered = g.ordered;
+      placed = g.placed;
+      bare = subst (AllByRecursion (IsTo None)) (sym e) (each-put (IsTo None) k d rest g.bare);
+      most = few_put k (kept_in es new) most (ap (kept_in es) e ∙ put_rest family k es rest h d g.placed sound) m;
+      small = small;
+    }
 
-pub kept_left : (keeps : Kept → Bool) (es new : List Entry) (rest left : List Kept) → new ≡ keep_each keeps es → left ≡ filter keeps rest → kept_in new left ≡ filter keeps (kept_in es rest)
-kept_left keeps es new rest left e f = ap (λ fs. kept_in fs left) e ∙ ap (kept_in (keep_each keeps es)) f ∙ kept_each keeps es rest
+  module _ (rule : Ruled) (peer : ℕ) (h : IsRule rule) (sound : HaveRules (kept_in es rest)) where
+    pub grouped_taken : (p : Prefix) → destination_prefix rule ≡ Some p → {new : List Entry} → new ≡ keep_at p (is_other_key rule peer) es → IsGrouped new rest bound
+    grouped_taken p d {new} e = record {
+      ordered = subst AreInOrder (sym e) (sorted_at p (is_other_key rule peer) es g.ordered);
+      placed = subst ArePlaced (sym e) (placed_at p (is_other_key rule peer) es g.placed);
+      bare = g.bare;
+      most = few_left (is_other_key rule peer) (kept_in new rest) (ap (λ fs. kept_in fs rest) e ∙ taken_kept rule peer h p es rest d g.ordered g.placed g.bare sound);
+      small = g.small;
+    }
 
-pub grouped_kept : (keeps : Kept → Bool) (es new : List Entry) (rest left : List Kept) (bound : ℕ) → IsGrouped es rest bound → AreInOrder new → new ≡ keep_each keeps es → left ≡ filter keeps rest → IsGrouped new left bound
-grouped_kept keeps es new rest left bound g ordered e f = record {
-  ordered = ordered;
-  placed = subst ArePlaced (sym e) (placed_each keeps es g.placed);
-  bare = subst (AllByRecursion (IsTo None)) (sym f) (each_filtered (IsTo None) keeps rest g.bare);
-  most = let a : length (kept_in new left) ≡ length (filter keeps (kept_in es rest)) = ap length (kept_left keeps es new rest left e f) in
-      let b : length (filter keeps (kept_in es rest)) ≤ length (kept_in es rest) = length-filter keeps (kept_in es rest) in let c : length (kept_in es rest) ≤ bound = g.most in omega arith;
-  small = g.small;
-}
+    pub grouped_taken_rest : destination_prefix rule ≡ None → {new : List Kept} → new ≡ filter (is_other_key rule peer) rest → IsGrouped es new bound
+    grouped_taken_rest d {new} e = record {
+      ordered = g.ordered;
+      placed = g.placed;
+      bare = subst (AllByRecursion (IsTo None)) (sym e) (each_filtered (IsTo None) (is_other_key rule peer) rest g.bare);
+      most = few_left (is_other_key rule peer) (kept_in es new) (ap (kept_in es) e ∙ taken_rest rule peer h es rest d g.placed sound);
+      small = g.small;
+    }
 
-pub mends_kept : (unicast : List Route) (config : Config) (p : Prefix) (es new : List Entry) (rest : List Kept) (bound : ℕ) (noted more : Noted) (before after : ℕ) → IsGrouped es rest bound → Mends unicast config (is_related p) es new noted more before after
-    → MendsKept p unicast config (kept_in es rest) (kept_in new rest) noted more before after
-mends_kept unicast config p es new rest bound noted more before after g m = record {
-  kept = ap (λ fs. kept_in fs rest) m.entries ∙ mended_in unicast config p es rest g.placed g.bare;
-  stays = m.stays;
-  marked = marks_kept unicast config p es rest more g.placed g.bare m.marks;
-  later = m.later;
-  steps = omega (arith, m.steps, size_related unicast config p es rest g.placed);
-}
+  module _ (keeps : Kept → Bool) {new : List Entry} {left : List Kept} (e : new ≡ keep_each keeps es) (f : left ≡ filter keeps rest) where
+    pub kept_left : kept_in new left ≡ filter keeps (kept_in es rest)
+    kept_left = ap (λ fs. kept_in fs left) e ∙ ap (kept_in (keep_each keeps es)) f ∙ kept_each keeps es rest
 
-pub grouped_mended : (unicast : List Route) (config : Config) (p : Prefix) (es new : List Entry) (rest : List Kept) (bound : ℕ) (noted more : Noted) (before after : ℕ) → IsGrouped es rest bound → Mends unicast config (is_related p) es new noted more before after → IsGrouped new rest bound
-grouped_mended unicast config p es new rest bound noted more before after g m = record {
-  ordered = mends_ordered unicast config (is_related p) es new noted more before after m g.ordered;
-  placed = mends_placed unicast config (is_related p) es new noted more before after m g.placed;
-  bare = g.bare;
-  most = let a : length (kept_in new rest) ≡ length (map (mended p unicast config) (kept_in es rest)) = ap length (mends_kept unicast config p es new rest bound noted more before after g m).kept in
-      let b : length (map (mended p unicast config) (kept_in es rest)) ≡ length (kept_in es rest) = length-map (kept_in es rest) (mended p unicast config) in let c : length (kept_in es rest) ≤ bound = g.most in omega arith;
-  small = g.small;
-}
+    pub grouped_kept : AreInOrder new → IsGrouped new left bound
+    grouped_kept ordered = record {
+      ordered = ordered;
+      placed = subst ArePlaced (sym e) (placed_each keeps es g.placed);
+      bare = subst (AllByRecursion (IsTo None)) (sym f) (each_filtered (IsTo None) keeps rest g.bare);
+      most = few_left keeps (kept_in new left) kept_left;
+      small = g.small;
+    }
 
-pub chosen_now : (family f : Family) (es : List Entry) (rest now : List Kept) (bound : ℕ) → IsGrouped es rest bound → kept_in es rest ≡ now → AllByRecursion (IsSound f) now → chosen_in family es rest ≡ chosen family now
-chosen_now family f es rest now bound g v sound = chosen_groups family f es rest g.ordered g.placed g.bare (subst (AllByRecursion (IsSound f)) (sym v) sound) ∙ ap (chosen family) v
+  pub chosen_now : (family f : Family) {now : List Kept} → kept_in es rest ≡ now → AllByRecursion (IsSound f) now → chosen_in family es rest ≡ chosen family now
+  chosen_now family f v sound = chosen_groups family f es rest g.ordered g.placed g.bare (subst (AllByRecursion (IsSound f)) (sym v) sound) ∙ ap (chosen family) v
+
+module _ (unicast : List Route) (config : Config) (p : Prefix) {old new : Moment} (rest : List Kept) (bound : ℕ) (g : IsGrouped old.groups rest bound) (m : Mends unicast config (is_related p) old new) where
+  pub mends_kept : MendsKept p unicast config (kept_in old.groups rest) (kept_in new.groups rest) old.noted new.noted old.steps new.steps
+  mends_kept = record {
+    kept = ap (λ fs. kept_in fs rest) m.entries ∙ mended_in unicast config p old.groups rest g.placed g.bare;
+    stays = m.stays;
+    marked = marks_kept unicast config p old.groups rest new.noted g.placed g.bare m.marks;
+    later = m.later;
+    steps = omega (arith, m.steps, size_related unicast config p old.groups rest g.placed);
+  }
+
+  pub grouped_mended : IsGrouped new.groups rest bound
+  grouped_mended = record {
+    ordered = mends_ordered unicast config (is_related p) m g.ordered;
+    placed = mends_placed unicast config (is_related p) m g.placed;
+    bare = g.bare;
+    most = omega (arith, ap length mends_kept.kept, length-map before (mended p unicast config), g.most);
+    small = g.small;
+  } where
+    before : List Kept
+    before = kept_in old.groups rest

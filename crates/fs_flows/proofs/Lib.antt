@@ -1,6 +1,6 @@
 pub mod Along
 pub mod Apart
-pub mod Begun
+pub mod BlockOfRule
 pub mod BothFamilies
 pub mod Changed
 pub mod ChosenParts
@@ -11,6 +11,6 @@ pub mod Mending
 pub mod Noting
 pub mod Places
 pub mod Placing
-pub mod Puts
+pub mod PuttingInGroups
 pub mod Searching
-pub mod Takes
+pub mod TakingFromGroups

@@ -21,10 +21,10 @@ use Rattle.fs_flows.specs.Changes.{Noted, StaysNoted, IsNotedAt, is_noted}
 use Rattle.fs_flows.specs.Group.{AreRight, AreRightTo, IsMarked, IsRightAt, retested, retested_to, mended, routes_of}
 use Rattle.fs_flows.specs.Table.{has_related, related_count}
 use Rattle.fs_flows.specs.Groups.{Entry, kept_in, IsTo, ArePlaced, AreInOrder}
-use Rattle.fs_flows.specs.Search.{touched, size, Marks, Mends, MendsKept}
+use Rattle.fs_flows.specs.Search.{touched, size, Marks, Mends, MendsKept, Moment, moment}
 use Rattle.fs_flows.proofs.Apart.{each_front, each_back}
 use Rattle.fs_flows.proofs.Placing.{related-append}
-use Rattle.fs_flows.proofs.Takes.{other_keys}
+use Rattle.fs_flows.proofs.TakingFromGroups.{other_keys}
 
 -- a flag is down exactly where one fact holds, and so another
 pub told_as : {P Q : Type 0} (b : Bool) → (P → Q) → (Q → P) → (b ≡ false) ↔ P → (b ≡ false) ↔ Q
@@ -72,13 +72,13 @@ module _ (unicast : List Route) (config : Config) where
   IsKnownOf t noted e = t e.0 ≡ true → IsKnown noted e.0 e.1
 
   -- by tests that agree on the keys
-  pub mends_on : (t u : Prefix → Bool) (old new : List Entry) (noted more : Noted) (before after : ℕ) → AllByRecursion (Same t u) old → Mends unicast config t old new noted more before after → Mends unicast config u old new noted more before after
-  mends_on t u old new noted more before after h m = record {
-    entries = m.entries ∙ touched_on t u old h;
+  pub mends_on : (t u : Prefix → Bool) {old new : Moment} → Mends unicast config t old new → AllByRecursion (Same t u) old.groups → Mends unicast config u old new
+  mends_on t u {old} {new} m h = record {
+    entries = m.entries ∙ touched_on t u old.groups h;
     stays = m.stays;
-    marks = each_both (Same t u) (IsKnownOf t more) (IsKnownOf u more) (λ e s d k. d (s ∙ k)) old h m.marks;
+    marks = each_both (Same t u) (IsKnownOf t new.noted) (IsKnownOf u new.noted) (λ e s d k. d (s ∙ k)) old.groups h m.marks;
     later = m.later;
-    steps = subst (λ n. after ≤ before + n) (size_on t u old h) m.steps;
+    steps = subst (λ n. new.steps ≤ old.steps + n) (size_on t u old.groups h) m.steps;
   }
 
   touched_none : (t : Prefix → Bool) (es : List Entry) → AllByRecursion (λ e. t e.0 ≡ false) es → touches t es ≡ es
@@ -89,8 +89,8 @@ module _ (unicast : List Route) (config : Config) where
   none_known t noted es h = each_weaker (λ e. t e.0 ≡ false) (IsKnownOf t noted) (λ e f k. absurd (true≢false (sym k ∙ f))) es h
 
   -- where no key passes nothing is done
-  pub mends_none : (t : Prefix → Bool) (es : List Entry) (noted : Noted) (steps : ℕ) → AllByRecursion (λ e. t e.0 ≡ false) es → Mends unicast config t es es noted noted steps steps
-  mends_none t es noted steps h = record { entries = sym (touched_none t es h); stays = λ rule k. k; marks = none_known t noted es h; later = omega arith; steps = omega arith }
+  pub mends_none : (t : Prefix → Bool) (now : Moment) → AllByRecursion (λ e. t e.0 ≡ false) now.groups → Mends unicast config t now now
+  mends_none t now h = record { entries = sym (touched_none t now.groups h); stays = λ rule k. k; marks = none_known t now.noted now.groups h; later = omega arith; steps = omega arith }
 
   key_stays : (t : Prefix → Bool) (e : Entry) → (touched unicast config t e).0 ≡ e.0
   key_stays t e = at (t e.0) where
@@ -103,11 +103,12 @@ module _ (unicast : List Route) (config : Config) where
   keys_touched t (e ∷ es) = ap₂ (λ x xs. x ∷ xs) (key_stays t e) (keys_touched t es)
 
   -- the keys stay
-  pub mends_keys : (t : Prefix → Bool) (old new : List Entry) (noted more : Noted) (before after : ℕ) → Mends unicast config t old new noted more before after → keys_of new ≡ keys_of old
-  mends_keys t old new noted more before after m = ap keys_of m.entries ∙ keys_touched t old
+  pub mends_keys : (t : Prefix → Bool) {old new : Moment} → Mends unicast config t old new → keys_of new.groups ≡ keys_of old.groups
+  mends_keys t {old} {new} m = ap keys_of m.entries ∙ keys_touched t old.groups
 
-  pub along_keys : (P : Prefix → Type 0) (old new : List Entry) → keys_of new ≡ keys_of old → AllByRecursion (λ e. P e.0) new → AllByRecursion (λ e. P e.0) old
-  along_keys P old new same h = each_of_map (λ e. e.0) P old (subst (AllByRecursion P) same (each_mapped (λ e. e.0) P new h))
+  -- what is known of the keys behind it was so before
+  pub along_keys : (P : Prefix → Type 0) (t : Prefix → Bool) {old new : Moment} → Mends unicast config t old new → AllByRecursion (λ e. P e.0) new.groups → AllByRecursion (λ e. P e.0) old.groups
+  along_keys P t {old} {new} m h = each_of_map (λ e. e.0) P old.groups (subst (AllByRecursion P) (mends_keys t m) (each_mapped (λ e. e.0) P new.groups h))
 
   -- one test after another, of which no key passes both
   again : (t u : Prefix → Bool) (e : Entry) → (t e.0 && u e.0) ≡ false → touched unicast config u (touched unicast config t e) ≡ touched unicast config (λ q. t q || u q) e
@@ -151,15 +152,18 @@ module _ (unicast : List Route) (config : Config) where
     at true g f k p = f refl
     at false g f k p = k p
 
-  pub mends_both : (t u : Prefix → Bool) (old mid new : List Entry) (noted between more : Noted) (before amid after : ℕ) → AllByRecursion (λ e. (t e.0 && u e.0) ≡ false) old
-      → Mends unicast config t old mid noted between before amid → Mends unicast config u mid new between more amid after → Mends unicast config (λ q. t q || u q) old new noted more before after
-  mends_both t u old mid new noted between more before amid after h m n = record {
-    entries = n.entries ∙ ap (touches u) m.entries ∙ both_touched t u old h;
+  pub mends_both : (t u : Prefix → Bool) {old mid new : Moment} → Mends unicast config t old mid → Mends unicast config u mid new → AllByRecursion (λ e. (t e.0 && u e.0) ≡ false) old.groups
+      → Mends unicast config (λ q. t q || u q) old new
+  mends_both t u {old} {mid} {new} m n h = record {
+    entries = n.entries ∙ ap (touches u) m.entries ∙ both_touched t u es h;
     stays = λ rule k. n.stays rule (m.stays rule k);
-    marks = known_both t u old more h (known_more t old between more n.stays m.marks) (subst (AllByRecursion (IsKnownOf u more)) m.entries n.marks);
+    marks = known_both t u es new.noted h (known_more t es mid.noted new.noted n.stays m.marks) (subst (AllByRecursion (IsKnownOf u new.noted)) m.entries n.marks);
     later = omega (arith, m.later, n.later);
-    steps = let a : size u mid ≡ size u old = ap (size u) m.entries ∙ size_touched t u old in let b : size t old + size u old ≡ size (λ q. t q || u q) old = size_both t u old h in omega (arith, m.steps, n.steps);
-  }
+    steps = let a : size u mid.groups ≡ size u es = ap (size u) m.entries ∙ size_touched t u es in
+        let b : size t es + size u es ≡ size (λ q. t q || u q) es = size_both t u es h in omega (arith, m.steps, n.steps);
+  } where
+    es : List Entry
+    es = old.groups
 
   others : (p : Prefix) (e : Entry) (es : List Entry) → is_eq (prefix_cmp p e.0) ≡ true → AreInOrder (e ∷ es) → AllByRecursion (λ e. is_eq (prefix_cmp p e.0) ≡ false) es
   others p e es t ordered = each_of_map (λ e. e.0) (λ q. is_eq (prefix_cmp p q) ≡ false) es (other_keys p e.0 (keys_of es) t (sorted_head prefix_cmp e.0 (keys_of es) ordered))
@@ -192,14 +196,22 @@ module _ (unicast : List Route) (config : Config) where
     at true t g ih = ((λ k. subst (λ q. IsKnown noted q e.1) (same_from_cmp p e.0 t) (subst (IsKnown noted p) (sym (same_Some e.1 group g)) r)), none_known (is_at (prefix_cmp p)) noted es (others p e es t ordered))
     at false t g ih = ((λ k. absurd (true≢false (sym k ∙ t))), ih g r)
 
-  pub mends_found : (p : Prefix) (old new : List Entry) (group changed : List Kept) (noted more : Noted) (before after : ℕ) → AreInOrder old → lookup (is_at (prefix_cmp p)) old ≡ Some group → changed ≡ map (retested_to unicast config p) group
-      → new ≡ set_value (is_at (prefix_cmp p)) old changed → StaysNoted noted more → IsNotedAt more p ⊎ AreRightTo unicast config p group → before ≤ after → after ≤ before + length group → Mends unicast config (is_at (prefix_cmp p)) old new noted more before after
-  mends_found p old new group changed noted more before after ordered h e s stays known later steps = record {
-    entries = s ∙ ap (set_value (is_at (prefix_cmp p)) old) e ∙ set_is p old group ordered h;
-    stays = stays;
-    marks = found_known p old group more ordered h known;
-    later = later;
-    steps = let f : length group ≤ size (is_at (prefix_cmp p)) old = size_found p old group h in omega arith;
+  -- what is done with the group that stands at a key
+  pub record IsRetested (p : Prefix) (group : List Kept) (old new : Moment) : Type 0 where
+    pub there : lookup (is_at (prefix_cmp p)) old.groups ≡ Some group
+    pub written : new.groups ≡ set_value (is_at (prefix_cmp p)) old.groups (map (retested_to unicast config p) group)
+    pub stays : StaysNoted old.noted new.noted
+    pub known : IsNotedAt new.noted p ⊎ AreRightTo unicast config p group
+    pub later : old.steps ≤ new.steps
+    pub steps : new.steps ≤ old.steps + length group
+
+  pub mends_found : (p : Prefix) (group : List Kept) (old new : Moment) → AreInOrder old.groups → IsRetested p group old new → Mends unicast config (is_at (prefix_cmp p)) old new
+  mends_found p group old new ordered r = record {
+    entries = r.written ∙ set_is p old.groups group ordered r.there;
+    stays = r.stays;
+    marks = found_known p old.groups group new.noted ordered r.there r.known;
+    later = r.later;
+    steps = omega (arith, r.steps, size_found p old.groups group r.there);
   }
 
   pub none_found : (p : Prefix) (es : List Entry) → lookup (is_at (prefix_cmp p)) es ≡ None → AllByRecursion (λ e. is_eq (prefix_cmp p e.0) ≡ false) es
@@ -209,8 +221,11 @@ module _ (unicast : List Route) (config : Config) where
     at true t g ih = cc
     at false t g ih = (t, ih g)
 
-  pub mends_missing : (p : Prefix) (old new : List Entry) (noted : Noted) (steps : ℕ) → lookup (is_at (prefix_cmp p)) old ≡ None → new ≡ old → Mends unicast config (is_at (prefix_cmp p)) old new noted noted steps steps
-  mends_missing p old new noted steps h e = subst (λ es. Mends unicast config (is_at (prefix_cmp p)) old es noted noted steps steps) (sym e) (mends_none (is_at (prefix_cmp p)) old noted steps (none_found p old h))
+  pub mends_missing : (p : Prefix) (old new : List Entry) (noted : Noted) (steps : ℕ) → lookup (is_at (prefix_cmp p)) old ≡ None → new ≡ old
+      → Mends unicast config (is_at (prefix_cmp p)) (moment old noted steps) (moment new noted steps)
+  mends_missing p old new noted steps h e = subst (λ es. Mends unicast config (is_at (prefix_cmp p)) now (moment es noted steps)) (sym e) (mends_none (is_at (prefix_cmp p)) now (none_found p old h)) where
+    now : Moment
+    now = moment old noted steps
 
   -- From the entries to all routes.
   mended_all : (p : Prefix) (destination : Option Prefix) (b : Bool) → has_related p destination ≡ b → (ks : List Kept) → AllByRecursion (IsTo destination) ks → map (mended p unicast config) ks ≡ cond b (map (retested unicast config) ks) ks
@@ -253,11 +268,11 @@ module _ (unicast : List Route) (config : Config) where
     at true = mapped e.1 h.0
     at false = h.0
 
-  pub mends_placed : (t : Prefix → Bool) (old new : List Entry) (noted more : Noted) (before after : ℕ) → Mends unicast config t old new noted more before after → ArePlaced old → ArePlaced new
-  mends_placed t old new noted more before after m h = subst ArePlaced (sym m.entries) (placed_touched t old h)
+  pub mends_placed : (t : Prefix → Bool) {old new : Moment} → Mends unicast config t old new → ArePlaced old.groups → ArePlaced new.groups
+  mends_placed t {old} m h = subst ArePlaced (sym m.entries) (placed_touched t old.groups h)
 
-  pub mends_ordered : (t : Prefix → Bool) (old new : List Entry) (noted more : Noted) (before after : ℕ) → Mends unicast config t old new noted more before after → AreInOrder old → AreInOrder new
-  mends_ordered t old new noted more before after m h = subst (IsStrictlySortedBy prefix_cmp) (sym (mends_keys t old new noted more before after m)) h
+  pub mends_ordered : (t : Prefix → Bool) {old new : Moment} → Mends unicast config t old new → AreInOrder old.groups → AreInOrder new.groups
+  mends_ordered t m h = subst (IsStrictlySortedBy prefix_cmp) (sym (mends_keys t m)) h
 
   -- From the entries to all routes: those without a destination are related to no prefix.
   pub right_all : (p : Prefix) (destination : Option Prefix) (ks : List Kept) → AllByRecursion (IsTo destination) ks → (has_related p destination ≡ true → AreRight unicast config ks) → AllByRecursion (IsRightAt p unicast config) ks

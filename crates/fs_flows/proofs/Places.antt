@@ -20,8 +20,8 @@ use Rattle.fs_flows.specs.Table.{admitted}
 use Rattle.fs_flows.proofs.Apart.{each_front, each_back, to_cmp}
 use Rattle.fs_flows.proofs.Noting.{is_to_by}
 use Rattle.fs_flows.proofs.Grouping.{chosen_now}
-use Rattle.fs_flows.proofs.Puts.{sorted_groups, sorted_rest}
-use Rattle.fs_flows.proofs.Takes.{length-filter, other_keys}
+use Rattle.fs_flows.proofs.PuttingInGroups.{sorted_groups, sorted_rest}
+use Rattle.fs_flows.proofs.TakingFromGroups.{length-filter, other_keys}
 
 is_eq_back : (p q : Prefix) → is_eq (prefix_cmp q p) ≡ is_eq (prefix_cmp p q)
 is_eq_back p q = ap is_eq (prefix_total.antisymm q p) ∙ turned (prefix_cmp p q) where
@@ -74,26 +74,28 @@ module _ (family : Family) (p : Prefix) where
         (to_missing es rest (other_keys p e.0 (keys_of es) t (sorted_head prefix_cmp e.0 (keys_of es) ordered)) placed.1 bare behind) ∙ append-nil (chosen family e.1)
     at false t ih = parts family (Some p) e es rest [] (chosen family (unwrap_or (lookup (is_at (prefix_cmp p)) es) [])) (none_here family (Some p) (Some e.0) (is_eq_back p e.0 ∙ t) e.1 front placed.0) ih
 
-pub group_chosen : (family : Family) (destination : Option Prefix) (es : List Entry) (rest now : List Kept) (bound : ℕ) → IsGrouped es rest bound → kept_in es rest ≡ now → AllByRecursion (IsSound family) now
-    → chosen family (group_at destination es rest) ≡ filter (λ k. is_to family destination k.route.rule) (chosen family now)
-group_chosen family destination es rest now bound g v sound = sym (at destination) ∙ ap (filter (stands_here family destination)) (chosen_now family family es rest now bound g v sound) where
-  all : AllByRecursion (IsSound family) (kept_in es rest)
-  all = subst (AllByRecursion (IsSound family)) (sym v) sound
+module _ (family : Family) {es : List Entry} {rest now : List Kept} {bound : ℕ} (g : IsGrouped es rest bound) (v : kept_in es rest ≡ now) (sound : AllByRecursion (IsSound family) now) where
+  group_chosen : (destination : Option Prefix) → chosen family (group_at destination es rest) ≡ filter (λ k. is_to family destination k.route.rule) (chosen family now)
+  group_chosen destination = sym (at destination) ∙ ap (filter (stands_here family destination)) (chosen_now g family family v sound) where
+    all : AllByRecursion (IsSound family) (kept_in es rest)
+    all = subst (AllByRecursion (IsSound family)) (sym v) sound
 
-  at : (d : Option Prefix) → filter (stands_here family d) (chosen_in family es rest) ≡ chosen family (group_at d es rest)
-  at None = to_none family es rest g.placed g.bare all
-  at (Some p) = to_some family p es rest g.ordered g.placed g.bare all
+    at : (d : Option Prefix) → filter (stands_here family d) (chosen_in family es rest) ≡ chosen family (group_at d es rest)
+    at None = to_none family es rest g.placed g.bare all
+    at (Some p) = to_some family p es rest g.ordered g.placed g.bare all
 
--- What is lent to be read.
-pub lent_now : (family : Family) (es : List Entry) (rest now : List Kept) (bound : ℕ) → IsGrouped es rest bound → kept_in es rest ≡ now → AreSorted (routes_of now) → AllByRecursion (IsSound family) now → AreLent family (chosen family now) now es rest
-lent_now family es rest now bound g v sorted sound = record {
-  sorted = sorted_groups es rest before;
-  bare = sorted_rest es rest before;
-  few = let a : length (chosen_in family es rest) ≡ length (chosen family now) = ap length (chosen_now family family es rest now bound g v sound) in
-      let b : length (chosen family now) ≤ length now = length-filter (is_chosen family now) now in let c : length (kept_in es rest) ≡ length now = ap length v in let d : length (kept_in es rest) ≤ bound = g.most in let e : bound < 2 ^ 64 = g.small in omega arith;
-  whole = chosen_now family family es rest now bound g v sound;
-  to = λ d. group_chosen family d es rest now bound g v sound;
-  routes = v;
-} where
-  before : AreSorted (routes_of (kept_in es rest))
-  before = subst (λ ks. AreSorted (routes_of ks)) (sym v) sorted
+  -- What is lent to be read.
+  pub lent_now : AreSorted (routes_of now) → AreLent family (chosen family now) now es rest
+  lent_now sorted = record {
+    sorted = sorted_groups es rest before;
+    bare = sorted_rest es rest before;
+    few = omega (arith, ap length whole, length-filter (is_chosen family now) now, ap length v, g.most, g.small);
+    whole = whole;
+    to = group_chosen;
+    routes = v;
+  } where
+    whole : chosen_in family es rest ≡ chosen family now
+    whole = chosen_now g family family v sound
+
+    before : AreSorted (routes_of (kept_in es rest))
+    before = subst (λ ks. AreSorted (routes_of ks)) (sym v) sorted

@@ -4,7 +4,7 @@ use Rattle.std.specs.Ordering.{match_ordering, ordering_then}
 use Rattle.fs_nlri.specs.Parts.{Ruled}
 use Rattle.fs_flows.specs.Kept.{Kept}
 use Rattle.fs_flows.specs.Table.{key_cmp, is_key, related_count}
-use Rattle.fs_flows.specs.Group.{put_kept, place_in, has_key_at, AreSorted, routes_of}
+use Rattle.fs_flows.specs.Group.{put_kept, place_in, has_key_at, AreSorted, routes_of, is_other_key}
 use Rattle.fs_base.specs.declared.prefix.Prefix.{Prefix}
 use Rattle.std.proofs.lemmas.List.{get_or_default}
 use Rattle.std.specs.List.{list_any, AllByRecursion}
@@ -78,19 +78,19 @@ any_here rule peer (x ∷ xs) sorted = at (key_cmp rule peer x.route) refl (any_
   at Equal e ih = ap is_eq e
   at Greater e ih = ap (λ n. has_key_at rule peer (slice_get (x ∷ xs) n)) (let s : 1 + place_in rule peer xs ≡ suc (place_in rule peer xs) = omega arith in s) ∙ ih
 
-pub take_here : (rule : Ruled) (peer : ℕ) (xs : List Kept) → AreSorted (routes_of xs) → has_key_at rule peer (slice_get xs (place_in rule peer xs)) ≡ true → remove xs (place_in rule peer xs) ≡ filter (λ k. not (is_key rule peer k.route)) xs
+pub take_here : (rule : Ruled) (peer : ℕ) (xs : List Kept) → AreSorted (routes_of xs) → has_key_at rule peer (slice_get xs (place_in rule peer xs)) ≡ true → remove xs (place_in rule peer xs) ≡ filter (is_other_key rule peer) xs
 take_here rule peer [] sorted h = absurd (true≢false (sym h))
 take_here rule peer (x ∷ xs) sorted h = at (key_cmp rule peer x.route) refl h (take_here rule peer xs sorted.1) where
   at : (o : Ordering) → key_cmp rule peer x.route ≡ o → has_key_at rule peer (slice_get (x ∷ xs) (match_ordering o 0 0 (1 + place_in rule peer xs))) ≡ true
-      → (has_key_at rule peer (slice_get xs (place_in rule peer xs)) ≡ true → remove xs (place_in rule peer xs) ≡ filter (λ k. not (is_key rule peer k.route)) xs)
-      → remove (x ∷ xs) (match_ordering o 0 0 (1 + place_in rule peer xs)) ≡ cond (not (is_eq o)) (x ∷ filter (λ k. not (is_key rule peer k.route)) xs) (filter (λ k. not (is_key rule peer k.route)) xs)
+      → (has_key_at rule peer (slice_get xs (place_in rule peer xs)) ≡ true → remove xs (place_in rule peer xs) ≡ filter (is_other_key rule peer) xs)
+      → remove (x ∷ xs) (match_ordering o 0 0 (1 + place_in rule peer xs)) ≡ cond (not (is_eq o)) (x ∷ filter (is_other_key rule peer) xs) (filter (is_other_key rule peer) xs)
   at Less e g ih = absurd (true≢false (sym g ∙ ap is_eq e))
   at Equal e g ih = sym (all_stay (hits rule peer) xs (none_behind_equal rule peer x xs e sorted.0))
   at Greater e g ih = ap (remove (x ∷ xs)) next ∙ ap (λ ys. x ∷ ys) (ih (sym (ap (λ n. has_key_at rule peer (slice_get (x ∷ xs) n)) next) ∙ g)) where
     next : 1 + place_in rule peer xs ≡ suc (place_in rule peer xs)
     next = omega arith
 
-pub none_here : (rule : Ruled) (peer : ℕ) (xs : List Kept) → list_any (λ k. is_key rule peer k.route) xs ≡ false → xs ≡ filter (λ k. not (is_key rule peer k.route)) xs
+pub none_here : (rule : Ruled) (peer : ℕ) (xs : List Kept) → list_any (λ k. is_key rule peer k.route) xs ≡ false → xs ≡ filter (is_other_key rule peer) xs
 none_here rule peer xs h = sym (all_stay (hits rule peer) xs (none_each (λ k. is_key rule peer k.route) xs h))
 
 pub inside_from_key : (rule : Ruled) (peer : ℕ) (xs : List Kept) (n : ℕ) → has_key_at rule peer (slice_get xs n) ≡ true → n < length xs

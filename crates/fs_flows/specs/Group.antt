@@ -1,18 +1,19 @@
 -- Flow routes kept with their validities.
-use Rattle.std.specs.Prelude.{◌≡◌, ℕ, ◌+◌, ◌&&◌, not, Bool, true, false, Option, Some, None, List, [], ◌∷◌, map, filter, if◌then◌else◌}
+use Rattle.std.specs.Prelude.{◌≡◌, ℕ, ◌+◌, ◌==◌, ◌&&◌, not, option_map, Bool, true, false, Option, Some, None, List, [], ◌∷◌, map, filter, if◌then◌else◌}
 use Rattle.std.specs.List.{list_any, AllByRecursion}
 use Rattle.std.specs.Ordering.{match_ordering}
 use Rattle.std.specs.declared.cmp.Ordering.TheVariants.{Less}
 use Rattle.fs_base.specs.declared.config.Config.{Config}
-use Rattle.fs_base.specs.declared.path.Path.{Path}
 use Rattle.fs_base.specs.declared.prefix.Family.{Family}
 use Rattle.fs_base.specs.declared.prefix.Prefix.{Prefix}
 use Rattle.fs_nlri.specs.Parts.{Ruled}
-use Rattle.fs_unicast.specs.Preference.{preferred}
+use Rattle.fs_unicast.specs.Preference.{peer_path}
 use Rattle.fs_unicast.specs.Unicast.{Route}
 use Rattle.fs_nlri.specs.Rule.{IsRule, destination_prefix}
 use Rattle.fs_validate.specs.Validity.{judged, validity, validity_to}
+use Rattle.fs_validate.specs.declared.basis.Basis.{Basis}
 use Rattle.fs_validate.specs.declared.route.FlowRoute.{FlowRoute}
+use Rattle.fs_validate.specs.declared.validity.Validity.{Validity}
 use Rattle.fs_flows.specs.Changes.{Noted, is_noted}
 use Rattle.fs_flows.specs.Kept.{Kept}
 use Rattle.fs_flows.specs.Table.{key_cmp, is_key, has_related, is_of_family, is_valid, beats}
@@ -54,15 +55,18 @@ is_related_kept prefix k = has_related prefix (destination_prefix k.route.rule)
 abbrev pub retested : List Route → Config → Kept → Kept
 retested unicast config k = record { route = k.route; validity = validity unicast config k.route }
 
--- judged by what its destination's validities rest on: the best match, and whether others are under it
-abbrev pub rejudged : Config → Option (ℕ × Path) → Bool → Kept → Kept
-rejudged config best others k = record { route = k.route; validity = judged config k.route best others }
+-- judged by what its destination's validities rest on
+abbrev pub validity_by : Config → Basis → Kept → Validity
+validity_by config basis k = judged config k.route (option_map peer_path basis.best) basis.others
 
-abbrev pub IsJudged : Config → Option (ℕ × Path) → Bool → Kept → Type 0
-IsJudged config best others k = k.validity ≡ judged config k.route best others
+abbrev pub rejudged : Config → Basis → Kept → Kept
+rejudged config basis k = record { route = k.route; validity = validity_by config basis k }
 
-abbrev pub AreJudged : Config → Option (ℕ × Path) → Bool → List Kept → Type 0
-AreJudged config best others kept = AllByRecursion (IsJudged config best others) kept
+abbrev pub IsJudged : Config → Basis → Kept → Type 0
+IsJudged config basis k = k.validity ≡ validity_by config basis k
+
+abbrev pub AreJudged : Config → Basis → List Kept → Type 0
+AreJudged config basis kept = AllByRecursion (IsJudged config basis) kept
 
 -- validated anew as a route to the destination
 abbrev pub retested_to : List Route → Config → Prefix → Kept → Kept
@@ -86,6 +90,14 @@ IsMarked noted prefix unicast config k =
 -- validated anew where it is related to the prefix
 abbrev pub mended : Prefix → List Route → Config → Kept → Kept
 mended prefix unicast config k = if is_related_kept prefix k then retested unicast config k else k
+
+-- each is of a rule in normal form
+abbrev pub HaveRules : List Kept → Type 0
+HaveRules kept = AllByRecursion (λ k. IsRule k.route.rule) kept
+
+-- a route of another peer
+abbrev pub is_of_other : ℕ → Kept → Bool
+is_of_other peer k = not (k.route.peer == peer)
 
 -- a route of another key
 abbrev pub is_other_key : Ruled → ℕ → Kept → Bool

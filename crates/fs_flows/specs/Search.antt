@@ -23,18 +23,28 @@ abbrev pub size : (Prefix → Bool) → List Entry → ℕ
 size test [] = 0
 size test (e ∷ es) = (if test e.0 then length e.1 else 0) + size test es
 
+-- the groups, what is noted and how many steps were taken, at one time
+pub record Moment : Type 0 where
+  pub groups : List Entry
+  pub noted : Noted
+  pub steps : ℕ
+
+abbrev pub moment : List Entry → Noted → ℕ → Moment
+moment groups noted steps = record { groups = groups; noted = noted; steps = steps }
+
 module _ (unicast : List Route) (config : Config) where
   -- of these groups those are noted in which a validity changed
   abbrev pub Marks : (Prefix → Bool) → List Entry → Noted → Type 0
   Marks test old noted =
       AllByRecursion (λ e. test e.0 ≡ true → IsNotedAt noted e.0 ⊎ AreRightTo unicast config e.0 e.1) old
 
-  pub record Mends (test : Prefix → Bool) (old new : List Entry) (noted more : Noted) (before after : ℕ) : Type 0 where
-    pub entries : new ≡ map (touched unicast config test) old
-    pub stays : StaysNoted noted more
-    pub marks : Marks test old more
-    pub later : before ≤ after
-    pub steps : after ≤ before + size test old
+  -- those that pass are validated anew
+  pub record Mends (test : Prefix → Bool) (old new : Moment) : Type 0 where
+    pub entries : new.groups ≡ map (touched unicast config test) old.groups
+    pub stays : StaysNoted old.noted new.noted
+    pub marks : Marks test old.groups new.noted
+    pub later : old.steps ≤ new.steps
+    pub steps : new.steps ≤ old.steps + size test old.groups
 
 abbrev pub GroupMap : Type 0
 GroupMap = BTreeMap Prefix (List Kept)
@@ -42,7 +52,7 @@ GroupMap = BTreeMap Prefix (List Kept)
 -- of two maps
 abbrev pub Mended : List Route → Config → (Prefix → Bool) → GroupMap → GroupMap → Noted → Noted → ℕ → ℕ → Type 0
 Mended unicast config test old new noted more before after =
-    Mends unicast config test old.entries new.entries noted more before after
+    Mends unicast config test (moment old.entries noted before) (moment new.entries more after)
 
 -- the routes that are related to the prefix are validated anew, and where a validity changed that is noted
 pub record MendsKept (p : Prefix) (unicast : List Route) (config : Config) (old new : List Kept) (noted more : Noted) (before after : ℕ) : Type 0 where

@@ -1,12 +1,11 @@
 //! Flow routes with their validities, in the order of rules and then by peer: a block of a group.
 
-ghost use Rattle.std.specs.Prelude.{◌≡◌, ◌≤◌, ◌<◌, ◌==◌, not, OnOk, OnErr, IfOk, map, filter, length, option_map, slice_get, [], take, drop, ◌↔◌, false};
+ghost use Rattle.std.specs.Prelude.{◌≡◌, ◌≤◌, ◌<◌, ◌==◌, not, OnOk, OnErr, IfOk, map, filter, length, slice_get, [], take, drop, ◌↔◌, false};
 ghost use Rattle.std.specs.List.{list_any};
-ghost use Rattle.fs_unicast.specs.Preference.{peer_path};
 ghost use Rattle.fs_flows.specs.Shared.{flow_of};
 ghost use Rattle.fs_flows.specs.Table.{is_key, key_cmp};
 ghost use Rattle.fs_flows.specs.Blocks.{AllBefore, begins_by};
-ghost use Rattle.fs_flows.specs.Group.{put_kept, place_in, rejudged, has_key, has_key_at, AreSorted, IsJudged, AreJudged, routes_of};
+ghost use Rattle.fs_flows.specs.Group.{put_kept, place_in, rejudged, has_key, has_key_at, AreSorted, IsJudged, AreJudged, routes_of, is_other_key, is_of_other};
 
 use crate::kept::Kept;
 use crate::route::{SharedRoute, judged};
@@ -75,7 +74,7 @@ fn make_room(kept: &mut Vec<Kept>) -> Result<(), Memory>
 /// Takes the route of the key away, and tells whether there was one.
 fn take(kept: &mut Vec<Kept>, rule: &Rule, peer: u16) -> bool
     requires { AreSorted (routes_of kept.old.items) }
-    ensures taken { kept.new.items ≡ filter (λ k. not (is_key rule.now peer k.route)) kept.old.items }
+    ensures taken { kept.new.items ≡ filter (is_other_key rule.now peer) kept.old.items }
     ensures held { result ≡ list_any (λ k. is_key rule.now peer k.route) kept.old.items }
 {
     let place = place_of(kept, rule, peer);
@@ -88,16 +87,16 @@ fn take(kept: &mut Vec<Kept>, rule: &Rule, peer: u16) -> bool
 
 /// Takes away what the peer gave.
 fn forget(kept: &mut Vec<Kept>, peer: u16)
-    ensures { kept.new.items ≡ filter (λ k. not (k.route.peer == peer)) kept.old.items }
+    ensures { kept.new.items ≡ filter (is_of_other peer) kept.old.items }
 {
     kept.retain(|k| k.peer() != peer);
 }
 
 /// Validates a route anew whose destination has this basis, and tells whether its validity is another than before.
 fn retest(k: &mut Kept, config: &Config, basis: &Basis<'_>) -> bool
-    ensures retested { k.new ≡ rejudged config.now (option_map peer_path basis.now.best) basis.now.others k.old }
+    ensures retested { k.new ≡ rejudged config.now basis.now k.old }
     ensures told { (result ≡ false)
-        ↔ IsJudged config.now (option_map peer_path basis.now.best) basis.now.others k.old }
+        ↔ IsJudged config.now basis.now k.old }
 {
     let before = k.validity();
     let after = judged(config, k.route(), basis);
@@ -108,9 +107,9 @@ fn retest(k: &mut Kept, config: &Config, basis: &Basis<'_>) -> bool
 /// Validates each route anew, whose destination has this basis, and tells whether a validity is another than before.
 fn retest_each(kept: &mut [Kept], config: &Config, basis: &Basis<'_>) -> bool
     ensures retested { kept.new
-        ≡ map (rejudged config.now (option_map peer_path basis.now.best) basis.now.others) kept.old }
+        ≡ map (rejudged config.now basis.now) kept.old }
     ensures told { (result ≡ false)
-        ↔ AreJudged config.now (option_map peer_path basis.now.best) basis.now.others kept.old }
+        ↔ AreJudged config.now basis.now kept.old }
 {
     let mut changed = false;
     for k in kept.iter_mut() {
@@ -205,7 +204,7 @@ impl Block {
     /// Takes the route of the key away, and tells whether there was one.
     pub(crate) fn take(&mut self, rule: &Rule, peer: u16) -> bool
         requires { AreSorted (routes_of self.old) }
-        ensures taken { self.new ≡ filter (λ k. not (is_key rule.now peer k.route)) self.old }
+        ensures taken { self.new ≡ filter (is_other_key rule.now peer) self.old }
         ensures held { result ≡ list_any (λ k. is_key rule.now peer k.route) self.old }
     {
         take(&mut self.items, rule, peer)
@@ -213,7 +212,7 @@ impl Block {
 
     /// Takes away what the peer gave.
     pub(crate) fn forget(&mut self, peer: u16)
-        ensures { self.new ≡ filter (λ k. not (k.route.peer == peer)) self.old }
+        ensures { self.new ≡ filter (is_of_other peer) self.old }
     {
         forget(&mut self.items, peer);
     }
@@ -222,9 +221,9 @@ impl Block {
     /// before.
     pub(crate) fn retest(&mut self, config: &Config, basis: &Basis<'_>) -> bool
         ensures retested { self.new
-            ≡ map (rejudged config.now (option_map peer_path basis.now.best) basis.now.others) self.old }
+            ≡ map (rejudged config.now basis.now) self.old }
         ensures told { (result ≡ false)
-            ↔ AreJudged config.now (option_map peer_path basis.now.best) basis.now.others self.old }
+            ↔ AreJudged config.now basis.now self.old }
     {
         retest_each(&mut self.items, config, basis)
     }

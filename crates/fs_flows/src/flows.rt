@@ -1,9 +1,9 @@
 //! The flow routes of both families.
 
-ghost use Rattle.std.specs.Prelude.{◌≡◌, ◌≤◌, ◌+◌, ◌==◌, not, [], OnOk, OnErr, IfOk, filter};
+ghost use Rattle.std.specs.Prelude.{◌≡◌, ◌≤◌, ◌+◌, not, [], OnOk, OnErr, IfOk, filter};
 ghost use Rattle.std.specs.List.{list_any, AllByRecursion};
 ghost use Rattle.fs_flows.specs.Table.{IsRuleOf, is_key};
-ghost use Rattle.fs_flows.specs.Group.{has_key, put_kept, AreSorted, routes_of, chosen, of_family};
+ghost use Rattle.fs_flows.specs.Group.{has_key, put_kept, AreSorted, routes_of, chosen, of_family, is_other_key, is_of_other, HaveRules};
 ghost use Rattle.fs_flows.specs.Lending.{AreLent};
 ghost use Rattle.fs_flows.specs.Search.{MendsKept};
 ghost use Rattle.fs_base.specs.declared.prefix.Family.{Family};
@@ -66,7 +66,7 @@ impl Flows {
         ensures fresh { IfOk result (λ is_new. is_new ≡ not (has_key k.route.rule k.route.peer self.old)) }
         ensures err { OnErr result (self.new ≡ self.old) }
         ensures rule { IsRule k.route.rule }
-        ensures rules { AllByRecursion (λ k. IsRule k.route.rule) self.old }
+        ensures rules { HaveRules self.old }
     {
         self.listed.note(&k);
         match k.family() {
@@ -78,10 +78,10 @@ impl Flows {
     /// Takes the route of the key away, and tells whether there was one.
     pub fn take(&mut self, rule: &Rule, peer: u16) -> bool
         requires { AreSorted (routes_of self.old) }
-        ensures taken { self.new ≡ filter (λ k. not (is_key rule.now peer k.route)) self.old }
+        ensures taken { self.new ≡ filter (is_other_key rule.now peer) self.old }
         ensures held { result ≡ list_any (λ k. is_key rule.now peer k.route) self.old }
         ensures rule { IsRule rule.now }
-        ensures rules { AllByRecursion (λ k. IsRule k.route.rule) self.old }
+        ensures rules { HaveRules self.old }
     {
         match rule.family() {
             Family::V4 => self.v4.take(rule, peer),
@@ -91,7 +91,7 @@ impl Flows {
 
     /// Takes away what the peer gave: at the destinations that are listed for it, as long as these are few.
     pub fn forget(&mut self, peer: u16)
-        ensures { self.new ≡ filter (λ k. not (k.route.peer == peer)) self.old }
+        ensures { self.new ≡ filter (is_of_other peer) self.old }
     {
         match self.listed.take(peer) {
             Some(destinations) => {
@@ -116,7 +116,7 @@ impl Flows {
         steps: &mut Steps<L>,
     )
         ensures mends { MendsKept prefix.now unicast.now config.now self.old self.new changes.old changes.new steps.old steps.new }
-        ensures rules { AllByRecursion (λ k. IsRule k.route.rule) self.old }
+        ensures rules { HaveRules self.old }
     {
         self.v4.mend(prefix, unicast, config, changes, steps);
         self.v6.mend(prefix, unicast, config, changes, steps);

@@ -1,10 +1,9 @@
 //! The flow routes of one destination, or those without one, in blocks.
 
-ghost use Rattle.std.specs.Prelude.{◌≡◌, ◌≤◌, ◌+◌, ◌<◌, ◌==◌, ◌↔◌, not, true, false, [], ◌∷◌, OnOk, OnErr, IfOk, map, filter, length, option_map, slice_get};
+ghost use Rattle.std.specs.Prelude.{◌≡◌, ◌≤◌, ◌+◌, ◌<◌, ◌==◌, ◌↔◌, not, true, false, [], ◌∷◌, OnOk, OnErr, IfOk, map, filter, length, slice_get};
 ghost use Rattle.std.specs.List.{list_any, AllByRecursion};
-ghost use Rattle.fs_unicast.specs.Preference.{peer_path};
 ghost use Rattle.fs_flows.specs.Table.{is_key};
-ghost use Rattle.fs_flows.specs.Group.{put_kept, rejudged, retested_to, has_key, AreSorted, AreJudged, AreRightTo, routes_of};
+ghost use Rattle.fs_flows.specs.Group.{put_kept, rejudged, retested_to, has_key, AreSorted, AreJudged, AreRightTo, routes_of, is_other_key, is_of_other};
 ghost use Rattle.fs_flows.specs.Blocks.{flat, AreCut, IsCut, block_of, keep_blocks, CanCut, cut_list};
 
 use crate::block::Block;
@@ -124,7 +123,7 @@ fn begin(blocks: &mut Vec<Block>, k: Kept) -> Result<bool, Memory>
 fn take_among(blocks: &mut Vec<Block>, rule: &Rule, peer: u16) -> bool
     requires cut { IsCut blocks.old.items }
     requires sorted { AreSorted (routes_of (flat blocks.old.items)) }
-    ensures taken { flat blocks.new.items ≡ filter (λ k. not (is_key rule.now peer k.route)) (flat blocks.old.items) }
+    ensures taken { flat blocks.new.items ≡ filter (is_other_key rule.now peer) (flat blocks.old.items) }
     ensures held { result ≡ list_any (λ k. is_key rule.now peer k.route) (flat blocks.old.items) }
     ensures cut { IsCut blocks.new.items }
 {
@@ -142,7 +141,7 @@ fn take_among(blocks: &mut Vec<Block>, rule: &Rule, peer: u16) -> bool
 
 /// Takes out of each block what the peer gave.
 fn forget_each(blocks: &mut Vec<Block>, peer: u16)
-    ensures { blocks.new.items ≡ keep_blocks (λ k. not (k.route.peer == peer)) blocks.old.items }
+    ensures { blocks.new.items ≡ keep_blocks (is_of_other peer) blocks.old.items }
 {
     blocks.retain_mut(|block| {
         block.forget(peer);
@@ -154,9 +153,9 @@ fn forget_each(blocks: &mut Vec<Block>, peer: u16)
 /// before.
 fn retest_each(blocks: &mut [Block], config: &Config, basis: &Basis<'_>) -> bool
     ensures retested { blocks.new
-        ≡ map (map (rejudged config.now (option_map peer_path basis.now.best) basis.now.others)) blocks.old }
+        ≡ map (map (rejudged config.now basis.now)) blocks.old }
     ensures told { (result ≡ false)
-        ↔ AllByRecursion (AreJudged config.now (option_map peer_path basis.now.best) basis.now.others) blocks.old }
+        ↔ AllByRecursion (AreJudged config.now basis.now) blocks.old }
 {
     let mut changed = false;
     for block in blocks.iter_mut() {
@@ -269,7 +268,7 @@ impl Group {
     /// Takes the route of the key away, and tells whether there was one.
     pub(crate) fn take(&mut self, rule: &Rule, peer: u16) -> bool
         requires { AreSorted (routes_of self.old) }
-        ensures taken { self.new ≡ filter (λ k. not (is_key rule.now peer k.route)) self.old }
+        ensures taken { self.new ≡ filter (is_other_key rule.now peer) self.old }
         ensures held { result ≡ list_any (λ k. is_key rule.now peer k.route) self.old }
     {
         match &mut self.blocks {
@@ -280,7 +279,7 @@ impl Group {
 
     /// Takes away what the peer gave.
     pub(crate) fn forget(&mut self, peer: u16)
-        ensures { self.new ≡ filter (λ k. not (k.route.peer == peer)) self.old }
+        ensures { self.new ≡ filter (is_of_other peer) self.old }
     {
         match &mut self.blocks {
             Blocks::One(block) => block.forget(peer),
@@ -313,9 +312,9 @@ impl Group {
     /// before.
     fn rejudge(&mut self, config: &Config, basis: &Basis<'_>) -> bool
         ensures retested { self.new
-            ≡ map (rejudged config.now (option_map peer_path basis.now.best) basis.now.others) self.old }
+            ≡ map (rejudged config.now basis.now) self.old }
         ensures told { (result ≡ false)
-            ↔ AreJudged config.now (option_map peer_path basis.now.best) basis.now.others self.old }
+            ↔ AreJudged config.now basis.now self.old }
     {
         match &mut self.blocks {
             Blocks::One(block) => block.retest(config, basis),

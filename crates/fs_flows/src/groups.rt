@@ -5,7 +5,7 @@ ghost use Rattle.std.specs.List.{list_any, AllByRecursion};
 ghost use Rattle.fs_base.specs.declared.prefix.Family.{Family};
 ghost use Rattle.fs_nlri.specs.Rule.{IsRule};
 ghost use Rattle.fs_flows.specs.Table.{is_key};
-ghost use Rattle.fs_flows.specs.Group.{has_key, put_kept, AreSorted, routes_of, chosen, is_other_key};
+ghost use Rattle.fs_flows.specs.Group.{has_key, put_kept, AreSorted, routes_of, chosen, is_other_key, is_of_other, HaveRules};
 ghost use Rattle.fs_flows.specs.Groups.{IsSound, HasSortedGroups, AreInOrder, AreNoShorter, put_entry, keep_at, keep_each, IsHeldAt};
 ghost use Rattle.fs_flows.specs.Listed.{IsAmong, keep_along};
 ghost use Rattle.fs_flows.specs.Lending.{AreLent};
@@ -104,8 +104,8 @@ impl Groups {
     /// Takes the route of the key away, and tells whether there was one.
     pub(crate) fn take(&mut self, rule: &Rule, peer: u16) -> bool
         requires sorted { AreSorted (routes_of self.old) }
-        requires rules { AllByRecursion (λ k. IsRule k.route.rule) self.old }
-        ensures taken { self.new ≡ filter (λ k. not (is_key rule.now peer k.route)) self.old }
+        requires rules { HaveRules self.old }
+        ensures taken { self.new ≡ filter (is_other_key rule.now peer) self.old }
         ensures held { result ≡ list_any (λ k. is_key rule.now peer k.route) self.old }
         ensures rule { IsRule rule.now }
     {
@@ -117,7 +117,7 @@ impl Groups {
 
     /// Takes away what the peer gave.
     pub(crate) fn forget(&mut self, peer: u16)
-        ensures { self.new ≡ filter (λ k. not (k.route.peer == peer)) self.old }
+        ensures { self.new ≡ filter (is_of_other peer) self.old }
     {
         forget_each(&mut self.groups, peer);
         self.rest.forget(peer);
@@ -126,7 +126,7 @@ impl Groups {
     /// Takes away what the peer gave, of which each route with a destination has one of these.
     pub(crate) fn forget_along(&mut self, destinations: &[PrefixKey], peer: u16)
         requires { AllByRecursion (λ k. not (k.route.peer == peer) ≡ false → IsAmong destinations.now k) self.old }
-        ensures { self.new ≡ filter (λ k. not (k.route.peer == peer)) self.old }
+        ensures { self.new ≡ filter (is_of_other peer) self.old }
     {
         forget_along(&mut self.groups, destinations, peer);
         self.rest.forget(peer);
@@ -223,7 +223,7 @@ fn take_at(
 
 /// Takes out of each group what the peer gave.
 fn forget_each(groups: &mut BTreeMap<PrefixKey, Group>, peer: u16)
-    ensures kept { groups.new.entries ≡ keep_each (λ k. not (k.route.peer == peer)) groups.old.entries }
+    ensures kept { groups.new.entries ≡ keep_each (is_of_other peer) groups.old.entries }
     ensures ordered { AreInOrder groups.new.entries }
 {
     groups.retain(|_, group| {
@@ -234,7 +234,7 @@ fn forget_each(groups: &mut BTreeMap<PrefixKey, Group>, peer: u16)
 
 /// Takes out of the groups of these destinations what the peer gave.
 fn forget_along(groups: &mut BTreeMap<PrefixKey, Group>, destinations: &[PrefixKey], peer: u16)
-    ensures { groups.new.entries ≡ keep_along destinations.now (λ k. not (k.route.peer == peer)) groups.old.entries }
+    ensures { groups.new.entries ≡ keep_along destinations.now (is_of_other peer) groups.old.entries }
 {
     for destination in destinations {
         forget_at(groups, destination, peer);
@@ -243,7 +243,7 @@ fn forget_along(groups: &mut BTreeMap<PrefixKey, Group>, destinations: &[PrefixK
 
 /// Takes out of the group of the destination what the peer gave.
 fn forget_at(groups: &mut BTreeMap<PrefixKey, Group>, destination: &PrefixKey, peer: u16)
-    ensures { groups.new.entries ≡ keep_at destination.now (λ k. not (k.route.peer == peer)) groups.old.entries }
+    ensures { groups.new.entries ≡ keep_at destination.now (is_of_other peer) groups.old.entries }
 {
     let Some(group) = groups.get_mut(destination) else {
         return;

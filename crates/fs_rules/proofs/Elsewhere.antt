@@ -17,7 +17,7 @@ use Rattle.fs_unicast.specs.Unicast.{Route}
 use Rattle.fs_validate.specs.Validity.{validity}
 use Rattle.fs_validate.specs.declared.route.FlowRoute.{FlowRoute}
 use Rattle.fs_flows.specs.Kept.{Kept}
-use Rattle.fs_flows.specs.Group.{IsRight, AreRight, IsMarked, is_related_kept, routes_of}
+use Rattle.fs_flows.specs.Group.{IsRight, AreRight, IsMarked, is_related_kept, routes_of, HaveRules}
 use Rattle.fs_flows.specs.Changes.{AdmitsElsewhere, Covers, Noted, StaysNoted, is_noted, touched_by}
 use Rattle.fs_flows.specs.Table.{Held, admitted, beats, is_key, is_most_preferred, is_of_family, is_valid, key_cmp, put_route, same_rule, without_route}
 use Rattle.fs_flows.proofs.Changed.{AgreeOff, each-filtered, each-put_route, unrelated}
@@ -89,7 +89,7 @@ module _ (touched : Ruled → Bool) where
     at Greater e ih = ap (λ ys. cond (spares touched x) (x ∷ ys) ys) ih
 
   pub put_elsewhere : (config : Config) (unicast : List Route) (r : FlowRoute) (ks : List Kept) (new : List FlowRoute) (now : Held) → held_of config unicast (routes_of ks) ≡ now → new ≡ put_route r (routes_of ks)
-      → IsRule r.rule → AllByRecursion (λ k. IsRule k.route.rule) ks → touched r.rule ≡ true → AdmitsElsewhere touched now (held_of config unicast new)
+      → IsRule r.rule → HaveRules ks → touched r.rule ≡ true → AdmitsElsewhere touched now (held_of config unicast new)
   put_elsewhere config unicast r ks new now v e h k t = subst (λ held. AdmitsElsewhere touched held (held_of config unicast new)) v
       (subst (λ flows. AdmitsElsewhere touched (held_of config unicast (routes_of ks)) (held_of config unicast flows)) (sym e)
       (elsewhere config unicast (routes_of ks) (put_route r (routes_of ks)) all (each-put_route HasRule r h (routes_of ks) all) (put_spared r h t (routes_of ks) all))) where
@@ -105,7 +105,7 @@ module _ (touched : Ruled → Bool) where
         at r s false e = refl
 
   pub taken_elsewhere : (config : Config) (unicast : List Route) (rule : Ruled) (peer : ℕ) (ks : List Kept) (new : List FlowRoute) (now : Held) → held_of config unicast (routes_of ks) ≡ now → new ≡ without_route rule peer (routes_of ks)
-      → IsRule rule → AllByRecursion (λ k. IsRule k.route.rule) ks → touched rule ≡ true → AdmitsElsewhere touched now (held_of config unicast new)
+      → IsRule rule → HaveRules ks → touched rule ≡ true → AdmitsElsewhere touched now (held_of config unicast new)
   taken_elsewhere config unicast rule peer ks new now v e h k t = subst (λ held. AdmitsElsewhere touched held (held_of config unicast new)) v
       (subst (λ flows. AdmitsElsewhere touched (held_of config unicast (routes_of ks)) (held_of config unicast flows)) (sym e)
       (elsewhere config unicast (routes_of ks) (without_route rule peer (routes_of ks)) all (each-filtered HasRule HasRule (λ r. not (is_key rule peer r)) (λ r s _. s) (routes_of ks) all) (taken_spared rule peer h t (routes_of ks) all))) where
@@ -114,7 +114,7 @@ module _ (touched : Ruled → Bool) where
 
 -- where each related route that isn't noted has the validity that it had, the same rules are admitted but for the noted
 pub related_elsewhere : (noted : Noted) (p : Prefix) (config : Config) (unicast other : List Route) (ks ms : List Kept) (old : Held) → held_of config unicast (routes_of ks) ≡ old → AgreeOff p unicast other → AreRight unicast config ks
-    → routes_of ms ≡ routes_of ks → AllByRecursion (λ k. IsRule k.route.rule) ks → AllByRecursion (IsMarked noted p other config) ks → AdmitsElsewhere (is_noted noted) old (held_of config other (routes_of ms))
+    → routes_of ms ≡ routes_of ks → HaveRules ks → AllByRecursion (IsMarked noted p other config) ks → AdmitsElsewhere (is_noted noted) old (held_of config other (routes_of ms))
 related_elsewhere noted p config unicast other ks ms old view agree right e rules marked =
     subst (λ held. AdmitsElsewhere (is_noted noted) held (held_of config other (routes_of ms))) view
     (subst (λ flows. AdmitsElsewhere (is_noted noted) (held_of config unicast (routes_of ks)) (held_of config other flows)) (sym e)

@@ -2,7 +2,7 @@ use Rattle.std.proofs.Common.{◌≡◌, ◌≤◌, ◌/◌, sym, ap, subst, ◌
 use Rattle.fs_validate.specs.declared.route.FlowRoute.{FlowRoute}
 use Rattle.fs_flows.specs.Blocks.{AllBefore}
 use Rattle.fs_flows.specs.Group.{place_in}
-use Rattle.fs_flows.proofs.Begun.{apart_at, place_up_to}
+use Rattle.fs_flows.proofs.BlockOfRule.{apart_at, place_up_to}
 use Rattle.fs_flows.proofs.block.border.Goals as goal
 
 pub returns-in-Some-clause-inside : goal.returns-in-Some-clause-inside

@@ -1,7 +1,6 @@
-use Rattle.std.proofs.Common.{◌↔◌, ◌||◌, false, refl, subst, ◌≡◌, ◌<◌, ◌+◌, ap, ◌∙◌, set, get_or, length, take, map, drop, ◌++◌, option_map, arith}
+use Rattle.std.proofs.Common.{◌↔◌, ◌||◌, false, refl, subst, ◌≡◌, ◌<◌, ◌+◌, ap, ◌∙◌, set, get_or, length, take, map, drop, ◌++◌, arith}
 use Rattle.std.proofs.lemmas.List.{take_all}
 use Rattle.std.proofs.lemmas.List.Edits.{map_over_more}
-use Rattle.fs_unicast.specs.Preference.{peer_path}
 use Rattle.fs_flows.specs.Group.{IsJudged, AreJudged, rejudged}
 use Rattle.fs_flows.proofs.Mending.{told_next}
 use Rattle.fs_flows.proofs.Placing.{get_or_again}
@@ -15,11 +14,11 @@ loop-k-preserved c = record { kept = kept; told = told } where
   there : c.loop-k.k-index < length c.loop-k.kept
   there = omega arith
 
-  kept : set c.loop-k.kept c.loop-k.k-index c.retest-changed.new.k ≡ map (rejudged c.args.config.now (option_map peer_path c.args.basis.now.best) c.args.basis.now.others) (take (c.loop-k.k-index + 1) c.args.kept.now) ++ drop (c.loop-k.k-index + 1) c.args.kept.now
-  kept = ap (set c.loop-k.kept c.loop-k.k-index) c.retest-changed.ensures.retested ∙ map_over_more (rejudged c.args.config.now (option_map peer_path c.args.basis.now.best) c.args.basis.now.others) c.args.kept.now c.loop-k.kept c.loop-k.k-index (get_or c.loop-k.kept c.loop-k.k-index c.k-item.result) inside c.loop-k.invariant.kept (get_or_again c.loop-k.kept c.loop-k.k-index c.k-item.result there)
+  kept : set c.loop-k.kept c.loop-k.k-index c.retest-changed.new.k ≡ map (rejudged c.args.config.now c.args.basis.now) (take (c.loop-k.k-index + 1) c.args.kept.now) ++ drop (c.loop-k.k-index + 1) c.args.kept.now
+  kept = ap (set c.loop-k.kept c.loop-k.k-index) c.retest-changed.ensures.retested ∙ map_over_more (rejudged c.args.config.now c.args.basis.now) c.args.kept.now c.loop-k.kept c.loop-k.k-index (get_or c.loop-k.kept c.loop-k.k-index c.k-item.result) inside c.loop-k.invariant.kept (get_or_again c.loop-k.kept c.loop-k.k-index c.k-item.result there)
 
-  told : ((c.loop-k.changed || c.retest-changed.result) ≡ false) ↔ AreJudged c.args.config.now (option_map peer_path c.args.basis.now.best) c.args.basis.now.others (take (c.loop-k.k-index + 1) c.args.kept.now)
-  told = told_next (rejudged c.args.config.now (option_map peer_path c.args.basis.now.best) c.args.basis.now.others) (IsJudged c.args.config.now (option_map peer_path c.args.basis.now.best) c.args.basis.now.others) c.args.kept.now c.loop-k.kept c.loop-k.k-index c.k-item.result (get_or c.loop-k.kept c.loop-k.k-index c.k-item.result) c.loop-k.changed c.retest-changed.result inside c.loop-k.invariant.kept refl c.loop-k.invariant.told c.retest-changed.ensures.told
+  told : ((c.loop-k.changed || c.retest-changed.result) ≡ false) ↔ AreJudged c.args.config.now c.args.basis.now (take (c.loop-k.k-index + 1) c.args.kept.now)
+  told = told_next (rejudged c.args.config.now c.args.basis.now) (IsJudged c.args.config.now c.args.basis.now) c.args.kept.now c.loop-k.kept c.loop-k.k-index c.k-item.result (get_or c.loop-k.kept c.loop-k.k-index c.k-item.result) c.loop-k.changed c.retest-changed.result inside c.loop-k.invariant.kept refl c.loop-k.invariant.told c.retest-changed.ensures.told
 
 pub returns-clause-told : goal.returns-clause-told
-returns-clause-told c = subst (λ ks. (c.loop-k.changed ≡ false) ↔ AreJudged c.args.config.now (option_map peer_path c.args.basis.now.best) c.args.basis.now.others ks) (take_all c.loop-k.k-index c.args.kept.now (omega arith)) c.loop-k.invariant.told
+returns-clause-told c = subst (λ ks. (c.loop-k.changed ≡ false) ↔ AreJudged c.args.config.now c.args.basis.now ks) (take_all c.loop-k.k-index c.args.kept.now (omega arith)) c.loop-k.invariant.told

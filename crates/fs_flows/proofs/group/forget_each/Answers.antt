@@ -1,6 +1,7 @@
-use Rattle.std.proofs.Common.{rules, not, ◌==◌}
+use Rattle.std.proofs.Common.{rules}
 use Rattle.fs_flows.proofs.Cutting.{retained_blocks}
 use Rattle.fs_flows.proofs.group.forget_each.Goals as goal
+use Rattle.fs_flows.specs.Group.{is_of_other}
 
 pub returns : goal.returns
-returns c = retained_blocks _ (λ k. not (k.route.peer == c.args.peer)) _ (λ v b f' w k. search rules) _ _ c.retain_mut.ensures.filtered
+returns c = retained_blocks _ (is_of_other c.args.peer) _ (λ v b f' w k. search rules) _ _ c.retain_mut.ensures.filtered

@@ -1,8 +1,7 @@
-use Rattle.std.proofs.Common.{◌↔◌, ◌||◌, false, refl, subst, ◌≡◌, ◌<◌, ◌+◌, ap, ◌∙◌, set, get_or, length, take, map, drop, ◌++◌, option_map, arith}
+use Rattle.std.proofs.Common.{◌↔◌, ◌||◌, false, refl, subst, ◌≡◌, ◌<◌, ◌+◌, ap, ◌∙◌, set, get_or, length, take, map, drop, ◌++◌, arith}
 use Rattle.std.specs.List.{AllByRecursion}
 use Rattle.std.proofs.lemmas.List.{take_all}
 use Rattle.std.proofs.lemmas.List.Edits.{map_over_more}
-use Rattle.fs_unicast.specs.Preference.{peer_path}
 use Rattle.fs_flows.specs.Group.{AreJudged, rejudged}
 use Rattle.fs_flows.proofs.Mending.{told_next}
 use Rattle.fs_flows.proofs.Placing.{get_or_again}
@@ -16,11 +15,11 @@ loop-block-preserved c = record { blocks = kept; told = told } where
   there : c.loop-block.block-index < length c.loop-block.blocks
   there = omega arith
 
-  kept : set c.loop-block.blocks c.loop-block.block-index c.retest-changed.new.self ≡ map (map (rejudged c.args.config.now (option_map peer_path c.args.basis.now.best) c.args.basis.now.others)) (take (c.loop-block.block-index + 1) c.args.blocks.now) ++ drop (c.loop-block.block-index + 1) c.args.blocks.now
-  kept = ap (set c.loop-block.blocks c.loop-block.block-index) c.retest-changed.ensures.retested ∙ map_over_more (map (rejudged c.args.config.now (option_map peer_path c.args.basis.now.best) c.args.basis.now.others)) c.args.blocks.now c.loop-block.blocks c.loop-block.block-index (get_or c.loop-block.blocks c.loop-block.block-index c.block-item.result) inside c.loop-block.invariant.blocks (get_or_again c.loop-block.blocks c.loop-block.block-index c.block-item.result there)
+  kept : set c.loop-block.blocks c.loop-block.block-index c.retest-changed.new.self ≡ map (map (rejudged c.args.config.now c.args.basis.now)) (take (c.loop-block.block-index + 1) c.args.blocks.now) ++ drop (c.loop-block.block-index + 1) c.args.blocks.now
+  kept = ap (set c.loop-block.blocks c.loop-block.block-index) c.retest-changed.ensures.retested ∙ map_over_more (map (rejudged c.args.config.now c.args.basis.now)) c.args.blocks.now c.loop-block.blocks c.loop-block.block-index (get_or c.loop-block.blocks c.loop-block.block-index c.block-item.result) inside c.loop-block.invariant.blocks (get_or_again c.loop-block.blocks c.loop-block.block-index c.block-item.result there)
 
-  told : ((c.loop-block.changed || c.retest-changed.result) ≡ false) ↔ AllByRecursion (AreJudged c.args.config.now (option_map peer_path c.args.basis.now.best) c.args.basis.now.others) (take (c.loop-block.block-index + 1) c.args.blocks.now)
-  told = told_next (map (rejudged c.args.config.now (option_map peer_path c.args.basis.now.best) c.args.basis.now.others)) (AreJudged c.args.config.now (option_map peer_path c.args.basis.now.best) c.args.basis.now.others) c.args.blocks.now c.loop-block.blocks c.loop-block.block-index c.block-item.result (get_or c.loop-block.blocks c.loop-block.block-index c.block-item.result) c.loop-block.changed c.retest-changed.result inside c.loop-block.invariant.blocks refl c.loop-block.invariant.told c.retest-changed.ensures.told
+  told : ((c.loop-block.changed || c.retest-changed.result) ≡ false) ↔ AllByRecursion (AreJudged c.args.config.now c.args.basis.now) (take (c.loop-block.block-index + 1) c.args.blocks.now)
+  told = told_next (map (rejudged c.args.config.now c.args.basis.now)) (AreJudged c.args.config.now c.args.basis.now) c.args.blocks.now c.loop-block.blocks c.loop-block.block-index c.block-item.result (get_or c.loop-block.blocks c.loop-block.block-index c.block-item.result) c.loop-block.changed c.retest-changed.result inside c.loop-block.invariant.blocks refl c.loop-block.invariant.told c.retest-changed.ensures.told
 
 pub returns-clause-told : goal.returns-clause-told
-returns-clause-told c = subst (λ ks. (c.loop-block.changed ≡ false) ↔ AllByRecursion (AreJudged c.args.config.now (option_map peer_path c.args.basis.now.best) c.args.basis.now.others) ks) (take_all c.loop-block.block-index c.args.blocks.now (omega arith)) c.loop-block.invariant.told
+returns-clause-told c = subst (λ ks. (c.loop-block.changed ≡ false) ↔ AllByRecursion (AreJudged c.args.config.now c.args.basis.now) ks) (take_all c.loop-block.block-index c.args.blocks.now (omega arith)) c.loop-block.invariant.told

@@ -1,9 +1,9 @@
-use Rattle.std.proofs.Common.{◌≡◌, ◌<◌, true, false, refl, sym, ap, subst, ◌∙◌, not, length, filter, set, remove, ◌==◌, arith}
+use Rattle.std.proofs.Common.{◌≡◌, ◌<◌, true, false, refl, sym, ap, subst, ◌∙◌, length, filter, set, remove, ◌==◌, arith}
 use Rattle.std.proofs.lemmas.Grind.{common_steps}
-use Rattle.fs_flows.specs.Table.{is_key}
 use Rattle.fs_flows.specs.Blocks.{flat, IsCut}
 use Rattle.fs_flows.proofs.Cutting.{Around, sorted_each, sorted_at, around_from, flat_take, flat_remove, cut_left, cut_remove, any_block}
 use Rattle.fs_flows.proofs.group.take_among.Goals as goal
+use Rattle.fs_flows.specs.Group.{is_other_key}
 
 pub take-held-requires : goal.take-held-requires
 take-held-requires c = sorted_at c.args.blocks.now.items c.block_of-number.result c.index_mut-block.result.now (sorted_each c.args.blocks.now.items c.requires.sorted) inside c.index_mut-block.ensures.value where
@@ -11,7 +11,7 @@ take-held-requires c = sorted_at c.args.blocks.now.items c.block_of-number.resul
   inside = grind (arith, common_steps)
 
 pub returns-then-is_empty-2-clause-taken : goal.returns-then-is_empty-2-clause-taken
-returns-then-is_empty-2-clause-taken c = ap flat c.remove.ensures.items ∙ ap (λ b. flat (remove (set c.args.blocks.now.items c.block_of-number.result b) c.block_of-number.result)) c.take-held.ensures.taken ∙ flat_remove c.args.blocks.now.items c.block_of-number.result (filter (λ k. not (is_key c.args.rule.now c.args.peer k.route)) c.index_mut-block.result.now) inside size
+returns-then-is_empty-2-clause-taken c = ap flat c.remove.ensures.items ∙ ap (λ b. flat (remove (set c.args.blocks.now.items c.block_of-number.result b) c.block_of-number.result)) c.take-held.ensures.taken ∙ flat_remove c.args.blocks.now.items c.block_of-number.result (filter (is_other_key c.args.rule.now c.args.peer) c.index_mut-block.result.now) inside size
     ∙ flat_take c.args.rule.now c.args.peer c.args.blocks.now.items c.block_of-number.result c.index_mut-block.result.now c.index_mut-block.ensures.value around where
       some : 0 < length c.args.blocks.now.items
       some = grind (arith, common_steps)
@@ -22,7 +22,7 @@ returns-then-is_empty-2-clause-taken c = ap flat c.remove.ensures.items ∙ ap (
       around : Around c.args.rule.now c.block_of-number.result c.args.blocks.now.items
       around = around_from c.args.rule.now c.args.rule.now c.args.blocks.now.items c.deref.result.now c.block_of-number.result c.block_of-number.ensures.place refl c.deref.ensures.value some c.requires.cut c.requires.sorted
 
-      size : (length (filter (λ k. not (is_key c.args.rule.now c.args.peer k.route)) c.index_mut-block.result.now) == 0) ≡ true
+      size : (length (filter (is_other_key c.args.rule.now c.args.peer) c.index_mut-block.result.now) == 0) ≡ true
       size = ap (λ ks. length ks == 0) (sym c.take-held.ensures.taken) ∙ sym c.is_empty-2.ensures ∙ c.if-is_empty-2.true
 
 pub returns-then-is_empty-2-clause-held : goal.returns-then-is_empty-2-clause-held
@@ -34,11 +34,11 @@ returns-then-is_empty-2-clause-held c = c.take-held.ensures.held ∙ any_block c
   around = around_from c.args.rule.now c.args.rule.now c.args.blocks.now.items c.deref.result.now c.block_of-number.result c.block_of-number.ensures.place refl c.deref.ensures.value some c.requires.cut c.requires.sorted
 
 pub returns-then-is_empty-2-clause-cut : goal.returns-then-is_empty-2-clause-cut
-returns-then-is_empty-2-clause-cut c = subst IsCut (sym (c.remove.ensures.items ∙ ap (λ b. remove (set c.args.blocks.now.items c.block_of-number.result b) c.block_of-number.result) c.take-held.ensures.taken)) (cut_remove (λ k. not (is_key c.args.rule.now c.args.peer k.route)) c.args.blocks.now.items c.block_of-number.result c.index_mut-block.result.now c.index_mut-block.ensures.value inside size c.requires.cut) where
+returns-then-is_empty-2-clause-cut c = subst IsCut (sym (c.remove.ensures.items ∙ ap (λ b. remove (set c.args.blocks.now.items c.block_of-number.result b) c.block_of-number.result) c.take-held.ensures.taken)) (cut_remove (is_other_key c.args.rule.now c.args.peer) c.args.blocks.now.items c.block_of-number.result c.index_mut-block.result.now c.index_mut-block.ensures.value inside size c.requires.cut) where
   inside : c.block_of-number.result < length c.args.blocks.now.items
   inside = grind (arith, common_steps)
 
-  size : (length (filter (λ k. not (is_key c.args.rule.now c.args.peer k.route)) c.index_mut-block.result.now) == 0) ≡ true
+  size : (length (filter (is_other_key c.args.rule.now c.args.peer) c.index_mut-block.result.now) == 0) ≡ true
   size = ap (λ ks. length ks == 0) (sym c.take-held.ensures.taken) ∙ sym c.is_empty-2.ensures ∙ c.if-is_empty-2.true
 
 pub returns-else-is_empty-2-clause-taken : goal.returns-else-is_empty-2-clause-taken
@@ -58,6 +58,6 @@ returns-else-is_empty-2-clause-held c = c.take-held.ensures.held ∙ any_block c
   around = around_from c.args.rule.now c.args.rule.now c.args.blocks.now.items c.deref.result.now c.block_of-number.result c.block_of-number.ensures.place refl c.deref.ensures.value some c.requires.cut c.requires.sorted
 
 pub returns-else-is_empty-2-clause-cut : goal.returns-else-is_empty-2-clause-cut
-returns-else-is_empty-2-clause-cut c = subst (λ b. IsCut (set c.args.blocks.now.items c.block_of-number.result b)) (sym c.take-held.ensures.taken) (cut_left (λ k. not (is_key c.args.rule.now c.args.peer k.route)) c.args.blocks.now.items c.block_of-number.result c.index_mut-block.result.now c.index_mut-block.ensures.value size c.requires.cut) where
-  size : (length (filter (λ k. not (is_key c.args.rule.now c.args.peer k.route)) c.index_mut-block.result.now) == 0) ≡ false
+returns-else-is_empty-2-clause-cut c = subst (λ b. IsCut (set c.args.blocks.now.items c.block_of-number.result b)) (sym c.take-held.ensures.taken) (cut_left (is_other_key c.args.rule.now c.args.peer) c.args.blocks.now.items c.block_of-number.result c.index_mut-block.result.now c.index_mut-block.ensures.value size c.requires.cut) where
+  size : (length (filter (is_other_key c.args.rule.now c.args.peer) c.index_mut-block.result.now) == 0) ≡ false
   size = ap (λ ks. length ks == 0) (sym c.take-held.ensures.taken) ∙ sym c.is_empty-2.ensures ∙ c.if-is_empty-2.false

@@ -1,21 +1,22 @@
-use Rattle.std.proofs.Common.{◌≡◌, true, false, sym, ◌∙◌, ap, not, length, filter, ◌==◌}
+use Rattle.std.proofs.Common.{◌≡◌, true, false, sym, ◌∙◌, ap, length, filter, ◌==◌}
 use Rattle.std.specs.BTreeMap.{is_at}
 use Rattle.std.specs.Map.{set_value, remove_entry}
 use Rattle.fs_base.specs.Prefix.{prefix_cmp}
-use Rattle.fs_flows.proofs.Takes.{taken_some, taken_all, taken_none}
+use Rattle.fs_flows.proofs.TakingFromGroups.{taken_some, taken_all, taken_none}
 use Rattle.fs_flows.proofs.groups.forget_at.Goals as goal
+use Rattle.fs_flows.specs.Group.{is_of_other}
 
 pub returns-in_default : goal.returns-in_default
-returns-in_default c = ap (λ m. m.entries) c.get_mut.follows.holds-at-none ∙ taken_none c.args.destination.now (λ k. not (k.route.peer == c.args.peer)) c.args.groups.now.entries (sym c.in_default.ensures.value)
+returns-in_default c = ap (λ m. m.entries) c.get_mut.follows.holds-at-none ∙ taken_none c.args.destination.now (is_of_other c.args.peer) c.args.groups.now.entries (sym c.in_default.ensures.value)
 
 pub returns-then-is_empty : goal.returns-then-is_empty
 returns-then-is_empty c = c.remove.ensures.entries ∙ ap (remove_entry (is_at (prefix_cmp c.args.destination.now))) ((c.get_mut.follows.holds c.forget.new.self).0 ∙ ap (set_value (is_at (prefix_cmp c.args.destination.now)) c.args.groups.now.entries) c.forget.ensures)
-    ∙ taken_all c.args.destination.now (λ k. not (k.route.peer == c.args.peer)) c.args.groups.now.entries c.in-Some.group.now (sym c.in-Some.ensures.value) none where
-      none : (length (filter (λ k. not (k.route.peer == c.args.peer)) c.in-Some.group.now) == 0) ≡ true
+    ∙ taken_all c.args.destination.now (is_of_other c.args.peer) c.args.groups.now.entries c.in-Some.group.now (sym c.in-Some.ensures.value) none where
+      none : (length (filter (is_of_other c.args.peer) c.in-Some.group.now) == 0) ≡ true
       none = ap (λ ks. length ks == 0) (sym c.forget.ensures) ∙ sym c.is_empty.ensures ∙ c.if-is_empty.true
 
 pub returns-else-is_empty : goal.returns-else-is_empty
 returns-else-is_empty c = (c.get_mut.follows.holds c.forget.new.self).0 ∙ ap (set_value (is_at (prefix_cmp c.args.destination.now)) c.args.groups.now.entries) c.forget.ensures
-    ∙ taken_some c.args.destination.now (λ k. not (k.route.peer == c.args.peer)) c.args.groups.now.entries c.in-Some.group.now (sym c.in-Some.ensures.value) some where
-      some : (length (filter (λ k. not (k.route.peer == c.args.peer)) c.in-Some.group.now) == 0) ≡ false
+    ∙ taken_some c.args.destination.now (is_of_other c.args.peer) c.args.groups.now.entries c.in-Some.group.now (sym c.in-Some.ensures.value) some where
+      some : (length (filter (is_of_other c.args.peer) c.in-Some.group.now) == 0) ≡ false
       some = ap (λ ks. length ks == 0) (sym c.forget.ensures) ∙ sym c.is_empty.ensures ∙ c.if-is_empty.false

@@ -6,7 +6,7 @@ use Rattle.std.proofs.lemmas.Map.Steps.{set_value_same}
 use Rattle.fs_base.specs.Prefix.{prefix_cmp}
 use Rattle.fs_flows.specs.Group.{AreSorted, routes_of, put_kept}
 use Rattle.fs_flows.proofs.Apart.{ok_weaker, err_weaker}
-use Rattle.fs_flows.proofs.Puts.{put_found, put_new, insert_found, each_lookup}
+use Rattle.fs_flows.proofs.PuttingInGroups.{put_found, put_new, insert_found, each_lookup}
 use Rattle.fs_flows.proofs.groups.put_at.Goals as goal
 
 pub put-requires : goal.put-requires

@@ -1,26 +1,25 @@
-use Rattle.std.proofs.Common.{◌≡◌, true, false, sym, ◌∙◌, ap, not, length, filter, ◌==◌}
+use Rattle.std.proofs.Common.{◌≡◌, true, false, sym, ◌∙◌, ap, length, filter, ◌==◌}
 use Rattle.std.specs.BTreeMap.{is_at}
 use Rattle.std.specs.Map.{set_value, remove_entry}
 use Rattle.fs_base.specs.Prefix.{prefix_cmp}
-use Rattle.fs_flows.specs.Table.{is_key}
-use Rattle.fs_flows.specs.Group.{AreSorted, routes_of}
-use Rattle.fs_flows.proofs.Puts.{each_lookup}
-use Rattle.fs_flows.proofs.Takes.{taken_some, taken_all, taken_none}
+use Rattle.fs_flows.specs.Group.{AreSorted, routes_of, is_other_key}
+use Rattle.fs_flows.proofs.PuttingInGroups.{each_lookup}
+use Rattle.fs_flows.proofs.TakingFromGroups.{taken_some, taken_all, taken_none}
 use Rattle.fs_flows.proofs.groups.take_at.Goals as goal
 
 pub returns-in_default-clause-taken : goal.returns-in_default-clause-taken
-returns-in_default-clause-taken c = ap (λ m. m.entries) c.get_mut.follows.holds-at-none ∙ taken_none c.args.destination.now (λ k. not (is_key c.args.rule.now c.args.peer k.route)) c.args.groups.now.entries (sym c.in_default.ensures.value)
+returns-in_default-clause-taken c = ap (λ m. m.entries) c.get_mut.follows.holds-at-none ∙ taken_none c.args.destination.now (is_other_key c.args.rule.now c.args.peer) c.args.groups.now.entries (sym c.in_default.ensures.value)
 
 pub returns-then-is_empty-clause-taken : goal.returns-then-is_empty-clause-taken
 returns-then-is_empty-clause-taken c = c.remove.ensures.entries ∙ ap (remove_entry (is_at (prefix_cmp c.args.destination.now))) ((c.get_mut.follows.holds c.take-held.new.self).0 ∙ ap (set_value (is_at (prefix_cmp c.args.destination.now)) c.args.groups.now.entries) c.take-held.ensures.taken)
-    ∙ taken_all c.args.destination.now (λ k. not (is_key c.args.rule.now c.args.peer k.route)) c.args.groups.now.entries c.in-Some.group.now (sym c.in-Some.ensures.value) none where
-      none : (length (filter (λ k. not (is_key c.args.rule.now c.args.peer k.route)) c.in-Some.group.now) == 0) ≡ true
+    ∙ taken_all c.args.destination.now (is_other_key c.args.rule.now c.args.peer) c.args.groups.now.entries c.in-Some.group.now (sym c.in-Some.ensures.value) none where
+      none : (length (filter (is_other_key c.args.rule.now c.args.peer) c.in-Some.group.now) == 0) ≡ true
       none = ap (λ ks. length ks == 0) (sym c.take-held.ensures.taken) ∙ sym c.is_empty.ensures ∙ c.if-is_empty.true
 
 pub returns-else-is_empty-clause-taken : goal.returns-else-is_empty-clause-taken
 returns-else-is_empty-clause-taken c = (c.get_mut.follows.holds c.take-held.new.self).0 ∙ ap (set_value (is_at (prefix_cmp c.args.destination.now)) c.args.groups.now.entries) c.take-held.ensures.taken
-    ∙ taken_some c.args.destination.now (λ k. not (is_key c.args.rule.now c.args.peer k.route)) c.args.groups.now.entries c.in-Some.group.now (sym c.in-Some.ensures.value) some where
-      some : (length (filter (λ k. not (is_key c.args.rule.now c.args.peer k.route)) c.in-Some.group.now) == 0) ≡ false
+    ∙ taken_some c.args.destination.now (is_other_key c.args.rule.now c.args.peer) c.args.groups.now.entries c.in-Some.group.now (sym c.in-Some.ensures.value) some where
+      some : (length (filter (is_other_key c.args.rule.now c.args.peer) c.in-Some.group.now) == 0) ≡ false
       some = ap (λ ks. length ks == 0) (sym c.take-held.ensures.taken) ∙ sym c.is_empty.ensures ∙ c.if-is_empty.false
 
 pub take-held-requires : goal.take-held-requires

@@ -1,6 +1,13 @@
-use Rattle.std.proofs.Common.{ap, inl, inr, map, subst, sym, ◌∙◌}
+use Rattle.std.proofs.Common.{List, ap, inl, inr, map, subst, sym, ◌∙◌}
+use Rattle.std.specs.BTreeMap.{is_at}
+use Rattle.std.specs.Map.{set_value}
+use Rattle.fs_base.specs.declared.config.Config.{Config}
+use Rattle.fs_base.specs.Prefix.{prefix_cmp}
+use Rattle.fs_unicast.specs.Unicast.{Route}
 use Rattle.fs_flows.specs.Changes.{IsNotedAt}
 use Rattle.fs_flows.specs.Group.{AreRightTo, retested_to}
+use Rattle.fs_flows.specs.Kept.{Kept}
+use Rattle.fs_flows.specs.Search.{moment}
 use Rattle.fs_flows.proofs.Mending.{mends_found, mends_missing}
 use Rattle.fs_flows.proofs.search.mark_group.Goals as goal
 
@@ -8,11 +15,37 @@ pub returns-in_default : goal.returns-in_default
 returns-in_default g c = mends_missing c.args.unicast.now c.args.config.now c.args.destination.now c.args.groups.now.entries _ c.args.changes.now c.args.steps.now (sym c.in_default.ensures.value) (ap (λ m. m.entries) c.get_mut.follows.holds-at-none)
 
 pub returns-then-retest : goal.returns-then-retest
-returns-then-retest g c = mends_found c.args.unicast.now c.args.config.now c.args.destination.now c.args.groups.now.entries _ c.in-Some.group.now c.retest.new.self c.args.changes.now c.note.new.self c.args.steps.now c.retest.new.steps c.in-Some.ensures.ordered (sym c.in-Some.ensures.value)
-    (c.retest.ensures.retested ∙ ap (λ d. map (retested_to c.args.unicast.now c.args.config.now d) c.in-Some.group.now) c.prefix-prefix.ensures) (c.get_mut.follows.holds c.retest.new.self).0
-    c.note.ensures.stays (inl (subst (IsNotedAt c.note.new.self) c.prefix-prefix.ensures (λ rule h d. c.note.ensures.noted rule (c.at.ensures.place rule h d)))) c.retest.ensures.later c.retest.ensures.steps
+returns-then-retest g c = mends_found unicast config c.args.destination.now group (moment c.args.groups.now.entries c.args.changes.now c.args.steps.now) (moment _ c.note.new.self c.retest.new.steps) c.in-Some.ensures.ordered (record {
+  there = sym c.in-Some.ensures.value;
+  written = (c.get_mut.follows.holds c.retest.new.self).0 ∙ ap (set_value (is_at (prefix_cmp c.args.destination.now)) c.args.groups.now.entries) (c.retest.ensures.retested ∙ ap (λ d. map (retested_to unicast config d) group) c.prefix-prefix.ensures);
+  stays = c.note.ensures.stays;
+  known = inl (subst (IsNotedAt c.note.new.self) c.prefix-prefix.ensures (λ rule h d. c.note.ensures.noted rule (c.at.ensures.place rule h d)));
+  later = c.retest.ensures.later;
+  steps = c.retest.ensures.steps;
+}) where
+  unicast : List Route
+  unicast = c.args.unicast.now
+
+  config : Config
+  config = c.args.config.now
+
+  group : List Kept
+  group = c.in-Some.group.now
 
 pub returns-else-retest : goal.returns-else-retest
-returns-else-retest g c = mends_found c.args.unicast.now c.args.config.now c.args.destination.now c.args.groups.now.entries _ c.in-Some.group.now c.retest.new.self c.args.changes.now c.args.changes.now c.args.steps.now c.retest.new.steps c.in-Some.ensures.ordered (sym c.in-Some.ensures.value)
-    (c.retest.ensures.retested ∙ ap (λ d. map (retested_to c.args.unicast.now c.args.config.now d) c.in-Some.group.now) c.prefix-prefix.ensures) (c.get_mut.follows.holds c.retest.new.self).0
-    (λ rule h. h) (inr (subst (λ d. AreRightTo c.args.unicast.now c.args.config.now d c.in-Some.group.now) c.prefix-prefix.ensures (c.retest.ensures.told.0 c.if-retest.false))) c.retest.ensures.later c.retest.ensures.steps
+returns-else-retest g c = mends_found unicast config c.args.destination.now group (moment c.args.groups.now.entries c.args.changes.now c.args.steps.now) (moment _ c.args.changes.now c.retest.new.steps) c.in-Some.ensures.ordered (record {
+  there = sym c.in-Some.ensures.value;
+  written = (c.get_mut.follows.holds c.retest.new.self).0 ∙ ap (set_value (is_at (prefix_cmp c.args.destination.now)) c.args.groups.now.entries) (c.retest.ensures.retested ∙ ap (λ d. map (retested_to unicast config d) group) c.prefix-prefix.ensures);
+  stays = λ rule h. h;
+  known = inr (subst (λ d. AreRightTo unicast config d group) c.prefix-prefix.ensures (c.retest.ensures.told.0 c.if-retest.false));
+  later = c.retest.ensures.later;
+  steps = c.retest.ensures.steps;
+}) where
+  unicast : List Route
+  unicast = c.args.unicast.now
+
+  config : Config
+  config = c.args.config.now
+
+  group : List Kept
+  group = c.in-Some.group.now

@@ -1,4 +1,4 @@
-use Rattle.std.proofs.Common.{◌≡◌, ◌<◌, ◌≤◌, ◌||◌, Some, None, sym, ◌∙◌, subst, ℕ, true, is_le, List, [], ◌∷◌, Bool, false, length, arith}
+use Rattle.std.proofs.Common.{◌≡◌, ◌<◌, ◌≤◌, ◌||◌, Option, Some, None, sym, ◌∙◌, subst, ℕ, true, is_le, List, [], ◌∷◌, Bool, false, length, arith}
 use Rattle.std.specs.Map.{keys_of}
 use Rattle.std.specs.BTreeMap.{is_at}
 use Rattle.std.specs.List.{AllByRecursion}
@@ -10,14 +10,14 @@ use Rattle.fs_unicast.specs.Unicast.{Route}
 use Rattle.fs_validate.specs.Laws.{is_related}
 use Rattle.fs_flows.specs.Groups.{Entry}
 use Rattle.fs_flows.specs.Changes.{Noted}
-use Rattle.fs_flows.specs.Search.{Mends, IsNextRelated}
+use Rattle.fs_flows.specs.Search.{Mends, IsNextRelated, Moment, moment}
 use Rattle.fs_flows.proofs.Mending.{Same, mends_none, mends_on, mends_both, mends_keys, along_keys}
 use Rattle.fs_flows.proofs.Searching.{done, none_done, from_first, first_there, all_done, apart_now, one_more_done, none_between, behind_now, next_from, next_there, left, left_falls, IsFrom, IsThere}
 use Rattle.fs_flows.proofs.search.retest_related.Goals as goal
 
 -- where there is no group nothing is to do
-none_mended : (unicast : List Route) (config : Config) (test : Prefix → Bool) (es : List Entry) (noted : Noted) (steps : ℕ) → length es ≡ 0 → Mends unicast config test es es noted noted steps steps
-none_mended unicast config test [] noted steps h = mends_none unicast config test [] noted steps tt
+none_mended : (unicast : List Route) (config : Config) (test : Prefix → Bool) (es : List Entry) (noted : Noted) (steps : ℕ) → length es ≡ 0 → Mends unicast config test (moment es noted steps) (moment es noted steps)
+none_mended unicast config test [] noted steps h = mends_none unicast config test (moment [] noted steps) tt
 none_mended unicast config test (e ∷ es) noted steps h = absurd (omega (arith, h))
 
 pub returns-then-is_empty : goal.returns-then-is_empty
@@ -25,16 +25,30 @@ returns-then-is_empty g c = none_mended c.args.unicast.now c.args.config.now (is
 
 pub loop-next-init : goal.loop-next-init
 loop-next-init g c = record {
-  mends = mends_none c.args.unicast.now c.args.config.now (done c.args.prefix.now c.first_from-next.result) c.args.groups.now.entries c.args.changes.now c.args.steps.now
-      (none_done c.args.prefix.now c.first_under.result c.first_from-next.result c.args.groups.now.entries c.first_under.ensures c.first_from-next.ensures);
-  from = from_first c.args.prefix.now c.first_under.result c.first_from-next.result c.args.groups.now.entries c.first_under.ensures c.first_from-next.ensures;
+  mends = mends_none c.args.unicast.now c.args.config.now (done prefix c.first_from-next.result) (moment c.args.groups.now.entries c.args.changes.now c.args.steps.now)
+      (none_done prefix c.first_under.result c.first_from-next.result c.args.groups.now.entries c.first_under.ensures c.first_from-next.ensures);
+  from = from_first prefix c.first_under.result c.first_from-next.result c.args.groups.now.entries c.first_under.ensures c.first_from-next.ensures;
   there = first_there c.first_under.result c.first_from-next.result c.args.groups.now.entries c.first_from-next.ensures;
-}
+} where
+  prefix : Prefix
+  prefix = c.args.prefix.now
 
 pub returns : goal.returns
-returns g c = mends_on c.args.unicast.now c.args.config.now (done c.args.prefix.now None) (is_related c.args.prefix.now) c.args.groups.now.entries c.loop-next.groups.entries c.args.changes.now c.loop-next.changes c.args.steps.now c.loop-next.steps
-    (all_done c.args.prefix.now c.args.groups.now.entries)
-    (subst (λ m. Mends c.args.unicast.now c.args.config.now (done c.args.prefix.now m) c.args.groups.now.entries c.loop-next.groups.entries c.args.changes.now c.loop-next.changes c.args.steps.now c.loop-next.steps) c.in_default.is c.loop-next.invariant.mends)
+returns g c = mends_on unicast config (done prefix None) (is_related prefix) (subst (λ m. Mends unicast config (done prefix m) old here) c.in_default.is c.loop-next.invariant.mends) (all_done prefix c.args.groups.now.entries) where
+  unicast : List Route
+  unicast = c.args.unicast.now
+
+  config : Config
+  config = c.args.config.now
+
+  prefix : Prefix
+  prefix = c.args.prefix.now
+
+  old : Moment
+  old = moment c.args.groups.now.entries c.args.changes.now c.args.steps.now
+
+  here : Moment
+  here = moment c.loop-next.groups.entries c.loop-next.changes c.loop-next.steps
 
 pub first_over-next-requires-clause-behind : goal.first_over-next-requires-clause-behind
 first_over-next-requires-clause-behind g c = subst (λ d. is_le (prefix_cmp c.args.prefix.now d) ≡ true) (sym c.prefix-destination.ensures)
@@ -44,43 +58,86 @@ first_over-next-requires-clause-behind g c = subst (λ d. is_le (prefix_cmp c.ar
 
 pub loop-next-preserved-then-is_related : goal.loop-next-preserved-then-is_related
 loop-next-preserved-then-is_related g c = record {
-  mends = mends_on c.args.unicast.now c.args.config.now (λ q. done c.args.prefix.now (Some c.in-Some.key) q || is_at (prefix_cmp c.in-Some.key) q) (done c.args.prefix.now c.next_related-next.result) c.args.groups.now.entries c.mark_group.new.groups.entries c.args.changes.now c.mark_group.new.changes c.args.steps.now c.mark_group.new.steps more mended;
-  from = next_from c.args.prefix.now c.in-Some.key c.next_related-next.result (subst (IsFrom c.args.prefix.now) c.in-Some.is c.loop-next.invariant.from) c.next_related-next.ensures.from;
-  there = next_there c.next_related-next.result c.mark_group.new.groups.entries c.next_related-next.ensures.there;
+  mends = mends_on unicast config with_key (done prefix next) mended more;
+  from = next_from prefix key next (subst (IsFrom prefix) c.in-Some.is c.loop-next.invariant.from) c.next_related-next.ensures.from;
+  there = next_there next c.mark_group.new.groups.entries c.next_related-next.ensures.there;
 } where
-  mended : Mends c.args.unicast.now c.args.config.now (λ q. done c.args.prefix.now (Some c.in-Some.key) q || is_at (prefix_cmp c.in-Some.key) q) c.args.groups.now.entries c.mark_group.new.groups.entries c.args.changes.now c.mark_group.new.changes c.args.steps.now c.mark_group.new.steps
-  mended = mends_both c.args.unicast.now c.args.config.now (done c.args.prefix.now (Some c.in-Some.key)) (is_at (prefix_cmp c.in-Some.key)) c.args.groups.now.entries c.loop-next.groups.entries c.mark_group.new.groups.entries c.args.changes.now c.loop-next.changes c.mark_group.new.changes c.args.steps.now c.loop-next.steps c.mark_group.new.steps
-      (apart_now c.args.prefix.now c.in-Some.key c.args.groups.now.entries)
-      (subst (λ m. Mends c.args.unicast.now c.args.config.now (done c.args.prefix.now m) c.args.groups.now.entries c.loop-next.groups.entries c.args.changes.now c.loop-next.changes c.args.steps.now c.loop-next.steps) c.in-Some.is c.loop-next.invariant.mends) c.mark_group.ensures
+  unicast : List Route
+  unicast = c.args.unicast.now
 
-  more : AllByRecursion (Same (λ q. done c.args.prefix.now (Some c.in-Some.key) q || is_at (prefix_cmp c.in-Some.key) q) (done c.args.prefix.now c.next_related-next.result)) c.args.groups.now.entries
-  more = along_keys c.args.unicast.now c.args.config.now (λ q. (done c.args.prefix.now (Some c.in-Some.key) q || is_at (prefix_cmp c.in-Some.key) q) ≡ done c.args.prefix.now c.next_related-next.result q) c.args.groups.now.entries c.mark_group.new.groups.entries
-      (mends_keys c.args.unicast.now c.args.config.now (λ q. done c.args.prefix.now (Some c.in-Some.key) q || is_at (prefix_cmp c.in-Some.key) q) c.args.groups.now.entries c.mark_group.new.groups.entries c.args.changes.now c.mark_group.new.changes c.args.steps.now c.mark_group.new.steps mended)
-      (one_more_done c.args.prefix.now c.in-Some.key c.next_related-next.result c.mark_group.new.groups.entries
-      (subst (λ d. is_related c.args.prefix.now d ≡ true) c.prefix-destination.ensures (sym c.is_related.ensures ∙ c.if-is_related.true)) c.next_related-next.ensures)
+  config : Config
+  config = c.args.config.now
+
+  prefix : Prefix
+  prefix = c.args.prefix.now
+
+  key : Prefix
+  key = c.in-Some.key
+
+  next : Option Prefix
+  next = c.next_related-next.result
+
+  with_key : Prefix → Bool
+  with_key q = done prefix (Some key) q || is_at (prefix_cmp key) q
+
+  old : Moment
+  old = moment c.args.groups.now.entries c.args.changes.now c.args.steps.now
+
+  here : Moment
+  here = moment c.loop-next.groups.entries c.loop-next.changes c.loop-next.steps
+
+  new : Moment
+  new = moment c.mark_group.new.groups.entries c.mark_group.new.changes c.mark_group.new.steps
+
+  mended : Mends unicast config with_key old new
+  mended = mends_both unicast config (done prefix (Some key)) (is_at (prefix_cmp key))
+      (subst (λ m. Mends unicast config (done prefix m) old here) c.in-Some.is c.loop-next.invariant.mends) c.mark_group.ensures (apart_now prefix key c.args.groups.now.entries)
+
+  more : AllByRecursion (Same with_key (done prefix next)) c.args.groups.now.entries
+  more = along_keys unicast config (λ q. with_key q ≡ done prefix next q) with_key mended (one_more_done prefix key next c.mark_group.new.groups.entries
+      (subst (λ d. is_related prefix d ≡ true) c.prefix-destination.ensures (sym c.is_related.ensures ∙ c.if-is_related.true)) c.next_related-next.ensures)
 
 pub loop-next-preserved : goal.loop-next-preserved
 loop-next-preserved g c = record {
-  mends = mends_on c.args.unicast.now c.args.config.now (done c.args.prefix.now (Some c.in-Some.key)) (done c.args.prefix.now c.first_over-next.result) c.args.groups.now.entries c.loop-next.groups.entries c.args.changes.now c.loop-next.changes c.args.steps.now c.loop-next.steps none mends;
-  from = next_from c.args.prefix.now c.in-Some.key c.first_over-next.result (subst (IsFrom c.args.prefix.now) c.in-Some.is c.loop-next.invariant.from) over.from;
-  there = next_there c.first_over-next.result c.loop-next.groups.entries over.there;
+  mends = mends_on unicast config (done prefix (Some key)) (done prefix next) mends none;
+  from = next_from prefix key next (subst (IsFrom prefix) c.in-Some.is c.loop-next.invariant.from) over.from;
+  there = next_there next c.loop-next.groups.entries over.there;
 } where
-  mends : Mends c.args.unicast.now c.args.config.now (done c.args.prefix.now (Some c.in-Some.key)) c.args.groups.now.entries c.loop-next.groups.entries c.args.changes.now c.loop-next.changes c.args.steps.now c.loop-next.steps
-  mends = subst (λ m. Mends c.args.unicast.now c.args.config.now (done c.args.prefix.now m) c.args.groups.now.entries c.loop-next.groups.entries c.args.changes.now c.loop-next.changes c.args.steps.now c.loop-next.steps) c.in-Some.is c.loop-next.invariant.mends
+  unicast : List Route
+  unicast = c.args.unicast.now
 
-  over : IsNextRelated c.loop-next.groups.entries c.args.prefix.now c.in-Some.key c.first_over-next.result
-  over = subst (λ d. IsNextRelated c.loop-next.groups.entries c.args.prefix.now d c.first_over-next.result) c.prefix-destination.ensures c.first_over-next.ensures
+  config : Config
+  config = c.args.config.now
 
-  none : AllByRecursion (Same (done c.args.prefix.now (Some c.in-Some.key)) (done c.args.prefix.now c.first_over-next.result)) c.args.groups.now.entries
-  none = along_keys c.args.unicast.now c.args.config.now (λ q. done c.args.prefix.now (Some c.in-Some.key) q ≡ done c.args.prefix.now c.first_over-next.result q) c.args.groups.now.entries c.loop-next.groups.entries
-      (mends_keys c.args.unicast.now c.args.config.now (done c.args.prefix.now (Some c.in-Some.key)) c.args.groups.now.entries c.loop-next.groups.entries c.args.changes.now c.loop-next.changes c.args.steps.now c.loop-next.steps mends)
-      (none_between c.args.prefix.now c.in-Some.key c.first_over-next.result c.loop-next.groups.entries
-      (subst (λ d. is_related c.args.prefix.now d ≡ false) c.prefix-destination.ensures (sym c.is_related.ensures ∙ c.if-is_related.false)) over)
+  prefix : Prefix
+  prefix = c.args.prefix.now
+
+  key : Prefix
+  key = c.in-Some.key
+
+  next : Option Prefix
+  next = c.first_over-next.result
+
+  old : Moment
+  old = moment c.args.groups.now.entries c.args.changes.now c.args.steps.now
+
+  here : Moment
+  here = moment c.loop-next.groups.entries c.loop-next.changes c.loop-next.steps
+
+  mends : Mends unicast config (done prefix (Some key)) old here
+  mends = subst (λ m. Mends unicast config (done prefix m) old here) c.in-Some.is c.loop-next.invariant.mends
+
+  over : IsNextRelated c.loop-next.groups.entries prefix key next
+  over = subst (λ d. IsNextRelated c.loop-next.groups.entries prefix d next) c.prefix-destination.ensures c.first_over-next.ensures
+
+  none : AllByRecursion (Same (done prefix (Some key)) (done prefix next)) c.args.groups.now.entries
+  none = along_keys unicast config (λ q. done prefix (Some key) q ≡ done prefix next q) (done prefix (Some key)) mends (none_between prefix key next c.loop-next.groups.entries
+      (subst (λ d. is_related prefix d ≡ false) c.prefix-destination.ensures (sym c.is_related.ensures ∙ c.if-is_related.false)) over)
 
 pub loop-next-smaller-then-is_related : goal.loop-next-smaller-then-is_related
 loop-next-smaller-then-is_related g c = subst (λ m. left c.next_related-next.result (keys_of c.mark_group.new.groups.entries) < left m (keys_of c.loop-next.groups.entries)) (sym c.in-Some.is)
     (subst (λ ks. left c.next_related-next.result ks < left (Some c.in-Some.key) (keys_of c.loop-next.groups.entries))
-    (sym (mends_keys c.args.unicast.now c.args.config.now (is_at (prefix_cmp c.in-Some.key)) c.loop-next.groups.entries c.mark_group.new.groups.entries c.loop-next.changes c.mark_group.new.changes c.loop-next.steps c.mark_group.new.steps c.mark_group.ensures))
+    (sym (mends_keys c.args.unicast.now c.args.config.now (is_at (prefix_cmp c.in-Some.key)) c.mark_group.ensures))
     (left_falls c.in-Some.key c.next_related-next.result (keys_of c.loop-next.groups.entries) c.next_related-next.ensures.from
     (subst (IsThere (keys_of c.loop-next.groups.entries)) c.in-Some.is c.loop-next.invariant.there)))
 
@@ -92,11 +149,11 @@ loop-next-smaller g c = subst (λ m. left c.first_over-next.result (keys_of c.lo
 
 pub next_related-next-requires : goal.next_related-next-requires
 next_related-next-requires g c = subst (AllByRecursion (λ q. c.args.shortest ≤ q.length))
-    (sym (mends_keys c.args.unicast.now c.args.config.now (is_at (prefix_cmp c.in-Some.key)) c.loop-next.groups.entries c.mark_group.new.groups.entries c.loop-next.changes c.mark_group.new.changes c.loop-next.steps c.mark_group.new.steps c.mark_group.ensures
-    ∙ mends_keys c.args.unicast.now c.args.config.now (done c.args.prefix.now c.loop-next.next) c.args.groups.now.entries c.loop-next.groups.entries c.args.changes.now c.loop-next.changes c.args.steps.now c.loop-next.steps c.loop-next.invariant.mends))
+    (sym (mends_keys c.args.unicast.now c.args.config.now (is_at (prefix_cmp c.in-Some.key)) c.mark_group.ensures
+    ∙ mends_keys c.args.unicast.now c.args.config.now (done c.args.prefix.now c.loop-next.next) c.loop-next.invariant.mends))
     c.requires
 
 pub first_over-next-requires-clause-shortest : goal.first_over-next-requires-clause-shortest
 first_over-next-requires-clause-shortest g c = subst (AllByRecursion (λ q. c.args.shortest ≤ q.length))
-    (sym (mends_keys c.args.unicast.now c.args.config.now (done c.args.prefix.now c.loop-next.next) c.args.groups.now.entries c.loop-next.groups.entries c.args.changes.now c.loop-next.changes c.args.steps.now c.loop-next.steps c.loop-next.invariant.mends))
+    (sym (mends_keys c.args.unicast.now c.args.config.now (done c.args.prefix.now c.loop-next.next) c.loop-next.invariant.mends))
     c.requires

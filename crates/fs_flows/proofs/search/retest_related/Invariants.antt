@@ -1,11 +1,11 @@
 use Rattle.std.specs.Map.{keys_of}
-use Rattle.fs_flows.specs.Search.{Mends}
+use Rattle.fs_flows.specs.Search.{Mends, moment}
 use Rattle.fs_flows.proofs.Searching.{done, IsFrom, IsThere, left}
 use Rattle.fs_flows.proofs.search.retest_related.Given as goal
 
 abbrev pub invariant-loop-next : goal.invariant-loop-next
 invariant-loop-next g l = record {
-  mends : Mends l.unicast l.config (done l.prefix l.next) l.fn.groups.entries l.groups.entries l.fn.changes l.changes l.fn.steps l.steps;
+  mends : Mends l.unicast l.config (done l.prefix l.next) (moment l.fn.groups.entries l.fn.changes l.fn.steps) (moment l.groups.entries l.changes l.steps);
   from : IsFrom l.prefix l.next;
   there : IsThere (keys_of l.groups.entries) l.next;
 }

@@ -12,8 +12,8 @@ invariant_of-self g c = (
 )
 
 pub returns-clause-mends : goal.returns-clause-mends
-returns-clause-mends g c = subst (λ ks. MendsKept c.args.prefix.now c.args.unicast.now c.args.config.now ks (c.mend.new.self ++ c.mend-2.new.self) c.args.changes.now c.mend-2.new.changes c.args.steps.now c.mend-2.new.steps) c.self.view_is
-    (mends_families c.args.prefix.now c.args.unicast.now c.args.config.now c.self.inside.v4 c.self.inside.v6 c.mend.new.self c.mend-2.new.self c.args.changes.now c.mend.new.changes c.mend-2.new.changes c.args.steps.now c.mend.new.steps c.mend-2.new.steps c.mend.ensures c.mend-2.ensures)
+returns-clause-mends g c = subst (λ ks. MendsKept c.args.prefix.now c.args.unicast.now c.args.config.now ks (c.mend.new.self ++ c.mend-2.new.self) c.args.changes.now c.mend-2.new.changes c.args.steps.now c.mend-2.new.steps)
+    c.self.view_is (mends_families c.args.prefix.now c.args.unicast.now c.args.config.now c.mend.ensures c.mend-2.ensures)
 
 pub returns-clause-rules : goal.returns-clause-rules
 returns-clause-rules g c = rules_each c.self.inside.v4 c.self.inside.v6 c.args.self.now c.self.view_is c.self.invariant.0

@@ -1,14 +1,15 @@
-use Rattle.std.proofs.Common.{ap, sym, subst, ◌∙◌, ◌≤◌, not, ◌==◌, filter}
+use Rattle.std.proofs.Common.{ap, sym, subst, ◌∙◌, ◌≤◌, filter}
 use Rattle.fs_flows.specs.Groups.{AreNoShorter}
 use Rattle.fs_flows.proofs.Grouping.{grouped_kept, kept_left}
-use Rattle.fs_flows.proofs.Takes.{each_left}
+use Rattle.fs_flows.proofs.TakingFromGroups.{each_left}
 use Rattle.fs_flows.proofs.groups.Groups.forget.Goals as goal
+use Rattle.fs_flows.specs.Group.{is_of_other}
 
 pub invariant_of-self : goal.invariant_of-self
 invariant_of-self c = (
-  grouped_kept (λ k. not (k.route.peer == c.args.peer)) c.self.inside.groups.entries c.forget_each.new.groups.entries c.self.inside.rest c.forget.new.self c.self.inside.most c.self.invariant.0 c.forget_each.ensures.ordered c.forget_each.ensures.kept c.forget.ensures,
-  subst (AreNoShorter c.self.inside.shortest) (sym c.forget_each.ensures.kept) (each_left (λ q. c.self.inside.shortest ≤ q.length) (λ k. not (k.route.peer == c.args.peer)) c.self.inside.groups.entries c.self.invariant.1),
+  grouped_kept c.self.invariant.0 (is_of_other c.args.peer) c.forget_each.ensures.kept c.forget.ensures c.forget_each.ensures.ordered,
+  subst (AreNoShorter c.self.inside.shortest) (sym c.forget_each.ensures.kept) (each_left (λ q. c.self.inside.shortest ≤ q.length) (is_of_other c.args.peer) c.self.inside.groups.entries c.self.invariant.1),
 )
 
 pub returns : goal.returns
-returns c = kept_left (λ k. not (k.route.peer == c.args.peer)) c.self.inside.groups.entries c.forget_each.new.groups.entries c.self.inside.rest c.forget.new.self c.forget_each.ensures.kept c.forget.ensures ∙ ap (filter (λ k. not (k.route.peer == c.args.peer))) c.self.view_is
+returns c = kept_left c.self.invariant.0 (is_of_other c.args.peer) c.forget_each.ensures.kept c.forget.ensures ∙ ap (filter (is_of_other c.args.peer)) c.self.view_is

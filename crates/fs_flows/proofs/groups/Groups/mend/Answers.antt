@@ -9,10 +9,10 @@ use Rattle.fs_flows.proofs.groups.Groups.mend.Goals as goal
 
 pub invariant_of-self : goal.invariant_of-self
 invariant_of-self g c = (
-  grouped_mended c.args.unicast.now c.args.config.now c.args.prefix.now c.self.inside.groups.entries c.retest_related.new.groups.entries c.self.inside.rest c.self.inside.most c.args.changes.now c.retest_related.new.changes c.args.steps.now c.retest_related.new.steps c.self.invariant.0 c.retest_related.ensures,
-  subst (AllByRecursion (λ q. c.self.inside.shortest ≤ q.length)) (sym (mends_keys c.args.unicast.now c.args.config.now (is_related c.args.prefix.now) c.self.inside.groups.entries c.retest_related.new.groups.entries c.args.changes.now c.retest_related.new.changes c.args.steps.now c.retest_related.new.steps c.retest_related.ensures)) c.self.invariant.1,
+  grouped_mended c.args.unicast.now c.args.config.now c.args.prefix.now c.self.inside.rest c.self.inside.most c.self.invariant.0 c.retest_related.ensures,
+  subst (AllByRecursion (λ q. c.self.inside.shortest ≤ q.length)) (sym (mends_keys c.args.unicast.now c.args.config.now (is_related c.args.prefix.now) c.retest_related.ensures)) c.self.invariant.1,
 )
 
 pub returns : goal.returns
-returns g c = subst (λ ks. MendsKept c.args.prefix.now c.args.unicast.now c.args.config.now ks (kept_in c.retest_related.new.groups.entries c.self.inside.rest) c.args.changes.now c.retest_related.new.changes c.args.steps.now c.retest_related.new.steps) c.self.view_is
-    (mends_kept c.args.unicast.now c.args.config.now c.args.prefix.now c.self.inside.groups.entries c.retest_related.new.groups.entries c.self.inside.rest c.self.inside.most c.args.changes.now c.retest_related.new.changes c.args.steps.now c.retest_related.new.steps c.self.invariant.0 c.retest_related.ensures)
+returns g c = subst (λ ks. MendsKept c.args.prefix.now c.args.unicast.now c.args.config.now ks (kept_in c.retest_related.new.groups.entries c.self.inside.rest) c.args.changes.now c.retest_related.new.changes c.args.steps.now c.retest_related.new.steps)
+    c.self.view_is (mends_kept c.args.unicast.now c.args.config.now c.args.prefix.now c.self.inside.rest c.self.inside.most c.self.invariant.0 c.retest_related.ensures)

@@ -1,11 +1,11 @@
-use Rattle.std.proofs.Common.{rules, not, ◌≡◌, ◌≤◌, ◌+◌, refl, sym, ap, subst, ◌∙◌, arith}
+use Rattle.std.proofs.Common.{ℕ, rules, not, ◌≡◌, ◌≤◌, ◌+◌, refl, sym, ap, subst, ◌∙◌, arith}
 use Rattle.std.specs.List.{AllByRecursion}
 use Rattle.fs_flows.specs.Group.{AreSorted, routes_of, put_kept, has_key}
 use Rattle.fs_flows.specs.Groups.{IsSound, kept_in, AreNoShorter}
-use Rattle.fs_flows.proofs.Puts.{sorted_groups, sorted_rest, put_entries, put_rest, each_entry}
+use Rattle.fs_flows.proofs.PuttingInGroups.{sorted_groups, sorted_rest, put_entries, put_rest, each_entry}
 use Rattle.fs_flows.proofs.Grouping.{grouped_put, grouped_rest}
 use Rattle.fs_flows.proofs.BothFamilies.{rules_of}
-use Rattle.fs_flows.proofs.Takes.{taken_held, held_rest, turned}
+use Rattle.fs_flows.proofs.TakingFromGroups.{taken_held, held_rest, turned}
 use Rattle.fs_flows.proofs.groups.Groups.put.Goals as goal
 
 pub put_at-requires : goal.put_at-requires
@@ -16,17 +16,21 @@ put-requires c = sorted_rest c.self.inside.groups.entries c.self.inside.rest (su
 
 pub invariant_of-self-in-Some-destination : goal.invariant_of-self-in-Some-destination
 invariant_of-self-in-Some-destination c = (
-  grouped_put c.args.k.route.rule.family c.in-Some-destination.destination c.args.k c.self.inside.groups.entries c.put_at.new.groups.entries c.self.inside.rest c.self.inside.most c.in-Some.most
-      (record { family = refl; rule = c.destination-destination.ensures.rule }) (sym c.destination-destination.ensures.value ∙ c.in-Some-destination.is) (subst (AllByRecursion (IsSound c.args.k.route.rule.family)) (sym c.self.view_is) c.requires.sound) c.self.invariant.0 c.in_ok-is_new-in-Some-destination.ensures.ok one (omega arith),
-  subst (AreNoShorter c.shortest_with-shortest.result) (sym c.in_ok-is_new-in-Some-destination.ensures.ok) (each_entry (λ q. c.shortest_with-shortest.result ≤ q.length) c.in-Some-destination.destination c.args.k c.self.inside.groups.entries c.shortest_with-shortest.ensures.put c.shortest_with-shortest.ensures.held),
+  grouped_put c.self.invariant.0 c.args.k.route.rule.family c.args.k (record { family = refl; rule = c.destination-destination.ensures.rule }) (subst (AllByRecursion (IsSound c.args.k.route.rule.family)) (sym c.self.view_is) c.requires.sound) one (omega arith)
+      c.in-Some-destination.destination (sym c.destination-destination.ensures.value ∙ c.in-Some-destination.is) c.in_ok-is_new-in-Some-destination.ensures.ok,
+  subst (AreNoShorter shortest) (sym c.in_ok-is_new-in-Some-destination.ensures.ok)
+      (each_entry (λ q. shortest ≤ q.length) c.in-Some-destination.destination c.args.k c.self.inside.groups.entries c.shortest_with-shortest.ensures.put c.shortest_with-shortest.ensures.held),
 ) where
+  shortest : ℕ
+  shortest = c.shortest_with-shortest.result
+
   one : c.in-Some.most ≡ c.self.inside.most + 1
   one = search rules
 
 pub invariant_of-self-in-None : goal.invariant_of-self-in-None
 invariant_of-self-in-None c = (
-  grouped_rest c.args.k.route.rule.family c.args.k c.self.inside.groups.entries c.self.inside.rest c.put.new.self c.self.inside.most c.in-Some.most
-      (record { family = refl; rule = c.destination-destination.ensures.rule }) (sym c.destination-destination.ensures.value ∙ c.in-None.is) (subst (AllByRecursion (IsSound c.args.k.route.rule.family)) (sym c.self.view_is) c.requires.sound) c.self.invariant.0 c.in_ok-is_new-in-None.ensures.ok one (omega arith),
+  grouped_rest c.self.invariant.0 c.args.k.route.rule.family c.args.k (record { family = refl; rule = c.destination-destination.ensures.rule }) (subst (AllByRecursion (IsSound c.args.k.route.rule.family)) (sym c.self.view_is) c.requires.sound) one (omega arith)
+      (sym c.destination-destination.ensures.value ∙ c.in-None.is) c.in_ok-is_new-in-None.ensures.ok,
   c.self.invariant.1,
 ) where
   one : c.in-Some.most ≡ c.self.inside.most + 1

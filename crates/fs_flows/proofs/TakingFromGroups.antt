@@ -21,6 +21,7 @@ use Rattle.fs_flows.specs.Table.{is_key}
 use Rattle.fs_flows.specs.Groups.{Entry, kept_in, IsTo, ArePlaced, AreInOrder, with_group, keep_at, keep_each}
 use Rattle.fs_flows.proofs.Apart.{key_same, each_front, each_back}
 use Rattle.fs_flows.proofs.Changed.{all_stay, any_back, any_front, left_back, left_front}
+use Rattle.fs_flows.specs.Group.{HaveRules}
 
 -- told the other way round
 pub turned : (b c : Bool) → not b ≡ c → b ≡ not c
@@ -150,7 +151,7 @@ module _ (rule : Ruled) (peer : ℕ) (normal : IsRule rule) where
     at true e = absurd (apart (ap destination_prefix (key_same rule peer k normal sound e) ∙ d))
     at false e = e
 
-  none_in : (q : Option Prefix) → (destination_prefix rule ≡ q → ⊥) → (ks : List Kept) → AllByRecursion (λ k. IsRule k.route.rule) ks → AllByRecursion (IsTo q) ks → AllByRecursion (λ k. hits k ≡ false) ks
+  none_in : (q : Option Prefix) → (destination_prefix rule ≡ q → ⊥) → (ks : List Kept) → HaveRules ks → AllByRecursion (IsTo q) ks → AllByRecursion (λ k. hits k ≡ false) ks
   none_in q apart ks sound placed = each_both (λ k. IsRule k.route.rule) (IsTo q) (λ k. hits k ≡ false) (λ k s d. elsewhere q apart k s d) ks sound placed
 
   same_test : (p q : Prefix) → p ≡ q → is_eq (prefix_cmp p q) ≡ true
@@ -164,34 +165,34 @@ module _ (rule : Ruled) (peer : ℕ) (normal : IsRule rule) where
 
   -- no route of the key in groups of other destinations
   none_behind : (p : Prefix) (es : List Entry) (rest : List Kept) → destination_prefix rule ≡ Some p → AllByRecursion (λ q. is_eq (prefix_cmp p q) ≡ false) (keys_of es) → ArePlaced es → AllByRecursion (IsTo None) rest
-      → AllByRecursion (λ k. IsRule k.route.rule) (kept_in es rest) → AllByRecursion (λ k. hits k ≡ false) (kept_in es rest)
+      → HaveRules (kept_in es rest) → AllByRecursion (λ k. hits k ≡ false) (kept_in es rest)
   none_behind p [] rest d keys placed bare sound = none_in None (no_prefix p d) rest sound bare
   none_behind p (e ∷ es) rest d keys placed bare sound = each_append (λ k. hits k ≡ false) e.1 (kept_in es rest)
       (none_in (Some e.0) (other_prefix p e.0 d keys.0) e.1 (each_front (λ k. IsRule k.route.rule) e.1 (kept_in es rest) sound) placed.0)
       (none_behind p es rest d keys.1 placed.1 bare (each_back (λ k. IsRule k.route.rule) e.1 (kept_in es rest) sound))
 
-  pub taken_kept : (p : Prefix) (es : List Entry) (rest : List Kept) → destination_prefix rule ≡ Some p → AreInOrder es → ArePlaced es → AllByRecursion (IsTo None) rest → AllByRecursion (λ k. IsRule k.route.rule) (kept_in es rest)
+  pub taken_kept : (p : Prefix) (es : List Entry) (rest : List Kept) → destination_prefix rule ≡ Some p → AreInOrder es → ArePlaced es → AllByRecursion (IsTo None) rest → HaveRules (kept_in es rest)
       → kept_in (keep_at p passes es) rest ≡ filter passes (kept_in es rest)
   taken_kept p [] rest d ordered placed bare sound = sym (all_stay hits rest (none_in None (no_prefix p d) rest sound bare))
   taken_kept p (e ∷ es) rest d ordered placed bare sound = at (is_eq (prefix_cmp p e.0)) refl (taken_kept p es rest d (sorted_tail prefix_cmp e.0 (keys_of es) ordered) placed.1 bare later_sound) where
     later : List Kept
     later = kept_in es rest
 
-    later_sound : AllByRecursion (λ k. IsRule k.route.rule) later
+    later_sound : HaveRules later
     later_sound = each_back (λ k. IsRule k.route.rule) e.1 later sound
 
     at : (b : Bool) → is_eq (prefix_cmp p e.0) ≡ b → kept_in (keep_at p passes es) rest ≡ filter passes later → kept_in (cond b (with_group e.0 (filter passes e.1) es) (e ∷ keep_at p passes es)) rest ≡ filter passes (e.1 ++ later)
     at true t ih = kept_with e.0 (filter passes e.1) es rest ∙ left_front hits e.1 later (none_behind p es rest d (other_keys p e.0 (keys_of es) t (sorted_head prefix_cmp e.0 (keys_of es) ordered)) placed.1 bare later_sound)
     at false t ih = ap (λ ks. e.1 ++ ks) ih ∙ left_back hits e.1 later (none_in (Some e.0) (other_prefix p e.0 d t) e.1 (each_front (λ k. IsRule k.route.rule) e.1 later sound) placed.0)
 
-  pub taken_held : (p : Prefix) (es : List Entry) (rest : List Kept) (held : Bool) → destination_prefix rule ≡ Some p → AreInOrder es → ArePlaced es → AllByRecursion (IsTo None) rest → AllByRecursion (λ k. IsRule k.route.rule) (kept_in es rest)
+  pub taken_held : (p : Prefix) (es : List Entry) (rest : List Kept) (held : Bool) → destination_prefix rule ≡ Some p → AreInOrder es → ArePlaced es → AllByRecursion (IsTo None) rest → HaveRules (kept_in es rest)
       → MatchOption (lookup (is_at (prefix_cmp p)) es) (held ≡ false) (λ group. held ≡ list_any hits group) → held ≡ list_any hits (kept_in es rest)
   taken_held p [] rest held d ordered placed bare sound h = h ∙ sym (each_none hits rest (none_in None (no_prefix p d) rest sound bare))
   taken_held p (e ∷ es) rest held d ordered placed bare sound h = at (is_eq (prefix_cmp p e.0)) refl h (taken_held p es rest held d (sorted_tail prefix_cmp e.0 (keys_of es) ordered) placed.1 bare later_sound) where
     later : List Kept
     later = kept_in es rest
 
-    later_sound : AllByRecursion (λ k. IsRule k.route.rule) later
+    later_sound : HaveRules later
     later_sound = each_back (λ k. IsRule k.route.rule) e.1 later sound
 
     at : (b : Bool) → is_eq (prefix_cmp p e.0) ≡ b → MatchOption (cond b (Some e.1) (lookup (is_at (prefix_cmp p)) es)) (held ≡ false) (λ group. held ≡ list_any hits group)
@@ -203,12 +204,12 @@ module _ (rule : Ruled) (peer : ℕ) (normal : IsRule rule) where
   no_group q d e = none-some q (sym d ∙ e)
 
   -- a key without a destination is among the routes without one
-  pub taken_rest : (es : List Entry) (rest : List Kept) → destination_prefix rule ≡ None → ArePlaced es → AllByRecursion (λ k. IsRule k.route.rule) (kept_in es rest) → kept_in es (filter passes rest) ≡ filter passes (kept_in es rest)
+  pub taken_rest : (es : List Entry) (rest : List Kept) → destination_prefix rule ≡ None → ArePlaced es → HaveRules (kept_in es rest) → kept_in es (filter passes rest) ≡ filter passes (kept_in es rest)
   taken_rest [] rest d placed sound = refl
   taken_rest (e ∷ es) rest d placed sound = ap (λ ks. e.1 ++ ks) (taken_rest es rest d placed.1 (each_back (λ k. IsRule k.route.rule) e.1 (kept_in es rest) sound))
       ∙ left_back hits e.1 (kept_in es rest) (none_in (Some e.0) (no_group e.0 d) e.1 (each_front (λ k. IsRule k.route.rule) e.1 (kept_in es rest) sound) placed.0)
 
-  pub held_rest : (es : List Entry) (rest : List Kept) → destination_prefix rule ≡ None → ArePlaced es → AllByRecursion (λ k. IsRule k.route.rule) (kept_in es rest) → list_any hits rest ≡ list_any hits (kept_in es rest)
+  pub held_rest : (es : List Entry) (rest : List Kept) → destination_prefix rule ≡ None → ArePlaced es → HaveRules (kept_in es rest) → list_any hits rest ≡ list_any hits (kept_in es rest)
   held_rest [] rest d placed sound = refl
   held_rest (e ∷ es) rest d placed sound = held_rest es rest d placed.1 (each_back (λ k. IsRule k.route.rule) e.1 (kept_in es rest) sound)
       ∙ any_back hits e.1 (kept_in es rest) (none_in (Some e.0) (no_group e.0 d) e.1 (each_front (λ k. IsRule k.route.rule) e.1 (kept_in es rest) sound) placed.0)
