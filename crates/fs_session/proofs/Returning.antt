@@ -1,29 +1,17 @@
 -- The UPDATE of a rule is read as the update that announces it.
-use Rattle.std.proofs.Common.{◌≡◌, ℕ, ◌+◌, ◌<◌, ◌≤◌, ◌==◌, ◌^◌, Bool, true, false, not, ◌&&◌, ◌||◌, nat_le, nat_lt, List, [], ◌∷◌, ◌++◌, Ok, All, length, if◌then◌else◌, refl, arith}
-use Rattle.std.specs.Prelude.{bit_or, flat_map}
-use Rattle.std.specs.List.{AllByRecursion, concat, list_all}
+use Rattle.std.proofs.Common.{◌≡◌, ℕ, ◌+◌, ◌<◌, ◌≤◌, ◌==◌, ◌^◌, Bool, true, false, not, ◌&&◌, nat_le, List, [], ◌∷◌, Ok, All, length, if◌then◌else◌, refl, arith}
+use Rattle.std.specs.List.{AllByRecursion, list_all}
 use Rattle.std.proofs.lemmas.Bool.{leb-true}
 use Rattle.std.proofs.lemmas.Bool.Decides.{nat_tests}
 use Rattle.std.proofs.lemmas.List.Elements.{All-cons, All-from_recursion, All-nil}
-use Rattle.byteorder.specs.Endian.{big_bytes}
-use Rattle.fs_base.specs.Bits.{afi_of}
-use Rattle.fs_base.specs.Language.{IsOctets}
-use Rattle.fs_base.proofs.Digits.{big_octets}
-use Rattle.fs_base.proofs.Lists.{each_append}
-use Rattle.fs_base.proofs.Octets.{octets_append, octets_cons, octets_nil, octets_of_each}
 use Rattle.fs_base.proofs.Covers.{family_itself}
-use Rattle.fs_nlri.specs.Parts.{Ruled}
-use Rattle.fs_nlri.specs.Rule.{IsRule, canonical_frame}
+use Rattle.fs_nlri.specs.Rule.{IsRule}
 use Rattle.fs_attrs.specs.declared.update.Terms.{Terms}
-use Rattle.fs_attrs.specs.declared.update.Routes.TheVariants.{Flow}
-use Rattle.fs_attrs.specs.Attributes.{Attribute, attribute}
 use Rattle.fs_attrs.specs.Lists.{IsPrefix}
-use Rattle.fs_attrs.specs.Segments.{AreNumbers, as_text, is_written_segment, segment, segments_text}
-use Rattle.fs_attrs.specs.Texts.{attribute_text, flags_of, long_text, rules_text}
+use Rattle.fs_attrs.specs.Segments.{AreNumbers, is_written_segment, segment}
 use Rattle.fs_attrs.specs.Update.{update_of}
 use Rattle.fs_attrs.specs.Writable.{is_path_of_session, is_writable}
-use Rattle.fs_attrs.specs.Write.{IsSound, actions_in, family_of, local_pref_in, reach_text, update_text, written_attributes}
-use Rattle.fs_attrs.proofs.RuleOctets.{frame_are}
+use Rattle.fs_attrs.specs.Write.{IsSound}
 use Rattle.fs_attrs.proofs.UpdateReadBack.{read_back}
 use Rattle.fs_session.specs.declared.sending.Sent.{Sent}
 use Rattle.fs_session.specs.Laws.{AreSendable, IsSent, RulesComeBack}
