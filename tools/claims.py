@@ -64,7 +64,7 @@ FN = re.compile(r"^( *)(?:pub\([a-z]+\) )?(pub )?(?:const )?fn ([a-z_0-9]+)")
 IMPL = re.compile(r"^impl(?:<[^>]*>)? (?:([A-Z]\w*)(?:<.*>)? for )?([A-Z]\w*)")
 TRAIT = re.compile(r"^pub trait ([A-Z]\w*)")
 CLAUSE = re.compile(r"^ *(requires|ensures)(?: ([a-z_0-9]+))? \{(?: ([A-Z]\w*))?")
-OF_ONE = re.compile(r"^impl ([A-Z]\w*)<([A-Z]\w*)>")
+OF_ONE = re.compile(r"^impl ([A-Z]\w*)<(\w+)>")
 ALIAS = re.compile(r"^pub type (\w+) = (\w+)<(\w+)>;", re.M)
 
 

@@ -27,7 +27,7 @@ use Rattle.cmd_stages.specs.Refusal.{answered, status_of}
 use Rattle.cmd_stages.proofs.LookingAhead.{stands_later}
 use Rattle.cmd_stages.proofs.Stages.{rose_earlier}
 use Rattle.cmd_enforce.specs.Judge.{AdmittedRules, Ceases, IsAtPacket, admitted_rules, always, lines_from, output_of, packet_text, rules_by, status_at}
-use Rattle.cmd_enforce.specs.Moments.{BreaksBehind, BreaksOff, CameTo, Follows, HoldAt, IsUnjudged, Judging, LeaveSameAt, Outcome, Reached, came_lines, outcome, reached}
+use Rattle.cmd_enforce.specs.Moments.{BreaksBehind, BreaksOff, CameTo, Follows, HoldAt, IsUnjudged, Judging, LeaveSameAt, Outcome, Progress, came_lines, outcome, progress}
 
 -- tapes that leave the same routes leave one list of held routes
 abbrev pub OneList : Type 0
@@ -109,7 +109,7 @@ extend one config items held gone packet table a l =
     }
 
 -- no packet was judged
-pub followed_first : (work : Judging) (table : Held) (number : ℕ) → number ≡ 0 → Follows work (reached work.all work.before work.pending number)
+pub followed_first : (work : Judging) (table : Held) (number : ℕ) → number ≡ 0 → Follows work (progress work.all work.before work.pending number)
 followed_first work table number zero = record {
   held = always table;
   gone = [];
@@ -121,7 +121,7 @@ followed_first work table number zero = record {
 }
 
 -- one more packet was
-pub followed_more : OneList → {work : Judging} {now : Reached} (next : Reached) (packet : Captured) (table : Held)
+pub followed_more : OneList → {work : Judging} {now : Progress} (next : Progress) (packet : Captured) (table : Held)
     → Follows work now → now.rest ≡ with_part packet next.rest → Leaves work.config (until packet.moment work.items) table
     → Goes now.written next.written now.pending next.pending (packet_text (now.number + 1) (admitted_rules table) packet.link packet.octets)
     → next.number ≡ now.number + 1 → Follows work next
@@ -140,15 +140,15 @@ followed_more one {work} {now} next packet table f e l g n =
     }
 
 -- the packets that judging came to
-abbrev came_of : {work : Judging} {now : Reached} → Follows work now → CameTo work.config work.items work.all.0
+abbrev came_of : {work : Judging} {now : Progress} → Follows work now → CameTo work.config work.items work.all.0
 came_of {now = now} f = record { held = f.held; judged = f.gone; rest = now.rest.0; parts = f.parts; leaves = f.leaves }
 
-pub followed_done : {work : Judging} {now : Reached} → Follows work now → now.rest ≡ ([], done)
+pub followed_done : {work : Judging} {now : Progress} → Follows work now → now.rest ≡ ([], done)
     → (came : CameTo work.config work.items work.all.0) × (came.rest ≡ []) × (work.all.1 ≡ done) × Goes work.before now.written work.pending now.pending (came_lines came)
 followed_done f e = (came_of f, ap (λ (r : List Captured × End CaptureReason). r.0) e, f.end_is ∙ ap (λ (r : List Captured × End CaptureReason). r.1) e, f.goes)
 
 -- a call on the files failed
-files_failed : {work : Judging} {now : Reached} (left : List Captured) (failed : Type 0)
+files_failed : {work : Judging} {now : Progress} (left : List Captured) (failed : Type 0)
     → Follows work now → failed → BreaksOff work (outcome left now.written now.pending) failed Outside
 files_failed left failed f h = (
   came_of f,
@@ -164,7 +164,7 @@ files_failed left failed f h = (
   )),
 )
 
-pub followed_ceased : {work : Judging} {now : Reached} (left : List Captured) (early mid after : ℕ) (other : Type 0) (cause : Refusal)
+pub followed_ceased : {work : Judging} {now : Progress} (left : List Captured) (early mid after : ℕ) (other : Type 0) (cause : Refusal)
     → Follows work now → early ≤ mid → Ceases now.rest (Rose mid after) cause
     → BreaksOff work (outcome left now.written now.pending) (Rose early after ⊎ other) cause
 followed_ceased left early mid after other cause f l (inl h) = (came_of f, inl (ap status_at f.end_is ∙ h.1, h.0, f.goes))
@@ -173,12 +173,12 @@ followed_ceased {work} {now} left early mid after other cause f l (inr h) =
     (files_failed left (Rose early after ⊎ other) f (inl (rose_earlier early mid after l h.1)))
 
 -- memory was wanting
-pub followed_wanting : {work : Judging} {now : Reached} (left : List Captured) (failed : Type 0)
+pub followed_wanting : {work : Judging} {now : Progress} (left : List Captured) (failed : Type 0)
     → Follows work now → IsUnjudged now.rest.0 left → BreaksOff work (outcome left now.written now.pending) failed Memory
 followed_wanting left failed f u = (came_of f, inr (inl (refl, u, f.goes)))
 
 -- the tape couldn't be played on
-pub followed_unplayed : {work : Judging} {now : Reached} (left : List Captured) (early mid after : ℕ) (other : Type 0) (cause : Refusal)
+pub followed_unplayed : {work : Judging} {now : Progress} (left : List Captured) (early mid after : ℕ) (other : Type 0) (cause : Refusal)
     → Follows work now → IsUnjudged now.rest.0 left → early ≤ mid → IsUnplayed (Rose mid after) cause
     → BreaksOff work (outcome left now.written now.pending) (Rose early after ⊎ other) cause
 followed_unplayed {work} {now} left early mid after other cause f u l (inl h) =
@@ -189,7 +189,7 @@ followed_unplayed {work} {now} left early mid after other cause f u l (inr h) =
     (files_failed left (Rose early after ⊎ other) f (inl (rose_earlier early mid after l h.1)))
 
 -- the sink failed within the line of a packet
-pub followed_stopped : OneList → {work : Judging} {now : Reached} (rest : List Captured × End CaptureReason) (written : Option (List ℕ)) (pending : List ℕ) (packet : Captured) (table : Held)
+pub followed_stopped : OneList → {work : Judging} {now : Progress} (rest : List Captured × End CaptureReason) (written : Option (List ℕ)) (pending : List ℕ) (packet : Captured) (table : Held)
     (files : Type 0) (first after : ℕ) → Follows work now → now.rest ≡ with_part packet rest → Leaves work.config (until packet.moment work.items) table
     → Stops now.written written now.pending pending (packet_text (now.number + 1) (admitted_rules table) packet.link packet.octets)
     → Rose first after → BreaksOff work (outcome rest.0 written pending) (files ⊎ Rose first after) Outside
@@ -212,9 +212,9 @@ followed_stopped one {work} {now} rest written pending packet table files first 
     )
 
 -- what is to come was read on, or stands as it stood
-pub followed_read : {work : Judging} {now : Reached} (rest : List Captured × End CaptureReason)
-    → now.rest ≡ rest → Follows work now → Follows work (reached rest now.written now.pending now.number)
-followed_read {work} {now} rest e f = subst (λ (r : List Captured × End CaptureReason). Follows work (reached r now.written now.pending now.number)) e f
+pub followed_read : {work : Judging} {now : Progress} (rest : List Captured × End CaptureReason)
+    → now.rest ≡ rest → Follows work now → Follows work (progress rest now.written now.pending now.number)
+followed_read {work} {now} rest e f = subst (λ (r : List Captured × End CaptureReason). Follows work (progress r now.written now.pending now.number)) e f
 
 -- the same routes are left under the same configuration
 pub leaves_as : (config config' : Config) (items : List Item) (held : Held) → config ≡ config' → Leaves config' items held → Leaves config items held

@@ -52,17 +52,17 @@ abbrev pub judging : Config → List Timed → List Captured × End CaptureReaso
 judging config items all before pending = record { config = config; items = items; all = all; before = before; pending = pending }
 
 -- How far it is: what is to come, what the sink and the output hold, and the number of the last line.
-pub record Reached : Type 0 where
+pub record Progress : Type 0 where
   pub rest : List Captured × End CaptureReason
   pub written : Option (List ℕ)
   pub pending : List ℕ
   pub number : ℕ
 
-abbrev pub reached : List Captured × End CaptureReason → (written : Option (List ℕ)) → (pending : List ℕ) → (number : ℕ) → Reached
-reached rest written pending number = record { rest = rest; written = written; pending = pending; number = number }
+abbrev pub progress : List Captured × End CaptureReason → (written : Option (List ℕ)) → (pending : List ℕ) → (number : ℕ) → Progress
+progress rest written pending number = record { rest = rest; written = written; pending = pending; number = number }
 
 -- Of all packets some were judged, under the routes that are held at their moments, and the rest is to come.
-pub record Follows (work : Judging) (now : Reached) : Type 0 where
+pub record Follows (work : Judging) (now : Progress) : Type 0 where
   pub held : ℕ → Held
   pub gone : List Captured
   pub parts : work.all.0 ≡ gone ++ now.rest.0

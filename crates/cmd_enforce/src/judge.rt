@@ -13,7 +13,7 @@ ghost use Rattle.cmd_enforce.specs.Judge.{admitted_rules, EndsTape, found_behind
 ghost use Rattle.fs_compile.specs.Matcher.{admitted_in};
 ghost use Rattle.fs_compile.specs.Mending.{AreOwn};
 ghost use Rattle.cmd_enforce.specs.Matcher.{StandsFor};
-ghost use Rattle.cmd_enforce.specs.Moments.{AnswersAt, BreaksOff, Follows, Judged, Judging, WroteJudged, judging, outcome, reached};
+ghost use Rattle.cmd_enforce.specs.Moments.{AnswersAt, BreaksOff, Follows, Judged, Judging, WroteJudged, judging, outcome, progress};
 
 use crate::capture::Capture;
 use crate::caught::Caught;
@@ -181,12 +181,12 @@ fn judge_on<F: Files, S: Sink>(
         → (work : Judging)
         → work.config ≡ following.now.player.desk.config
         → Stands work.items capture.old.moment following.now.player (F.left files.old 1)
-        → Follows work (reached (coming capture.old (F.left files.old 2))
+        → Follows work (progress (coming capture.old (F.left files.old 2))
         (S.written sink.old) lines.old.output lines.old.number)
         → MatchResult result
         (λ found.
         IfSome found (λ _. Stands work.items capture.new.moment following.now.player (F.left files.new 1))
-        × Follows work (reached (found_behind found buffer.new (coming capture.new (F.left files.new 2)))
+        × Follows work (progress (found_behind found buffer.new (coming capture.new (F.left files.new 2)))
         (S.written sink.new) lines.new.output lines.new.number))
         (BreaksOff work (outcome (coming capture.new (F.left files.new 2)).0 (S.written sink.new) lines.new.output)
         (Rose (F.faults files.old) (F.faults files.new) ⊎ Rose (S.faults sink.old) (S.faults sink.new))) }

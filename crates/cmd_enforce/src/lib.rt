@@ -1,4 +1,5 @@
-//! The command `enforce`: the packets of a capture under the rules that a tape holds at their moments.
+//! The command `enforce`: the packets of a capture, of the libpcap or the pcapng format, under the rules that a tape
+//! holds at their moments.
 #![tactic(auto)]
 
 mod answer;

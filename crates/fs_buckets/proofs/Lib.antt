@@ -1,3 +1,4 @@
+pub mod Pairing
 pub mod Destinations
 pub mod Finding
 pub mod Homes

@@ -1,4 +1,4 @@
--- The stretch of the rules of one destination, and the rules with it put anew.
+-- How destinations stand to one another, and that rules in order stay nested with a stretch put anew.
 use Rattle.std.proofs.Common.{◌≡◌, ℕ, zero, suc, ◌+◌, ◌-◌, ◌<◌, ◌≤◌, ◌⊎◌, inl, inr, refl, sym, ap, ap₂, subst, ◌∙◌, Bool, true, false, if◌then◌else◌, Option, Some, None, List, [], ◌∷◌, length, get_or, Less, Equal, Greater, nat_cmp, arith}
 use Rattle.std.specs.List.{AllByRecursion, splice}
 use Rattle.std.specs.Cmp.{nat_cmp_is}

@@ -30,6 +30,7 @@ impl Addresses {
         }
     }
 
+    /// How many there are.
     #[inline(always)]
     pub fn len(&self) -> usize
         ensures { result ≡ length (numbers_in self.now) }
@@ -40,6 +41,7 @@ impl Addresses {
         }
     }
 
+    /// The address at a place.
     #[inline(always)]
     pub fn at(&self, place: usize) -> u128
         requires { place < length (numbers_in self.now) }
@@ -110,7 +112,8 @@ impl Addresses {
         }
     }
 
-    /// The same, where these marks are likely to tell between which places that is.
+    /// The place of the first that isn't below the address, or how many there are; these marks are likely to tell
+    /// between which places that is.
     #[inline(always)]
     pub fn find_marked(&self, marks: &Marks, address: Address) -> usize
         requires { AreRising (numbers_in self.now) }

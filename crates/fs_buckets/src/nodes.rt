@@ -36,6 +36,7 @@ impl Nodes {
         }
     }
 
+    /// The node at a place.
     #[inline(always)]
     pub fn at(&self, place: usize) -> Node<u128>
         requires { place < length (nodes_in self.now) }

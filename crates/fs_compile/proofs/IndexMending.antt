@@ -10,7 +10,7 @@ use Rattle.fs_buckets.specs.Housed.{AreHoused, HasStretch}
 use Rattle.fs_compile.specs.Index.{Indexed, IsIndexOf, StandForEach, actions_of}
 use Rattle.fs_buckets.specs.Destinations.{IsOfFamily, span_of, spans_of, IsStretch}
 use Rattle.fs_compile.proofs.Indexing.{stand_size}
-use Rattle.fs_compile.proofs.Pairing.{each_append as pairs_append, each_dropped as pairs_dropped, each_taken as pairs_taken}
+use Rattle.fs_buckets.proofs.Pairing.{each_append as pairs_append, each_dropped as pairs_dropped, each_taken as pairs_taken}
 use Rattle.fs_buckets.proofs.Splicing.{each_spliced, map_spliced}
 use Rattle.fs_buckets.proofs.Replacing.{rules_size}
 

@@ -25,7 +25,7 @@ use Rattle.fs_compile.specs.Search.{Found, IsNear, Missed, Within, hit_number, h
 use Rattle.fs_compile.proofs.Climbing.{marked_most}
 use Rattle.fs_ranges.proofs.Placing.{held_of}
 use Rattle.fs_compile.proofs.Reaching.{bare_reaches, match_reaches, span_reaches}
-use Rattle.fs_compile.proofs.Pairing.{each_size}
+use Rattle.fs_buckets.proofs.Pairing.{each_size}
 
 abbrev matches_of : Viewed → List Listed → List Bool
 matches_of view rules = map (λ r. is_match r.rule view) rules

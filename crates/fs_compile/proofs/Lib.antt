@@ -11,4 +11,3 @@ pub mod Replacing
 pub mod Filtering
 pub mod IndexMending
 pub mod MatcherMending
-pub mod Pairing

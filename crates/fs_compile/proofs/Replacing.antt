@@ -1,4 +1,4 @@
--- The stretch of the rules of one destination, and the rules with it put anew.
+-- Where the rules of one destination stand in a list, and the list with them put anew.
 use Rattle.std.proofs.Common.{◌≡◌, ℕ, ◌+◌, ◌-◌, ◌<◌, ◌≤◌, ◌⊎◌, inl, inr, refl, sym, ap, ap₂, subst, ◌∙◌, Bool, false, Option, Some, None, List, ◌++◌, length, get_or, Ordering, Equal, Greater, arith}
 use Rattle.std.specs.List.{AllByRecursion, splice}
 use Rattle.std.specs.Ordering.{is_gt, is_lt}

@@ -1,5 +1,5 @@
 -- The numbers of a field in classes, and which rules of a run a packet may match whose number is of a class.
-use Rattle.std.specs.Prelude.{◌≡◌, ℕ, ◌+◌, ◌-◌, ◌*◌, ◌/◌, ◌%◌, ◌<◌, ◌≤◌, max, Bool, ◌||◌, true, false, List, get_or, length}
+use Rattle.std.specs.Prelude.{◌≡◌, ℕ, ◌+◌, ◌-◌, ◌*◌, ◌/◌, ◌%◌, ◌<◌, ◌≤◌, max, Bool, true, false, List, get_or, length}
 use Rattle.std.specs.Int.{bit_at}
 use Rattle.fs_compile.specs.declared.columns.Column.{Column}
 use Rattle.fs_compile.specs.declared.columns.PortRows.{PortRows}
@@ -7,7 +7,6 @@ use Rattle.fs_ranges.specs.declared.Fast.{Fast}
 use Rattle.fs_buckets.specs.Buckets.{AreRising}
 use Rattle.fs_ranges.specs.Facts.{Facts, key_of, number_of}
 use Rattle.fs_compile.specs.Search.{hits}
-use Rattle.fs_ranges.specs.Spans.{contains, is_in}
 use Rattle.fs_buckets.specs.Between.{IsPlaceOf}
 
 -- the class of a number: classes before it end below the number, and it and those behind don't

@@ -1,5 +1,5 @@
 -- Rules of one destination put anew among others.
-use Rattle.std.specs.Prelude.{ℕ, ◌+◌, ◌-◌, ◌++◌, Option, List, filter}
+use Rattle.std.specs.Prelude.{ℕ, ◌++◌, Option, List, filter}
 use Rattle.std.specs.List.{AllByRecursion}
 use Rattle.std.specs.Ordering.{is_gt, is_lt}
 use Rattle.fs_base.specs.declared.prefix.Family.{Family}

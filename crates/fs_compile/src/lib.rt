@@ -1,5 +1,6 @@
 //! The admitted rules of a table compiled for packets: in buckets of one destination, so that a packet is tried against
-//! those alone whose destination holds it, and of many with one those alone whose numbers it may have.
+//! those alone whose destination holds it, and, of many rules of one destination, against those alone whose numbers it
+//! may have.
 #![tactic(auto)]
 
 mod columns;

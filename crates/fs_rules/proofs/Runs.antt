@@ -1,4 +1,4 @@
--- Where a key stands in the order, and that the routes of a rule stand next to each other.
+-- Where the routes of a rule begin, and that they stand next to each other.
 use Rattle.std.proofs.Common.{ℕ, zero, suc, ◌≡◌, ◌+◌, ◌<◌, ◌≤◌, refl, sym, ap, subst, ◌∙◌, Bool, true, false, true≢false, List, [], ◌∷◌, length, get_or, slice_get, drop, ◌-◌, Ordering, Less, Equal, Greater, is_eq, nat_cmp, arith}
 use Rattle.std.specs.List.{AllByRecursion}
 use Rattle.std.specs.List.Sorted.{IsPartitionedBy}

@@ -5,7 +5,7 @@ use Rattle.std.proofs.lemmas.Option.{get_or_from_slice_get, none-some, same_Some
 use Rattle.std.proofs.lemmas.List.{append-nil, append_assoc, drop_all, drop_more, length-take-le, take_all, take_more}
 use Rattle.fs_rules.specs.Lent.{Listed}
 use Rattle.fs_buckets.specs.Destinations.{spans_of}
-use Rattle.fs_compile.proofs.Pairing.{each_dropped, each_taken}
+use Rattle.fs_buckets.proofs.Pairing.{each_dropped, each_taken}
 use Rattle.fs_shadow.specs.declared.outlines.Outline.{Outline}
 use Rattle.fs_shadow.specs.Outlines.{AreInOrder, AreOutlinesOf, IsOutlineOf, begins_anew, first_taker}
 use Rattle.fs_shadow.specs.Reporting.{covered_by, first_taking, report_behind, takes_all}

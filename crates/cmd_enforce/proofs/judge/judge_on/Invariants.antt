@@ -4,7 +4,7 @@ use Rattle.cmd_enforce.specs.Capture.{coming}
 use Rattle.fs_pcap.specs.Head.{longest_record}
 use Rattle.cmd_stages.specs.Player.{Stands}
 use Rattle.cmd_enforce.specs.Matcher.{HasRoom}
-use Rattle.cmd_enforce.specs.Moments.{Follows, Judging, reached}
+use Rattle.cmd_enforce.specs.Moments.{Follows, Judging, progress}
 use Rattle.cmd_enforce.proofs.judge.judge_on.Given as goal
 
 abbrev pub invariant-packets : goal.invariant-packets
@@ -20,10 +20,10 @@ invariant-packets g l = record {
   files_later : g.F.Files.faults l.fn.files ≤ g.F.Files.faults l.files;
   sink_later : g.S.Sink.faults l.fn.sink ≤ g.S.Sink.faults l.sink;
   judged : IsTrue g.F.Files.tells → (work : Judging) → Stands work.items l.fn.capture.moment l.following.player (g.F.Files.left l.fn.files 1)
-      → Follows work (reached (coming l.fn.capture (g.F.Files.left l.fn.files 2)) (g.S.Sink.written l.fn.sink) l.fn.lines.output l.fn.lines.number)
+      → Follows work (progress (coming l.fn.capture (g.F.Files.left l.fn.files 2)) (g.S.Sink.written l.fn.sink) l.fn.lines.output l.fn.lines.number)
       → work.config ≡ l.following.player.desk.config
       → Stands work.items l.capture.moment l.following.player (g.F.Files.left l.files 1)
-      × Follows work (reached (coming l.capture (g.F.Files.left l.files 2)) (g.S.Sink.written l.sink) l.lines.output l.lines.number);
+      × Follows work (progress (coming l.capture (g.F.Files.left l.files 2)) (g.S.Sink.written l.sink) l.lines.output l.lines.number);
 }
 
 abbrev pub decreases-packets : goal.decreases-packets

@@ -8,7 +8,7 @@ use Rattle.fs_compile.specs.Matcher.{admitted_in}
 use Rattle.fs_compile.specs.Mending.{AreOwn}
 use Rattle.cmd_enforce.specs.Judge.{admitted_rules}
 use Rattle.cmd_enforce.specs.Matcher.{StandsFor}
-use Rattle.cmd_enforce.specs.Moments.{Follows, judging, reached}
+use Rattle.cmd_enforce.specs.Moments.{Follows, judging, progress}
 use Rattle.cmd_enforce.proofs.judge.judge_packets.Given as goal
 
 abbrev pub invariant-changes : goal.invariant-changes
@@ -31,7 +31,7 @@ invariant-changes g l = record {
   judged : IsTrue g.F.Files.tells → (items : List Timed) → Stands items l.fn.capture.moment l.fn.following.player (g.F.Files.left l.fn.files 1)
       → Stands items l.capture.moment l.following.player (g.F.Files.left l.files 1)
       × Follows (judging l.fn.following.player.desk.config items (coming l.fn.capture (g.F.Files.left l.fn.files 2)) (g.S.Sink.written l.fn.sink) l.fn.lines.output)
-      (reached (coming l.capture (g.F.Files.left l.files 2)) (g.S.Sink.written l.sink) l.lines.output l.lines.number);
+      (progress (coming l.capture (g.F.Files.left l.files 2)) (g.S.Sink.written l.sink) l.lines.output l.lines.number);
 }
 
 abbrev pub decreases-changes : goal.decreases-changes

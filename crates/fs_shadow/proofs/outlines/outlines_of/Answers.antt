@@ -1,6 +1,6 @@
 use Rattle.std.proofs.Common.{arith}
 use Rattle.fs_rules.specs.Lent.{shown_lent}
-use Rattle.fs_compile.proofs.Pairing.{each_pushed}
+use Rattle.fs_buckets.proofs.Pairing.{each_pushed}
 use Rattle.fs_shadow.specs.Outlines.{IsOutlineOf}
 use Rattle.fs_shadow.proofs.outlines.outlines_of.Goals as goal
 

@@ -3,7 +3,7 @@ use Rattle.std.proofs.lemmas.List.{length-map}
 use Rattle.std.proofs.lemmas.Option.{slice_get_read}
 use Rattle.std.specs.List.{AllByRecursion}
 use Rattle.fs_rules.specs.Lent.{all_admitted, shown_lent}
-use Rattle.fs_compile.proofs.Pairing.{each_size}
+use Rattle.fs_buckets.proofs.Pairing.{each_size}
 use Rattle.fs_buckets.proofs.Splicing.{each_got}
 use Rattle.fs_shadow.specs.Reporting.{report_of}
 use Rattle.fs_shadow.proofs.Destinations.{AreApart}
