@@ -6,8 +6,8 @@ use Rattle.std.proofs.lemmas.List.{take_at, drop_at}
 use Rattle.std.proofs.lemmas.Bool.Decides.{nat_tests}
 use Rattle.byteorder.specs.Endian.{big_number, big_bytes}
 use Rattle.byteorder.specs.Numbers.{length-bytes_high_first, big_number-reads_back}
-use Rattle.fs_base.specs.Parts.{ReadsText, parts_of}
-use Rattle.fs_base.proofs.Parts.{parts_spelled}
+use Rattle.fs_base.specs.Parts.{Shrinks, parts_of, with_part}
+use Rattle.fs_base.proofs.Parts.{parts_end, parts_step}
 use Rattle.fs_base.specs.declared.prefix.Family.{Family}
 use Rattle.fs_base.specs.declared.prefix.Family.TheVariants.{V4, V6}
 use Rattle.fs_base.specs.declared.path.Segment.{Segment}
@@ -21,6 +21,19 @@ use Rattle.fs_attrs.specs.Prefixes.{Shown, first_prefix, are_prefixes, prefixes_
 use Rattle.fs_attrs.specs.Segments.{as_width, first_as, numbers_of, first_segment, segments_of, are_segments, as_text, segment_text, segments_text}
 use Rattle.fs_attrs.specs.Texts.{long_text, prefix_text, prefixes_text, flags_of, attribute_text}
 use Rattle.fs_attrs.proofs.PartSizes.{attribute_shrinks, prefix_shrinks, as_shrinks, segment_shrinks}
+
+-- parts: of what can be written each text is read as it was, whatever stands behind it
+
+abbrev pub ReadsText : {A : Type 0} → (List ℕ → Option (A × List ℕ)) → (A → List ℕ) → (A → Type 0) → Type 0
+ReadsText {A} next text Fits = (a : A) (rest : List ℕ) → Fits a → next (text a ++ rest) ≡ Some (a, rest)
+
+parts_spelled : {A : Type 0} (next : List ℕ → Option (A × List ℕ)) (text : A → List ℕ) (Fits : A → Type 0)
+    → Shrinks next → next [] ≡ None → ReadsText next text Fits → (items : List A) → AllByRecursion Fits items
+    → parts_of next (flat_map text items) ≡ (items, [])
+parts_spelled next text Fits shrinks none reads [] all = parts_end next [] none
+parts_spelled next text Fits shrinks none reads (item ∷ items) all =
+    parts_step next shrinks (text item ++ flat_map text items) (item, flat_map text items) (reads item (flat_map text items) all.0)
+    ∙ ap (with_part item) (parts_spelled next text Fits shrinks none reads items all.1)
 
 -- fields
 
