@@ -22,7 +22,7 @@ use Rattle.fs_text.specs.ActionParts.{Gives, GivesPlain, form_parts, ip4_parts, 
 use Rattle.std.specs.Result.{IfOk}
 use Rattle.fs_text.specs.ActionWord.{Compared, IsNamed}
 use Rattle.fs_text.specs.Reading.{Reads}
-use Rattle.fs_text.proofs.Words.{ip4_runs, one_run, run_decimal, run_octets, two_runs}
+use Rattle.fs_text.proofs.WordParts.{ip4_runs, one_run, run_decimal, run_octets, two_runs}
 
 -- a list of eight
 pub record IsEight (a : List ℕ) : Type 0 where

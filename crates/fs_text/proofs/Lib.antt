@@ -1,7 +1,7 @@
 pub use Rattle.fs_words.proofs.Spaces
 pub mod Runs
 pub mod Numerals
-pub mod Words
+pub mod WordParts
 pub mod Prefixed
 pub mod Found
 pub mod Cuts

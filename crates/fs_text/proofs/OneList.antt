@@ -26,7 +26,7 @@ use Rattle.fs_text.proofs.Made.{below, made}
 use Rattle.fs_ops.proofs.Normal.{first_normal}
 use Rattle.fs_text.proofs.Pairs.{are_signs, bit_if, code_small, joiner_by, octets_run, others_end, pair_within, value_small, width_ends}
 use Rattle.fs_text.proofs.Wide.{code_back, octets_decoded, octets_len}
-use Rattle.fs_text.proofs.Words.{IsRun, run_decimal}
+use Rattle.fs_text.proofs.WordParts.{IsRun, run_decimal}
 
 -- what a number's text says
 

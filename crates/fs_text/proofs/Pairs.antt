@@ -17,7 +17,7 @@ use Rattle.fs_words.specs.Figures.{octets_text}
 use Rattle.fs_words.specs.Operators.{joined_text, least_code, list_text, mask_sign, number_sign, operand_text, pair_text, sign, width_word}
 use Rattle.fs_text.specs.ListWord.{is_sign, is_within, joined_bit, plain_of, relation_of}
 use Rattle.fs_text.specs.Pieces.{Ends, is_plain}
-use Rattle.fs_text.proofs.Words.{IsRun, run_decimal, run_octets}
+use Rattle.fs_text.proofs.WordParts.{IsRun, run_decimal, run_octets}
 use Rattle.fs_text.proofs.Made.{made}
 
 -- a choice keeps what both have

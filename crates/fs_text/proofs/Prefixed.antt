@@ -21,7 +21,7 @@ use Rattle.fs_words.specs.Values.{body_text}
 use Rattle.fs_text.specs.Pieces.{Part, Run, Delimiter, is_plain, parts_of}
 use Rattle.fs_text.specs.PrefixParts.{GivesV4, GivesV6, offset_parts, range_parts, wide_parts}
 use Rattle.fs_text.proofs.Numerals.{plain_digits}
-use Rattle.fs_text.proofs.Words.{IsRun, one_run, run_decimal, run_mark, v4_runs}
+use Rattle.fs_text.proofs.WordParts.{IsRun, one_run, run_decimal, run_mark, v4_runs}
 
 pub run_hexadecimal : (g : ℕ) → g < 2 ^ 64 → IsRun (hexadecimal g)
 run_hexadecimal g small = plain_digits 16 g (omega arith) (omega arith) (omega arith)

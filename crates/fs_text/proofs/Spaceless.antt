@@ -35,7 +35,7 @@ use Rattle.fs_text.specs.Text.{AreActions, words_in}
 use Rattle.fs_ops.proofs.Normal.{first_normal}
 use Rattle.fs_text.proofs.Pairs.{chosen, pair_all, run_all}
 use Rattle.fs_text.proofs.Prefixed.{eight_groups, range_offset, run_hexadecimal, small_group}
-use Rattle.fs_text.proofs.Words.{plain_octets, run_decimal}
+use Rattle.fs_text.proofs.WordParts.{plain_octets, run_decimal}
 
 abbrev Free : List ℕ → Type 0
 Free text = AllByRecursion (λ o. (o == 32) ≡ false) text
