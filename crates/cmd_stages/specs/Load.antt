@@ -6,7 +6,7 @@ use Rattle.fs_base.specs.declared.config.Config.{Config}
 use Rattle.fs_conf.specs.Config.{config_of}
 use Rattle.fs_conf.specs.Rules.{rules_of}
 use Rattle.fs_speaker.specs.declared.Sending.{Sending}
-use Rattle.cmd_stages.specs.declared.refusal.Refusal.TheVariants.{Outside, Refused, Limit}
+use Rattle.cmd_stages.specs.declared.refusal.Refusal.TheVariants.{Outside, Rejected, Limit}
 use Rattle.cmd_stages.specs.Refusal.{Stage, Found, Stopped, and_then, or_stop}
 
 -- what each name holds
@@ -20,7 +20,7 @@ fetch limit holds name =
 
 -- the configuration file is accepted
 abbrev pub config_stage : ℕ → Names → List ℕ → Stage Config
-config_stage limit holds name = and_then (fetch limit holds name) (λ octets. or_stop Refused (config_of octets))
+config_stage limit holds name = and_then (fetch limit holds name) (λ octets. or_stop Rejected (config_of octets))
 
 -- the file of this name has fewer octets than the limit, and is accepted as this configuration
 pub record HoldsConfig (limit : ℕ) (holds : Names) (name : List ℕ) (config : Config) : Type 0 where
@@ -31,7 +31,7 @@ pub record HoldsConfig (limit : ℕ) (holds : Names) (name : List ℕ) (config :
 
 -- the rules file is accepted beside this configuration
 abbrev pub rules_stage : Config → ℕ → Names → List ℕ → Stage Sending
-rules_stage config limit holds name = and_then (fetch limit holds name) (λ octets. or_stop Refused (rules_of config octets))
+rules_stage config limit holds name = and_then (fetch limit holds name) (λ octets. or_stop Rejected (rules_of config octets))
 
 -- the configuration is accepted, and the rules file beside it
 abbrev pub sending_stage : ℕ → Names → (config rules : List ℕ) → Stage (Config × Sending)

@@ -2,7 +2,7 @@
 -- needs, or ends the run with a refusal.
 use Rattle.std.specs.Prelude.{ℕ, Option, Some, None, Result, MatchResult, ◌≡◌, ◌⊎◌, ◌≢◌, List, [], Ok, Err}
 use Rattle.cmd_stages.specs.declared.refusal.Refusal.{Refusal}
-use Rattle.cmd_stages.specs.declared.refusal.Refusal.TheVariants.{Outside, Refused, Tape, Capture, Dump, Memory, Limit, Session}
+use Rattle.cmd_stages.specs.declared.refusal.Refusal.TheVariants.{Outside, Rejected, Tape, Capture, Dump, Memory, Limit, Session}
 use Rattle.fs_base.specs.Sink.{Grew, GrewPart}
 
 pub data Stage (A : Type 0) : Type 0 where
@@ -21,7 +21,7 @@ or_stop refusal None = Stopped refusal
 -- the status of each refusal
 abbrev pub status_of : Refusal → ℕ
 status_of Outside = 1
-status_of Refused = 3
+status_of Rejected = 3
 status_of (Tape reason place) = 4
 status_of Capture = 5
 status_of Dump = 10

@@ -93,7 +93,7 @@ fn load<F: Files>(
 /// # Errors
 ///
 /// `Outside` where the file isn't there or the files failed, `Limit` where it has at least `limit` octets,
-/// `Refused` where it isn't accepted, `Memory` where the machine refused memory.
+/// `Rejected` where it isn't accepted, `Memory` where the machine refused memory.
 pub fn load_config<F: Files>(
     alloc: Global,
     files: &mut F,
@@ -115,7 +115,7 @@ pub fn load_config<F: Files>(
     let octets = load(alloc, files, CONFIG_SLOT, name, limit)?;
     match fs_conf::read_config(alloc, &octets) {
         Ok(config) => Ok(config),
-        Err(ConfFault::Refused) => Err(Refusal::Refused),
+        Err(ConfFault::Refused) => Err(Refusal::Rejected),
         Err(ConfFault::Memory) => Err(Refusal::Memory),
     }
 }
@@ -148,7 +148,7 @@ pub fn load_rules<F: Files>(
     let octets = load(alloc, files, RULES_SLOT, name, limit)?;
     match fs_conf::read_rules(alloc, &octets, config) {
         Ok(sending) => Ok(sending),
-        Err(ConfFault::Refused) => Err(Refusal::Refused),
+        Err(ConfFault::Refused) => Err(Refusal::Rejected),
         Err(ConfFault::Memory) => Err(Refusal::Memory),
     }
 }

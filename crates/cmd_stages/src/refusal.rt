@@ -13,7 +13,7 @@ pub enum Refusal {
     /// A call on the outside failed, or a file that the words name isn't there.
     Outside,
     /// The configuration or the rules file isn't accepted.
-    Refused,
+    Rejected,
     /// The tape has a fault, at this place in it.
     Tape { reason: TapeReason, place: u64 },
     /// The capture has a fault.
@@ -37,7 +37,7 @@ impl Refusal {
     {
         match self {
             Refusal::Outside => status::OUTSIDE,
-            Refusal::Refused => status::FILES,
+            Refusal::Rejected => status::FILES,
             Refusal::Tape { .. } => status::TAPE,
             Refusal::Capture => status::CAPTURE,
             Refusal::Dump => status::DUMP,

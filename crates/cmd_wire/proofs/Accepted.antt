@@ -4,7 +4,7 @@ use Rattle.fs_base.specs.declared.config.Config.{Config}
 use Rattle.cmd_wire.proofs.Words.{CanArrive, Found, Names, Peer, Refusal, Sending, Stage, Stopped, and_then, config_stage, fetch, or_stop, rules_stage, sender_of, sending_stage}
 use Rattle.fs_conf.specs.Config.{config_of}
 use Rattle.fs_conf.specs.Rules.{rules_of}
-use Rattle.cmd_stages.specs.declared.refusal.Refusal.TheVariants.{Refused}
+use Rattle.cmd_stages.specs.declared.refusal.Refusal.TheVariants.{Rejected}
 use Rattle.cmd_wire.proofs.Arrivable.{can_arrive}
 use Rattle.cmd_wire.proofs.Statuses.{same_found}
 
@@ -30,15 +30,15 @@ accepted_files limit holds config rules accepted sending e =
     let first = then_found (config_stage limit holds config) (λ found. and_then (rules_stage found limit holds rules) (λ sent. Found (found, sent))) (accepted, sending) e in
     let second = then_found (rules_stage first.0 limit holds rules) (λ sent. Found (first.0, sent)) (accepted, sending) first.1.1 in
     let both : ◌≡◌ {A = Config × Sending} (first.0, second.0) (accepted, sending) = same_found second.1.1 in
-    let config_text = then_found (fetch limit holds config) (λ octets. or_stop Refused (config_of octets)) first.0 first.1.0 in
-    let rules_text = then_found (fetch limit holds rules) (λ octets. or_stop Refused (rules_of first.0 octets)) second.0 second.1.0 in
+    let config_text = then_found (fetch limit holds config) (λ octets. or_stop Rejected (config_of octets)) first.0 first.1.0 in
+    let rules_text = then_found (fetch limit holds rules) (λ octets. or_stop Rejected (rules_of first.0 octets)) second.0 second.1.0 in
     record {
       text = config_text.0;
       octets = rules_text.0;
-      config_is = some_found Refused (config_of config_text.0) first.0 config_text.1.1 ∙ ap (λ (p : Config × Sending). Some p.0) both;
+      config_is = some_found Rejected (config_of config_text.0) first.0 config_text.1.1 ∙ ap (λ (p : Config × Sending). Some p.0) both;
       rules_are =
           ap (λ (p : Config × Sending). rules_of p.0 rules_text.0) (sym both)
-          ∙ some_found Refused (rules_of first.0 rules_text.0) second.0 rules_text.1.1 ∙ ap (λ (p : Config × Sending). Some p.1) both;
+          ∙ some_found Rejected (rules_of first.0 rules_text.0) second.0 rules_text.1.1 ∙ ap (λ (p : Config × Sending). Some p.1) both;
     }
 
 -- what they say to announce can arrive

@@ -15,7 +15,7 @@ use Rattle.cmd_wire.proofs.FromStages.{told_through}
 use Rattle.fs_speaker.proofs.Lowest.{sender_told}
 use Rattle.cmd_wire.specs.Listening.{Begins}
 use Rattle.std.specs.Result.{IfErr, IsErrAnd}
-use Rattle.cmd_stages.specs.declared.refusal.Refusal.TheVariants.{Refused}
+use Rattle.cmd_stages.specs.declared.refusal.Refusal.TheVariants.{Rejected}
 
 -- neither is answered with 3
 not_three : (ending : Ending) (text : List ℕ) → (verdict_by ending text).status ≡ 3 → ⊥
@@ -127,7 +127,7 @@ both_begin config sending desk number heard teller started b made =
 
 -- a peer that rules may be sent for is there
 pub lowest_broken : {T : Type 0} (config : Config) (o : Option Peer) (sending : Sending) (r : Result T Refusal) (refusal : Refusal) → CanSend config o sending
-    → HasReason (and_then {B = Config × Peer} (or_stop Refused o) (λ peer. Found (config, peer))) ⊥ refusal → IsErrAnd r (λ e. e ≡ refusal) → IfErr r (IsBrokenOff ⊥)
+    → HasReason (and_then {B = Config × Peer} (or_stop Rejected o) (λ peer. Found (config, peer))) ⊥ refusal → IsErrAnd r (λ e. e ≡ refusal) → IfErr r (IsBrokenOff ⊥)
 lowest_broken config o sending (Ok t) refusal can reason e = tt
 lowest_broken config None sending (Err other) refusal can reason e = absurd can
 lowest_broken config (Some peer) sending (Err other) refusal can (inl h) e = absurd cc

@@ -11,7 +11,7 @@ use Rattle.fs_peering.proofs.WrittenInParts.{told_as}
 use Rattle.fs_peering.specs.declared.tell.Ending.TheVariants.{Closed as HasClosed}
 use Rattle.fs_peering.specs.Hearer.{HasClosed as ClosesOnce}
 use Rattle.fs_peering.specs.Listen.{EndsSo, Listens, ListensOver, ListensSo}
-use Rattle.cmd_stages.specs.declared.refusal.Refusal.TheVariants.{Refused}
+use Rattle.cmd_stages.specs.declared.refusal.Refusal.TheVariants.{Rejected}
 use Rattle.cmd_stages.proofs.Stages.{answers_for}
 use Rattle.fs_peering.proofs.Courses.{octets_more}
 use Rattle.cmd_wire.specs.Conversation.{Conversation}
@@ -147,7 +147,7 @@ pub hearing_found : (limit : ℕ) (holds : Names) (config : List ℕ) (accepted 
     → sender_of accepted.peers ≡ Some peer → hearing_stage limit holds config ≡ Found (accepted, peer)
 hearing_found limit holds config accepted peer e p =
     ap (λ (s : Stage Config). and_then s with_peer) e
-    ∙ ap (λ (o : Option Peer). and_then {B = Config × Peer} (or_stop Refused o) (λ peer. Found (accepted, peer))) p
+    ∙ ap (λ (o : Option Peer). and_then {B = Config × Peer} (or_stop Rejected o) (λ peer. Found (accepted, peer))) p
 
 -- the session ended
 pub session_heard : (limit : ℕ) (holds : Names) (config : List ℕ) (call : Happened) (talk : Conversation) (answer : ℕ) (accepted : Config) (peer : Peer) (desk : Desked) (ending : Ending)

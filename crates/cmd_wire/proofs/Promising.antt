@@ -9,7 +9,7 @@ use Rattle.fs_peering.specs.Opening.{opened_by}
 use Rattle.fs_peering.specs.Teller.{ClosesSo, HasExpired}
 use Rattle.fs_conf.specs.Config.{config_of}
 use Rattle.fs_conf.specs.Rules.{rules_of}
-use Rattle.cmd_stages.specs.declared.refusal.Refusal.TheVariants.{Refused}
+use Rattle.cmd_stages.specs.declared.refusal.Refusal.TheVariants.{Rejected}
 use Rattle.cmd_wire.specs.Announcing.{Announces, AnnouncesSo, Connected, Speaks, verdict_of}
 use Rattle.cmd_wire.specs.Conversation.{Conversation}
 use Rattle.cmd_wire.specs.Promised.{AnnouncePromises, EndsSo, HasAnnounceStatus, HasStatusBy, IsServed, Sent}
@@ -18,12 +18,12 @@ use Rattle.cmd_wire.specs.Lines.{sent_line}
 
 -- no refusal of the files' ends a run with status 8
 abbrev pub IsOfFiles : Refusal → Type 0
-IsOfFiles refusal = (refusal ≡ Outside) ⊎ ((refusal ≡ Limit) ⊎ (refusal ≡ Refused))
+IsOfFiles refusal = (refusal ≡ Outside) ⊎ ((refusal ≡ Limit) ⊎ (refusal ≡ Rejected))
 
 pub never_session : (refusal : Refusal) → IsOfFiles refusal → status_of refusal ≡ 8 → ⊥
 never_session refusal (inl e) h = let at : status_of Outside ≡ 8 = ap status_of (sym e) ∙ h in absurd cc
 never_session refusal (inr (inl e)) h = let at : status_of Limit ≡ 8 = ap status_of (sym e) ∙ h in absurd cc
-never_session refusal (inr (inr e)) h = let at : status_of Refused ≡ 8 = ap status_of (sym e) ∙ h in absurd cc
+never_session refusal (inr (inr e)) h = let at : status_of Rejected ≡ 8 = ap status_of (sym e) ∙ h in absurd cc
 
 same_stop : {A : Type 0} (one other : Refusal) → ◌≡◌ {A = Stage A} (Stopped one) (Stopped other) → other ≡ one
 same_stop one other e = cc
@@ -48,13 +48,13 @@ fetch_stops limit holds name refusal e =
 
 pub config_stops : (limit : ℕ) (holds : Names) (name : List ℕ) (refusal : Refusal) → config_stage limit holds name ≡ Stopped refusal → IsOfFiles refusal
 config_stops limit holds name refusal e =
-    then_stops (fetch limit holds name) (λ octets. or_stop Refused (config_of octets)) refusal e (fetch_stops limit holds name)
-    (λ octets h. inr (inr (or_stops Refused (config_of octets) refusal h)))
+    then_stops (fetch limit holds name) (λ octets. or_stop Rejected (config_of octets)) refusal e (fetch_stops limit holds name)
+    (λ octets h. inr (inr (or_stops Rejected (config_of octets) refusal h)))
 
 rules_stop : (config : Config) (limit : ℕ) (holds : Names) (name : List ℕ) (refusal : Refusal) → rules_stage config limit holds name ≡ Stopped refusal → IsOfFiles refusal
 rules_stop config limit holds name refusal e =
-    then_stops (fetch limit holds name) (λ octets. or_stop Refused (rules_of config octets)) refusal e (fetch_stops limit holds name)
-    (λ octets h. inr (inr (or_stops Refused (rules_of config octets) refusal h)))
+    then_stops (fetch limit holds name) (λ octets. or_stop Rejected (rules_of config octets)) refusal e (fetch_stops limit holds name)
+    (λ octets h. inr (inr (or_stops Rejected (rules_of config octets) refusal h)))
 
 abbrev with_config : Config → Sending → Stage (Config × Sending)
 with_config accepted sending = Found (accepted, sending)

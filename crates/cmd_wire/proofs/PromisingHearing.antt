@@ -7,7 +7,7 @@ use Rattle.fs_peering.specs.declared.tell.Ending.TheVariants.{Closed as HasClose
 use Rattle.fs_peering.specs.Hearer.{HasClosed as ClosesOnce}
 use Rattle.fs_peering.specs.Listen.{EndsSo, MeetsLimit}
 use Rattle.fs_peering.proofs.Phases.{closed_still, same_still}
-use Rattle.cmd_stages.specs.declared.refusal.Refusal.TheVariants.{Refused}
+use Rattle.cmd_stages.specs.declared.refusal.Refusal.TheVariants.{Rejected}
 use Rattle.cmd_wire.specs.Conversation.{Conversation}
 use Rattle.cmd_wire.specs.Listed.{verdict_by}
 use Rattle.cmd_wire.specs.Listening.{HasExpired, Heard, Hears, ListenedSo, ListensTo, hearing_stage, with_peer}
@@ -28,8 +28,8 @@ found_with accepted peer = Found (accepted, peer)
 hearing_stops : (limit : ℕ) (holds : Names) (config : List ℕ) (refusal : Refusal) → hearing_stage limit holds config ≡ Stopped refusal → IsOfFiles refusal
 hearing_stops limit holds config refusal e =
     then_stops (config_stage limit holds config) with_peer refusal e (config_stops limit holds config)
-    (λ accepted h. then_stops (or_stop Refused (sender_of accepted.peers)) (found_with accepted) refusal h
-    (λ other k. inr (inr (or_stops Refused (sender_of accepted.peers) other k)))
+    (λ accepted h. then_stops (or_stop Rejected (sender_of accepted.peers)) (found_with accepted) refusal h
+    (λ other k. inr (inr (or_stops Rejected (sender_of accepted.peers) other k)))
     (λ peer found. never_found accepted peer refusal found))
 
 -- the status
@@ -123,7 +123,7 @@ module _ (config : Config) (peer : Peer) (text : List ℕ) (limit : ℕ) (given 
 peer_found : (stage : Stage Config) (accepted : Config) (peer : Peer) → and_then stage with_peer ≡ Found (accepted, peer) → sender_of accepted.peers ≡ Some peer
 peer_found (Found config) accepted peer e = by (sender_of config.peers) refl e
   where
-    by : (o : Option Peer) → sender_of config.peers ≡ o → and_then {B = Config × Peer} (or_stop Refused o) (λ p. Found (config, p)) ≡ Found (accepted, peer) → sender_of accepted.peers ≡ Some peer
+    by : (o : Option Peer) → sender_of config.peers ≡ o → and_then {B = Config × Peer} (or_stop Rejected o) (λ p. Found (config, p)) ≡ Found (accepted, peer) → sender_of accepted.peers ≡ Some peer
     by None s f = absurd cc
     by (Some p) s f =
         let same : ◌≡◌ {A = Config × Peer} (config, p) (accepted, peer) = same_found f in

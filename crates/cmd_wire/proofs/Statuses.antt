@@ -2,7 +2,7 @@
 use Rattle.std.proofs.Common.{◌≡◌, ◌≢◌, ◌⊎◌, inl, inr, ◌∙◌, ℕ, List, arith, refl, sym, subst}
 use Rattle.cmd_wire.proofs.Words.{AtLimit, Capture, Done, Dump, Ended, Ending, FilesFailed, FilesStood, Found, Happened, Limit, Memory, Outside, Refusal, Rose, Session, SinkFailed, SinkStood, Stage, Stood, Stopped, Tape, WireFailed, WireStood, status_of}
 use Rattle.fs_peering.specs.declared.tell.Ending.TheVariants.{Closed}
-use Rattle.cmd_stages.specs.declared.refusal.Refusal.TheVariants.{Refused}
+use Rattle.cmd_stages.specs.declared.refusal.Refusal.TheVariants.{Rejected}
 use Rattle.cmd_wire.specs.Listed.{verdict_by}
 
 -- the status that is due, or want of memory, or a call outside that failed
@@ -16,7 +16,7 @@ Early stage failed answer = ((refusal : Refusal) × (stage ≡ Stopped refusal) 
 -- no refusal ends a run with status 0
 pub never_zero : (refusal : Refusal) → status_of refusal ≡ 0 → ⊥
 never_zero Outside e = absurd cc
-never_zero Refused e = absurd cc
+never_zero Rejected e = absurd cc
 never_zero (Tape reason place) e = absurd cc
 never_zero Capture e = absurd cc
 never_zero Dump e = absurd cc

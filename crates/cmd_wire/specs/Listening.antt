@@ -20,13 +20,13 @@ use Rattle.fs_peering.specs.Hearer.{Receives, tape_of, course_of}
 use Rattle.fs_peering.specs.Listen.{Listens, ListensSo}
 use Rattle.cmd_stages.specs.Load.{Names, config_stage}
 use Rattle.cmd_stages.specs.Refusal.{Answers, EndsEarly, Found, Stage, and_then, or_stop}
-use Rattle.cmd_stages.specs.declared.refusal.Refusal.TheVariants.{Refused}
+use Rattle.cmd_stages.specs.declared.refusal.Refusal.TheVariants.{Rejected}
 use Rattle.cmd_wire.specs.Conversation.{Conversation}
 use Rattle.cmd_wire.specs.Listed.{IsListing, verdict_by}
 
 -- The configuration is accepted, and this is its peer with the lowest number.
 abbrev pub with_peer : Config → Stage (Config × Peer)
-with_peer accepted = and_then (or_stop Refused (sender_of accepted.peers)) (λ peer. Found (accepted, peer))
+with_peer accepted = and_then (or_stop Rejected (sender_of accepted.peers)) (λ peer. Found (accepted, peer))
 
 abbrev pub hearing_stage : ℕ → Names → List ℕ → Stage (Config × Peer)
 hearing_stage limit holds config = and_then (config_stage limit holds config) with_peer

@@ -64,7 +64,7 @@ pub fn listen<F: Files, S: Sink, W: Wire, C: Clock>(
 ///
 /// # Errors
 ///
-/// `Refused` where the configuration has no peers; `Memory` where the machine refused memory.
+/// `Rejected` where the configuration has no peers; `Memory` where the machine refused memory.
 pub(crate) fn lowest<'a>(alloc: Global, config: &'a Config) -> Result<Hearer<'a>, Refusal>
     ensures begins { MatchResult result
         (λ made. Begins config.entry.now made.desk made.peer made.count)
@@ -73,7 +73,7 @@ pub(crate) fn lowest<'a>(alloc: Global, config: &'a Config) -> Result<Hearer<'a>
     ensures open { IfOk result (λ made. is_ended (standing_at_desk made.desk made.peer) ≡ false) }
 {
     let Some(peer) = sender(config) else {
-        return Err(Refusal::Refused);
+        return Err(Refusal::Rejected);
     };
     let hearer = Hearer::new(alloc, config, peer.number)?;
     Ok(hearer)

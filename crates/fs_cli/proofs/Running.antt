@@ -44,7 +44,7 @@ use Rattle.cmd_enforce.specs.Judge.{capture_stage, lines_from, output_of, rules_
 use Rattle.cmd_enforce.specs.Moments.{AnswersAt, HoldAt, verdict_at}
 use Rattle.cmd_stages.specs.Refusal.{Answers, answered, Stage, Found, Stopped, Verdict, and_then, or_stop, status_of}
 use Rattle.cmd_stages.specs.declared.refusal.Refusal.{Refusal}
-use Rattle.cmd_stages.specs.declared.refusal.Refusal.TheVariants.{Outside, Refused, Tape, Capture, Dump, Memory, Limit, Session}
+use Rattle.cmd_stages.specs.declared.refusal.Refusal.TheVariants.{Outside, Rejected, Tape, Capture, Dump, Memory, Limit, Session}
 use Rattle.cmd_wire.proofs.Statuses.{Caused, due_status, early_status, late_status, never_early, never_zero, not_rose, same_found}
 use Rattle.cmd_wire.proofs.Accepted.{some_found, then_found}
 
@@ -165,7 +165,7 @@ config_held limit holds name config found =
       octets = read.0;
       there = some_found Outside (holds name) fetched.0 fetched.1.0 ∙ ap Some within.1;
       within = below_limit limit (length read.0) (subst (λ (o : List ℕ). nat_le limit (length o) ≡ false) within.1 within.0);
-      accepted = some_found Refused (config_of read.0) config read.1.1;
+      accepted = some_found Rejected (config_of read.0) config read.1.1;
     }
 
 tape_held : (limit : ℕ) (holds : Names) (name : List ℕ) (config : Config) (items : List Timed) → tape_stage config limit holds name ≡ Found items → HoldsTape limit holds name config items
@@ -295,7 +295,7 @@ every = 0 ∷ 1 ∷ 3 ∷ 4 ∷ 5 ∷ 6 ∷ 7 ∷ 8 ∷ 10 ∷ []
 every_one : {T : Type 0} (r : Result T Refusal) → IsOneOf every (answered r)
 every_one (Ok t) = inl refl
 every_one (Err Outside) = inr (inl refl)
-every_one (Err Refused) = inr (inr (inl refl))
+every_one (Err Rejected) = inr (inr (inl refl))
 every_one (Err (Tape reason place)) = inr (inr (inr (inl refl)))
 every_one (Err Capture) = inr (inr (inr (inr (inl refl))))
 every_one (Err Memory) = inr (inr (inr (inr (inr (inl refl)))))

@@ -12,7 +12,7 @@ use Rattle.cmd_stages.specs.Play.{tape_stage, IsPlayed, untimed}
 use Rattle.cmd_stages.specs.Refusal.{answered, Answers, verdict_with, Stage, Found, and_then, status_of, HasReason}
 use Rattle.cmd_stages.specs.Writing.{Fails, Writes}
 use Rattle.cmd_stages.specs.declared.refusal.Refusal.{Refusal}
-use Rattle.cmd_stages.specs.declared.refusal.Refusal.TheVariants.{Outside, Refused, Tape, Capture, Dump, Memory, Limit, Session}
+use Rattle.cmd_stages.specs.declared.refusal.Refusal.TheVariants.{Outside, Rejected, Tape, Capture, Dump, Memory, Limit, Session}
 use Rattle.cmd_stages.proofs.Stages.{take_nothing, accepted_with}
 use Rattle.cmd_stages.proofs.Texts.{fails_for, said_by, said_partly, said_so, said_whole}
 use Rattle.fs_cli.specs.Survey.{Text, stopped_text, ListsSo, SaysOf}
@@ -20,7 +20,7 @@ use Rattle.fs_cli.specs.Survey.{Text, stopped_text, ListsSo, SaysOf}
 -- of no other fault than a tape's anything is said
 nothing_said : (refusal : Refusal) → status_of refusal ≢ 4 → stopped_text refusal ≡ []
 nothing_said Outside n = refl
-nothing_said Refused n = refl
+nothing_said Rejected n = refl
 nothing_said (Tape reason place) n = absurd (n refl)
 nothing_said Capture n = refl
 nothing_said Dump n = refl
