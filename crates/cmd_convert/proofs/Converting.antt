@@ -1,30 +1,9 @@
 -- A dump that is converted record by record: the texts that are written, in their parts, and what of all records they are.
-use Rattle.std.proofs.Common.{◌≡◌, ℕ, Bool, Option, Result, Ok, Err, OnOk, subst, true, false, List, [], ◌∷◌, ◌++◌, length, refl, ap, sym, ◌∙◌, append_assoc, append-nil, ◌⊎◌, inr, ◌≤◌, arith}
+use Rattle.cmd_convert.proofs.Words.{◌≡◌, ℕ, Bool, Option, Result, Ok, Err, OnOk, subst, true, false, List, [], ◌∷◌, ◌++◌, length, refl, ap, sym, ◌∙◌, append_assoc, append-nil, ◌⊎◌, inr, ◌≤◌, arith, big_bytes, Config, Sent, Goes, Stops, DumpState, coming, said_from, change, message, Spoken, What, item_text_at, record_text, item_text, tape_text, Item, came_up, received, Timed, timed, Two, greeting, Life, Lives, has_width, with_life, asn_of, ended, is_taken, made_by, opening, text_at, items_from, made, timed_at, flat_map, Rose, End, goes_then, goes_stops, stops_more, goes_as, stops_as, DumpReason, Refusal, Outside, magic_of, Breaks}
 use Rattle.std.proofs.lemmas.Grind.{flat_map-append}
-use Rattle.byteorder.specs.Endian.{big_bytes}
-use Rattle.fs_base.specs.declared.config.Config.{Config}
-use Rattle.fs_line.specs.Output.{Sent, Goes, Stops}
-use Rattle.fs_mrt.specs.Dump.{DumpState, coming, said_from}
-use Rattle.fs_mrt.specs.Record.{change, message, Spoken}
-use Rattle.fs_mrt.specs.declared.heard.What.{What}
 use Rattle.fs_mrt.specs.declared.heard.What.TheVariants.{Change}
-use Rattle.fs_tape.specs.Laws.{item_text_at, record_text, item_text, tape_text}
-use Rattle.fs_tape.specs.Tape.{Item, came_up, received, Timed, timed}
-use Rattle.fs_tape.specs.declared.magic.Version.TheVariants.{Two}
-use Rattle.cmd_convert.specs.Greeting.{greeting}
-use Rattle.cmd_convert.specs.Lives.{Life, Lives, has_width, with_life}
-use Rattle.cmd_convert.specs.Making.{asn_of, ended, is_taken, made_by, opening, text_at, items_from, made, timed_at}
-use Rattle.std.specs.Prelude.{flat_map}
 use Rattle.std.proofs.lemmas.List.Folds.{flat_map-map}
-use Rattle.fs_base.specs.Outside.{Rose}
 use Rattle.fs_base.specs.Parts.{with_part}
-use Rattle.fs_input.specs.Records.{End}
-use Rattle.fs_line.proofs.Outputs.{goes_then, goes_stops, stops_more, goes_as, stops_as}
-use Rattle.fs_mrt.specs.declared.fault.DumpReason.{DumpReason}
-use Rattle.cmd_stages.specs.declared.refusal.Refusal.{Refusal}
-use Rattle.cmd_stages.specs.declared.refusal.Refusal.TheVariants.{Outside}
-use Rattle.fs_tape.specs.Magic.{magic_of}
-use Rattle.cmd_convert.specs.Command.{Breaks}
 
 -- a head and its payload
 pub record_parts : (kind peer moment size : ℕ) (payload : List ℕ) → size ≡ length payload

@@ -1,27 +1,12 @@
 -- How the answer of `convert` follows from what its parts did.
-use Rattle.std.proofs.Common.{◌≡◌, ◌⊎◌, inl, inr, ◌≤◌, ◌∙◌, ◌++◌, ℕ, List, [], Option, Some, None, Result, Ok, Err, refl, ap, sym, subst}
+use Rattle.cmd_convert.proofs.Words.{◌≡◌, ◌⊎◌, inl, inr, ◌≤◌, ◌∙◌, ◌++◌, ℕ, List, [], Option, Some, None, Result, Ok, Err, refl, ap, sym, subst, Rose, Config, Goes, goes_flush, goes_flush_part, partly_flushed, DumpState, IsBegun, coming, heard_to_come, DumpReason, End, done, Refusal, Outside, answers_for, answers_memory, answers_outside, ends_early, outside_one, rose_earlier, rose_later, tape_text, Two, Life, lives_of, no_lives, items_from, Breaks, ConvertsSo, IsAtRecord, dump_stage, status_at, verdict_of}
 use Rattle.std.specs.Result.{MatchResult}
-use Rattle.fs_base.specs.Outside.{Rose}
 use Rattle.fs_base.specs.Sink.{Grew, GrewPart}
-use Rattle.fs_base.specs.declared.config.Config.{Config}
 use Rattle.fs_base.proofs.Grew.{Grew-refl, part_whole, part_none}
-use Rattle.fs_line.specs.Output.{Goes}
-use Rattle.fs_line.proofs.Outputs.{goes_flush, goes_flush_part, partly_flushed}
-use Rattle.fs_mrt.specs.Dump.{DumpState, IsBegun, coming, heard_to_come}
-use Rattle.fs_mrt.specs.declared.fault.DumpReason.{DumpReason}
-use Rattle.fs_input.specs.Records.{End, done}
 use Rattle.cmd_stages.specs.Load.{Names, config_stage}
 use Rattle.cmd_stages.specs.Refusal.{Answers, Found, HasReason, Stage, Verdict, answered, or_stop, status_of, verdict_with}
 use Rattle.cmd_stages.specs.Writing.{Finishes}
-use Rattle.cmd_stages.specs.declared.refusal.Refusal.{Refusal}
-use Rattle.cmd_stages.specs.declared.refusal.Refusal.TheVariants.{Outside}
 use Rattle.cmd_stages.proofs.Texts.{said_by, said_front}
-use Rattle.cmd_stages.proofs.Stages.{answers_for, answers_memory, answers_outside, ends_early, outside_one, rose_earlier, rose_later}
-use Rattle.fs_tape.specs.Laws.{tape_text}
-use Rattle.fs_tape.specs.declared.magic.Version.TheVariants.{Two}
-use Rattle.cmd_convert.specs.Lives.{Life, lives_of, no_lives}
-use Rattle.cmd_convert.specs.Making.{items_from}
-use Rattle.cmd_convert.specs.Command.{Breaks, ConvertsSo, IsAtRecord, dump_stage, status_at, verdict_of}
 
 -- before the dump is read
 

@@ -1,3 +1,4 @@
+mod Words
 pub mod Converting
 pub mod Ending
 pub mod Fitting

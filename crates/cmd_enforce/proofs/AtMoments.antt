@@ -1,33 +1,14 @@
 -- A capture that is judged packet by packet, each under the routes held at its moment.
-use Rattle.std.proofs.Common.{◌≡◌, ◌≢◌, ◌⊎◌, inl, inr, ◌≤◌, ◌<◌, ◌+◌, ◌^◌, ◌==◌, ℕ, List, [], ◌∷◌, ◌++◌, Bool, true, false, Option, Some, None, length, refl, ap, sym, ◌∙◌, subst, append_assoc, append-nil, length-append, arith}
+use Rattle.cmd_enforce.proofs.Words.{◌≡◌, ◌≢◌, ◌⊎◌, inl, inr, ◌≤◌, ◌<◌, ◌+◌, ◌^◌, ◌==◌, ℕ, List, [], ◌∷◌, ◌++◌, Bool, true, false, Option, Some, None, length, refl, ap, sym, ◌∙◌, subst, append_assoc, append-nil, length-append, arith, IsErrAnd, Rose, with_part, Config, End, done, Goes, Stops, goes_none, goes_then, goes_stops, goes_as, stops_as, Captured, CaptureState, Recorded, coming, packet_from, CaptureReason, Held, Item, Timed, Refusal, Outside, Memory, until, IsUnplayed, PlayerState, Stands, due_item, answered, status_of, rose_earlier, AdmittedRules, Ceases, IsAtPacket, admitted_rules, always, lines_from, output_of, packet_text, rules_by, status_at, BreaksBehind, BreaksOff, CameTo, Follows, HoldAt, IsUnjudged, Judging, LeaveSameAt, Outcome, Progress, came_lines, outcome, progress}
 use Rattle.std.specs.Option.{is_some}
 use Rattle.std.specs.Prelude.{IfSome, Result, Ok, Err, if◌then◌else◌}
-use Rattle.std.specs.Result.{IsErrAnd}
 use Rattle.std.proofs.lemmas.Bool.{eq-eqb, eqb-true}
 use Rattle.fs_base.proofs.Lists.{each_append}
-use Rattle.fs_base.specs.Outside.{Rose}
-use Rattle.fs_base.specs.Parts.{with_part}
-use Rattle.fs_base.specs.declared.config.Config.{Config}
-use Rattle.fs_input.specs.Records.{End, done}
 use Rattle.fs_desk.specs.Laws.{LeaveSame}
 use Rattle.fs_desk.specs.Leaves.{Leaves}
-use Rattle.fs_line.specs.Output.{Goes, Stops}
-use Rattle.fs_line.proofs.Outputs.{goes_none, goes_then, goes_stops, goes_as, stops_as}
-use Rattle.cmd_enforce.specs.Capture.{Captured, CaptureState, Recorded, coming, packet_from}
 use Rattle.cmd_enforce.specs.declared.caught.Caught.{Caught}
-use Rattle.cmd_enforce.specs.declared.fault.CaptureReason.{CaptureReason}
-use Rattle.fs_rules.specs.Table.{Held}
-use Rattle.fs_tape.specs.Tape.{Item, Timed}
-use Rattle.cmd_stages.specs.declared.refusal.Refusal.{Refusal}
-use Rattle.cmd_stages.specs.declared.refusal.Refusal.TheVariants.{Outside, Memory}
-use Rattle.cmd_stages.specs.Play.{until}
-use Rattle.cmd_stages.specs.Player.{IsUnplayed, PlayerState, Stands, due_item}
 use Rattle.fs_tape.specs.declared.item.TapeItem.{TapeItem}
-use Rattle.cmd_stages.specs.Refusal.{answered, status_of}
 use Rattle.cmd_stages.proofs.LookingAhead.{stands_later}
-use Rattle.cmd_stages.proofs.Stages.{rose_earlier}
-use Rattle.cmd_enforce.specs.Judge.{AdmittedRules, Ceases, IsAtPacket, admitted_rules, always, lines_from, output_of, packet_text, rules_by, status_at}
-use Rattle.cmd_enforce.specs.Moments.{BreaksBehind, BreaksOff, CameTo, Follows, HoldAt, IsUnjudged, Judging, LeaveSameAt, Outcome, Progress, came_lines, outcome, progress}
 
 -- tapes that leave the same routes leave one list of held routes
 abbrev pub OneList : Type 0

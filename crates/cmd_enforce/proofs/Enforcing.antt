@@ -1,32 +1,9 @@
 -- How the answer of `enforce` follows from those of its stages, and from what was judged at the packets' moments.
-use Rattle.std.proofs.Common.{◌≡◌, ◌≢◌, ◌⊎◌, inl, inr, ◌∙◌, ◌≤◌, ℕ, List, [], Option, Result, Ok, Err, refl, ap, sym, subst}
-use Rattle.std.specs.Result.{IsErrAnd}
-use Rattle.fs_base.specs.Sink.{Grew, GrewPart}
-use Rattle.fs_base.specs.declared.config.Config.{Config}
-use Rattle.fs_base.proofs.Grew.{Grew-refl, part_whole, part_none}
-use Rattle.fs_input.specs.Records.{End, done, limited, bad}
-use Rattle.fs_base.specs.Outside.{Rose}
-use Rattle.fs_line.specs.Output.{Goes, Partly}
-use Rattle.fs_line.proofs.Outputs.{partly_flushed, goes_flush, goes_flush_part}
-use Rattle.cmd_enforce.specs.Capture.{Captured, Recorded, recorded, CaptureState, coming}
-use Rattle.cmd_enforce.specs.declared.fault.CaptureReason.{CaptureReason}
-use Rattle.fs_rules.specs.Table.{Held}
-use Rattle.fs_tape.specs.Tape.{Timed}
-use Rattle.cmd_stages.specs.Refusal.{Stage, Found, Stopped, answered, status_of, and_then, HasReason}
-use Rattle.cmd_stages.specs.declared.refusal.Refusal.{Refusal}
-use Rattle.cmd_stages.specs.declared.refusal.Refusal.TheVariants.{Memory}
-use Rattle.cmd_stages.proofs.Stages.{answered_err, answers_for, outside_one, rose_earlier, rose_later, accepted_with, ends_early, reason_then}
+use Rattle.cmd_enforce.proofs.Words.{◌≡◌, ◌≢◌, ◌⊎◌, inl, inr, ◌∙◌, ◌≤◌, ℕ, List, [], Option, Result, Ok, Err, refl, ap, sym, subst, IsErrAnd, Grew, GrewPart, Config, Grew-refl, part_whole, part_none, End, done, limited, bad, Rose, Goes, Partly, partly_flushed, goes_flush, goes_flush_part, Captured, Recorded, recorded, CaptureState, coming, CaptureReason, Held, Timed, Stage, Found, Stopped, answered, status_of, and_then, HasReason, Refusal, Memory, answered_err, answers_for, outside_one, rose_earlier, rose_later, accepted_with, ends_early, reason_then, IsOfPackets, always, status_at, capture_stage, AnswersAt, CameTo, EndsBefore, IsUnjudged, Judged, Judging, Outcome, WroteJudged, came_lines, judging, packets_of, verdict_at, Desked, Played, EnforcesSo, Unfinished, Names, config_stage, HasVersion, HaveNoMoments, IsWhole, tape_stage, accepted_stage, untimed, PlayerState, Stands}
 use Rattle.cmd_stages.specs.Writing.{Finishes}
 use Rattle.cmd_stages.proofs.Texts.{said_by, said_front}
-use Rattle.cmd_enforce.specs.Judge.{IsOfPackets, always, status_at, capture_stage}
-use Rattle.cmd_enforce.specs.Moments.{AnswersAt, CameTo, EndsBefore, IsUnjudged, Judged, Judging, Outcome, WroteJudged, came_lines, judging, packets_of, verdict_at}
 use Rattle.fs_tape.specs.declared.magic.Version.{Version}
 use Rattle.fs_tape.specs.declared.magic.Version.TheVariants.{One, Two}
-use Rattle.fs_desk.specs.Desk.{Desked, Played}
-use Rattle.cmd_enforce.specs.Command.{EnforcesSo, Unfinished}
-use Rattle.cmd_stages.specs.Load.{Names, config_stage}
-use Rattle.cmd_stages.specs.Play.{HasVersion, HaveNoMoments, IsWhole, tape_stage, accepted_stage, untimed}
-use Rattle.cmd_stages.specs.Player.{PlayerState, Stands}
 
 -- of no packets there are no lines
 

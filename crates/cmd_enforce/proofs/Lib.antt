@@ -1,3 +1,4 @@
+mod Words
 pub mod Opened
 pub mod AtMoments
 pub mod Enforcing

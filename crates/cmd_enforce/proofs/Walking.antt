@@ -1,23 +1,12 @@
 -- How the walk goes on from one matching rule to the next.
-use Rattle.std.proofs.Common.{◌≡◌, ◌+◌, ◌<◌, ◌≤◌, ℕ, zero, suc, List, [], ◌∷◌, ◌++◌, Bool, true, false, Option, Some, None, IfSome, Ok, Err, if◌then◌else◌, length, drop, get_or, refl, ap, sym, subst, ◌∙◌, arith, append_assoc, append-nil}
-use Rattle.std.proofs.lemmas.List.{map-append, length-map}
+use Rattle.cmd_enforce.proofs.Words.{◌≡◌, ◌+◌, ◌<◌, ◌≤◌, ℕ, zero, suc, List, [], ◌∷◌, ◌++◌, Bool, true, false, Option, Some, None, IfSome, Ok, Err, if◌then◌else◌, length, drop, get_or, refl, ap, sym, subst, ◌∙◌, arith, append_assoc, append-nil, map-append, length-map, StandsForLists, WalksOn, admitted_in, AreMatchesOf, Matching, behind, Walked, entry_of, entries, Listed, Held, first_from, goes_on, walk_from, walk_of, line_of, unread_line_of, AdmittedRules, admitted_rules, packet_text, rules_for, seen_of, text_by, HasRoom, StandsFor, WalksWith}
 use Rattle.fs_base.specs.declared.prefix.Family.{Family}
 use Rattle.fs_base.specs.declared.link.Link.{Link}
 use Rattle.fs_compile.specs.Index.{actions_of}
-use Rattle.fs_compile.specs.Matcher.{StandsForLists, WalksOn, admitted_in}
-use Rattle.fs_compile.specs.Matches.{AreMatchesOf, Matching, behind}
 use Rattle.fs_compile.specs.declared.compiled.Compiled.{Compiled}
 use Rattle.fs_compile.proofs.Walking.{walks_by_next_law}
-use Rattle.fs_line.specs.declared.walked.Walked.{Walked}
-use Rattle.fs_line.specs.Walked.{entry_of, entries}
 use Rattle.fs_packet.specs.Fields.{Viewed, unread_number}
 use Rattle.fs_packet.specs.declared.fields.Unread.{Unread}
-use Rattle.fs_rules.specs.Lent.{Listed}
-use Rattle.fs_rules.specs.Table.{Held}
-use Rattle.fs_rules.specs.Walk.{first_from, goes_on, walk_from, walk_of}
-use Rattle.fs_line.specs.Line.{line_of, unread_line_of}
-use Rattle.cmd_enforce.specs.Judge.{AdmittedRules, admitted_rules, packet_text, rules_for, seen_of, text_by}
-use Rattle.cmd_enforce.specs.Matcher.{HasRoom, StandsFor, WalksWith}
 
 abbrev Walk : Type 0
 Walk = List (ℕ × List (List ℕ))

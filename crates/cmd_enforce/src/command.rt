@@ -7,8 +7,8 @@ ghost use Rattle.cmd_stages.specs.Play.{HasVersion};
 ghost use Rattle.cmd_stages.specs.Refusal.{answered};
 ghost use Rattle.fs_tape.specs.declared.magic.Version.TheVariants.{Two};
 
-use crate::packets::open_capture;
 use crate::judge::judge_capture;
+use crate::packets::open_capture;
 use cmd_stages::{Player, Refusal, load_config, play_whole};
 use fs_base::{Files, Sink};
 use fs_tape::Version;

@@ -1,17 +1,9 @@
 -- How `gen` counts.
-use Rattle.std.proofs.Common.{◌≡◌, ◌≤◌, ◌+◌, ◌∙◌, ℕ, suc, List, [], ◌∷◌, ◌++◌, Bool, true, false, cond, refl, ap, sym, subst, arith, length, append_assoc, append-nil}
+use Rattle.cmd_gen.proofs.Words.{◌≡◌, ◌≤◌, ◌+◌, ◌∙◌, ℕ, suc, List, [], ◌∷◌, ◌++◌, Bool, true, false, cond, refl, ap, sym, subst, arith, length, append_assoc, append-nil, Config, Desked, Played, behind_pair, behind_pairs, pair_behind, pair_of, packet_of, packets, packets_of_seed, peer_of, step_of, steps, update_of, Held, admitted, Item, received, dropped_of, gen_line, gen_text, one_if, passed_of, admitted_rules}
 use Rattle.std.specs.List.{count_by}
 use Rattle.std.proofs.lemmas.List.Sums.{sum_by_push}
-use Rattle.fs_base.specs.declared.config.Config.{Config}
-use Rattle.fs_desk.specs.Desk.{Desked, Played}
-use Rattle.cmd_gen.specs.Draws.{behind_pair, behind_pairs, pair_behind, pair_of}
-use Rattle.cmd_gen.specs.Generator.{packet_of, packets, packets_of_seed, peer_of, step_of, steps, update_of}
 use Rattle.cmd_gen.specs.declared.pair.Pair.{Pair}
 use Rattle.fs_base.specs.declared.prefix.Family.TheVariants.{V4}
-use Rattle.fs_rules.specs.Table.{Held, admitted}
-use Rattle.fs_tape.specs.Tape.{Item, received}
-use Rattle.cmd_gen.specs.Command.{dropped_of, gen_line, gen_text, one_if, passed_of}
-use Rattle.cmd_enforce.specs.Judge.{admitted_rules}
 
 -- one pair of draws more, and none
 

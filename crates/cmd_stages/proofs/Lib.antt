@@ -1,3 +1,4 @@
+mod Words
 pub mod LookingAhead
 pub mod Playing
 pub mod Stages

@@ -1,32 +1,14 @@
 -- A player that holds one item ahead.
-use Rattle.std.proofs.Common.{◌≡◌, inl, inr, ◌≤◌, ◌<◌, ◌-◌, ℕ, suc, List, [], ◌∷◌, ◌++◌, Bool, true, false, Option, Some, None, refl, ap, sym, ◌∙◌, subst, append_assoc, append-nil, arith, filter}
-use Rattle.std.specs.Prelude.{nat_le, if◌then◌else◌, option_map, Result, Ok, IfSome}
+use Rattle.cmd_stages.proofs.Words.{◌≡◌, inl, inr, ◌≤◌, ◌<◌, ◌-◌, ℕ, suc, List, [], ◌∷◌, ◌++◌, Bool, true, false, Option, Some, None, refl, ap, sym, ◌∙◌, subst, append_assoc, append-nil, arith, filter, nat_le, if◌then◌else◌, IfSome, each_append, each_weaker, filter-append, filter_all, filter_none, OnlySlot, Rose, with_part, End, done, limited, bad, Config, IsItem, Item, TapeState, Timed, coming, item_from, items_to_come, timed, version_of, TapeReason, Version, One, Two, Desked, Played, Plays, Leaves, Covers, Noted, Refusal, Names, Stage, Found, Stopped, HasReason, Gives, HasVersion, HaveNoMoments, IsOpened, played_to, tape_stage, until, untimed, IsReady, IsUnplayed, PlayerState, Stands, due_item, items_ahead, to_play}
+use Rattle.std.specs.Prelude.{option_map, Result, Ok}
 use Rattle.std.specs.Option.{is_some}
 use Rattle.std.specs.List.{AllByRecursion}
 use Rattle.std.proofs.lemmas.Bool.{le-leb, leb-false, leb-true, lt-leb}
-use Rattle.fs_base.proofs.Lists.{each_append, each_weaker, filter-append, filter_all, filter_none}
-use Rattle.fs_base.specs.Files.{OnlySlot}
-use Rattle.fs_base.specs.Outside.{Rose}
-use Rattle.fs_base.specs.Parts.{with_part}
-use Rattle.fs_input.specs.Records.{End, done, limited, bad}
-use Rattle.fs_base.specs.declared.config.Config.{Config}
 use Rattle.fs_tape.specs.Laws.{AreFrom}
-use Rattle.fs_tape.specs.Tape.{IsItem, Item, TapeState, Timed, coming, item_from, items_to_come, timed, version_of}
-use Rattle.fs_tape.specs.declared.fault.TapeReason.{TapeReason}
 use Rattle.fs_tape.specs.declared.item.TapeItem.{TapeItem}
-use Rattle.fs_tape.specs.declared.magic.Version.{Version}
-use Rattle.fs_tape.specs.declared.magic.Version.TheVariants.{One, Two}
 use Rattle.fs_tape.proofs.Rising.{moments_rise}
-use Rattle.fs_desk.specs.Desk.{Desked, Played, Plays}
-use Rattle.fs_desk.specs.Leaves.{Leaves}
 use Rattle.fs_desk.proofs.Leaves.{played_leaves}
-use Rattle.fs_rules.specs.Changes.{Covers, Noted}
 use Rattle.fs_rules.specs.Table.{Held}
-use Rattle.cmd_stages.specs.declared.refusal.Refusal.{Refusal}
-use Rattle.cmd_stages.specs.Load.{Names}
-use Rattle.cmd_stages.specs.Refusal.{Stage, Found, Stopped, HasReason}
-use Rattle.cmd_stages.specs.Play.{Gives, HasVersion, HaveNoMoments, IsOpened, played_to, tape_stage, until, untimed}
-use Rattle.cmd_stages.specs.Player.{IsReady, IsUnplayed, PlayerState, Stands, due_item, items_ahead, to_play}
 use Rattle.cmd_stages.proofs.Playing.{untimed_more}
 use Rattle.cmd_stages.proofs.Stages.{rose_earlier}
 

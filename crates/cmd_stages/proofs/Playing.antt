@@ -1,23 +1,6 @@
 -- A tape that is played item by item.
-use Rattle.std.proofs.Common.{◌≡◌, inl, inr, ◌≤◌, ℕ, List, [], ◌∷◌, ◌++◌, Option, Some, option_map, Result, Ok, Err, refl, ap, sym, ◌∙◌, subst, append_assoc, append-nil, drop}
-use Rattle.std.proofs.lemmas.List.{map-append}
-use Rattle.fs_base.proofs.Lists.{each_append}
-use Rattle.fs_base.specs.Outside.{Rose}
-use Rattle.fs_base.specs.Parts.{with_part}
-use Rattle.fs_input.specs.Records.{End, done}
-use Rattle.fs_base.specs.declared.config.Config.{Config}
-use Rattle.fs_tape.specs.Tape.{IsBegun, Item, TapeState, Timed, coming, items_to_come, tape_of, version_of}
-use Rattle.fs_tape.specs.declared.fault.TapeReason.{TapeReason}
-use Rattle.fs_tape.specs.Header.{IsTimed}
-use Rattle.fs_tape.specs.declared.magic.Version.{Version}
-use Rattle.fs_tape.specs.declared.magic.Version.TheVariants.{One, Two}
-use Rattle.cmd_stages.specs.declared.refusal.Refusal.{Refusal}
-use Rattle.cmd_stages.specs.declared.refusal.Refusal.TheVariants.{Outside}
-use Rattle.cmd_stages.specs.Refusal.{Stage, Found, Stopped, and_then, or_stop, HasReason}
-use Rattle.cmd_stages.specs.Load.{Names}
+use Rattle.cmd_stages.proofs.Words.{◌≡◌, inl, inr, ◌≤◌, ℕ, List, [], ◌∷◌, ◌++◌, Option, Some, option_map, Result, Ok, Err, refl, ap, sym, ◌∙◌, subst, append_assoc, append-nil, drop, map-append, each_append, Rose, with_part, End, done, Config, IsBegun, Item, TapeState, Timed, coming, items_to_come, tape_of, version_of, TapeReason, IsTimed, Version, One, Two, Refusal, Outside, Stage, Found, Stopped, and_then, or_stop, HasReason, Names, HasVersion, HaveNoMoments, IsOpened, IsWhole, PlaysOn, played_to, tape_stage, untimed, Desked, Played}
 use Rattle.cmd_stages.proofs.Stages.{rose_earlier}
-use Rattle.cmd_stages.specs.Play.{HasVersion, HaveNoMoments, IsOpened, IsWhole, PlaysOn, played_to, tape_stage, untimed}
-use Rattle.fs_desk.specs.Desk.{Desked, Played}
 
 -- of all items some were played, and the rest is to come
 pub record Playing (config : Config) (version : Version) (all rest : List Timed × End TapeReason) (old now : Desked) : Type 0 where

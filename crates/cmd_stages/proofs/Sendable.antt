@@ -1,8 +1,7 @@
 -- What a rules file gives may be sent for the peer with the lowest number.
-use Rattle.std.proofs.Common.{◌≡◌, ℕ, List, Bool, true, false, if◌then◌else◌, Option, Some, None, IsTrue, refl, subst}
-use Rattle.std.specs.Prelude.{codes, option_and_then}
+use Rattle.std.proofs.Common.{if◌then◌else◌}
+use Rattle.cmd_stages.proofs.Words.{◌≡◌, ℕ, List, Bool, true, false, Option, Some, None, IsTrue, refl, subst, codes, option_and_then, Config}
 use Rattle.toml.specs.Data.{Members, get_member}
-use Rattle.fs_base.specs.declared.config.Config.{Config}
 use Rattle.fs_base.specs.declared.config.Peer.{Peer}
 use Rattle.fs_speaker.specs.Announcer.{CanSend}
 use Rattle.fs_speaker.specs.Sending.{is_sending, sender_of}

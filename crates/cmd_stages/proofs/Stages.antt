@@ -1,16 +1,7 @@
 -- How the answer of a run follows from those of its stages.
-use Rattle.std.proofs.Common.{◌≡◌, ◌⊎◌, inl, inr, ◌≤◌, arith, ◌∙◌, ℕ, List, [], Option, Result, Ok, Err, take, refl, ap, sym, subst}
+use Rattle.cmd_stages.proofs.Words.{◌≡◌, ◌⊎◌, inl, inr, ◌≤◌, arith, ◌∙◌, ℕ, List, [], Option, Result, Ok, Err, take, refl, ap, sym, subst, Rose, Config, Grew-refl, part_none, Names, config_stage, tape_stage, accepted_stage, Verdict, answered, Answers, EndsEarly, Stage, Found, and_then, status_of, HasReason, Finishes, Refusal, Outside, Memory}
 use Rattle.std.specs.Result.{IsErrAnd, MatchResult}
 use Rattle.std.proofs.lemmas.Grind.{common_steps}
-use Rattle.fs_base.specs.Outside.{Rose}
-use Rattle.fs_base.specs.declared.config.Config.{Config}
-use Rattle.fs_base.proofs.Grew.{Grew-refl, part_none}
-use Rattle.cmd_stages.specs.Load.{Names, config_stage}
-use Rattle.cmd_stages.specs.Play.{tape_stage, accepted_stage}
-use Rattle.cmd_stages.specs.Refusal.{Verdict, answered, Answers, EndsEarly, Stage, Found, and_then, status_of, HasReason}
-use Rattle.cmd_stages.specs.Writing.{Finishes}
-use Rattle.cmd_stages.specs.declared.refusal.Refusal.{Refusal}
-use Rattle.cmd_stages.specs.declared.refusal.Refusal.TheVariants.{Outside, Memory}
 
 -- a stage that ends the run ends it for all that would follow
 pub reason_then : {A B : Type 0} (stage : Stage A) (next : A → Stage B) (failed : Type 0) (refusal : Refusal)

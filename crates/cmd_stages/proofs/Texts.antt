@@ -1,10 +1,6 @@
 -- What becomes of a text that is written in one piece, as the answer of a run.
-use Rattle.std.proofs.Common.{◌≡◌, ◌⊎◌, inl, inr, ℕ, List, Option, Result, Ok, Err, refl, ap}
+use Rattle.cmd_stages.proofs.Words.{◌≡◌, ◌⊎◌, inl, inr, ℕ, List, Option, Result, Ok, Err, refl, ap, part_whole, part_none, Answers, answered, status_of, verdict_with, Fails, Writes, Refusal}
 use Rattle.fs_base.specs.Sink.{Grew, GrewPart}
-use Rattle.fs_base.proofs.Grew.{part_whole, part_none}
-use Rattle.cmd_stages.specs.Refusal.{Answers, answered, status_of, verdict_with}
-use Rattle.cmd_stages.specs.Writing.{Fails, Writes}
-use Rattle.cmd_stages.specs.declared.refusal.Refusal.{Refusal}
 
 -- the whole text stands
 pub said_by : (status : ℕ) (text : List ℕ) (failed : Type 0) (before now : Option (List ℕ)) (answer : ℕ)

@@ -1,10 +1,5 @@
 -- What the files of an accepted configuration and its rules hold.
-use Rattle.std.proofs.Common.{◌≡◌, ℕ, ◌<◌, List, Option, Some, None, refl, ap, sym, ◌∙◌}
-use Rattle.fs_base.specs.declared.config.Config.{Config}
-use Rattle.cmd_wire.proofs.Words.{CanArrive, Found, Names, Peer, Refusal, Sending, Stage, Stopped, and_then, config_stage, fetch, or_stop, rules_stage, sender_of, sending_stage}
-use Rattle.fs_conf.specs.Config.{config_of}
-use Rattle.fs_conf.specs.Rules.{rules_of}
-use Rattle.cmd_stages.specs.declared.refusal.Refusal.TheVariants.{Rejected}
+use Rattle.cmd_wire.proofs.Words.{CanArrive, Found, Names, Peer, Refusal, Sending, Stage, Stopped, and_then, config_stage, fetch, or_stop, rules_stage, sender_of, sending_stage, ◌≡◌, ℕ, ◌<◌, List, Option, Some, None, refl, ap, sym, ◌∙◌, Config, config_of, rules_of, Rejected}
 use Rattle.cmd_wire.proofs.Arrivable.{can_arrive}
 use Rattle.cmd_wire.proofs.Statuses.{same_found}
 

@@ -1,14 +1,10 @@
 -- What accepted files say to announce can arrive at the other end.
-use Rattle.std.proofs.Common.{◌≡◌, true}
+use Rattle.cmd_wire.proofs.Words.{is_lowest, is_short, terms_of, ◌≡◌, true, HasPeerNumbers, accepts_numbers, found_each}
 use Rattle.fs_base.proofs.Lists.{each_both}
 use Rattle.fs_speaker.specs.declared.Sent.{Sent}
 use Rattle.fs_speaker.specs.Laws.{ComesBack, IsSent}
-use Rattle.cmd_wire.proofs.Words.{is_lowest, is_short, terms_of}
 use Rattle.fs_speaker.proofs.Returning.{comes_back}
-use Rattle.fs_conf.specs.Laws.{HasPeerNumbers}
-use Rattle.fs_conf.proofs.Accepted.{accepts_numbers}
 use Rattle.fs_conf.proofs.Announced.{accepts_rules}
-use Rattle.fs_conf.proofs.Found.{found_each}
 use Rattle.cmd_wire.specs.Laws.{AcceptedArrive}
 
 pub can_arrive : AcceptedArrive

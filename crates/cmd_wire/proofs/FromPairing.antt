@@ -1,21 +1,7 @@
 -- How what `pair` answers follows from its stages.
-use Rattle.std.proofs.Common.{◌≡◌, ◌⊎◌, inl, inr, ◌∙◌, ℕ, List, ◌++◌, Bool, false, Option, Some, None, IfSome, Result, Ok, Err, refl, ap, sym, subst}
-use Rattle.cmd_wire.proofs.Words.{Announcing, Arrives, AtLimit, CanSend, Desked, Done, EndCloses, Ended, Ending, FilesFailed, Found, Happened, HasReason, Names, Pairs, PairsOver, PairsSo, Peer, Played, Refusal, Sending, SinkFailed, Told, WireEnds, WireFailed, and_then, announcing, begins_with, joined_end, octets_in, or_stop, peer_of, sender_of, sending_stage, tape_of}
-use Rattle.fs_base.specs.declared.config.Config.{Config}
-use Rattle.fs_speaker.specs.Line.{fresh}
-use Rattle.fs_peering.specs.Joined.{AreJoined, of_first, of_second}
-use Rattle.fs_desk.proofs.Leaves.{played_leaves}
+use Rattle.cmd_wire.proofs.Words.{Announcing, Arrives, AtLimit, CanSend, Desked, Done, EndCloses, Ended, Ending, FilesFailed, Found, Happened, HasReason, Names, Pairs, PairsOver, PairsSo, Peer, Played, Refusal, Sending, SinkFailed, Told, WireEnds, WireFailed, and_then, announcing, begins_with, joined_end, octets_in, or_stop, peer_of, sender_of, sending_stage, tape_of, ◌≡◌, ◌⊎◌, inl, inr, ◌∙◌, ℕ, List, ◌++◌, Bool, false, Option, Some, None, IfSome, Result, Ok, Err, refl, ap, sym, subst, Config, fresh, AreJoined, of_first, of_second, played_leaves, answers_for, IsBrokenOff, Conversation, IsListing, ListsDesk, TellsListing, verdict_by, BothBegin, Joined, Joins, Meets, sender_told, Begins, IfErr, IsErrAnd, Rejected}
 use Rattle.fs_peering.specs.declared.tell.Ending.TheVariants.{Closed as HasClosed}
-use Rattle.cmd_stages.proofs.Stages.{answers_for}
-use Rattle.cmd_wire.specs.Announcing.{IsBrokenOff}
-use Rattle.cmd_wire.specs.Conversation.{Conversation}
-use Rattle.cmd_wire.specs.Listed.{IsListing, ListsDesk, TellsListing, verdict_by}
-use Rattle.cmd_wire.specs.Pairing.{BothBegin, Joined, Joins, Meets}
 use Rattle.cmd_wire.proofs.FromStages.{told_through}
-use Rattle.fs_speaker.proofs.Lowest.{sender_told}
-use Rattle.cmd_wire.specs.Listening.{Begins}
-use Rattle.std.specs.Result.{IfErr, IsErrAnd}
-use Rattle.cmd_stages.specs.declared.refusal.Refusal.TheVariants.{Rejected}
 
 -- neither is answered with 3
 not_three : (ending : Ending) (text : List ℕ) → (verdict_by ending text).status ≡ 3 → ⊥

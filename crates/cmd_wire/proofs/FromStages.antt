@@ -1,19 +1,7 @@
 -- How what `announce` answers follows from its stages.
-use Rattle.std.proofs.Common.{◌≡◌, inl, inr, ◌<◌, ◌∙◌, ℕ, ◌+◌, List, [], ◌++◌, length, nat_le, Bool, true, false, if◌then◌else◌, Option, Some, None, IfSome, Result, append-nil, arith, refl, ap, sym, subst}
-use Rattle.cmd_wire.proofs.Words.{Announcing, AtLimit, CanSend, Done, EndCloses, Ended, Ending, EndsBefore, EndsEarly, Found, HasReason, Machine, MetLimit, Names, Peer, Phase, Pieces, Refusal, SaidAll, Sending, Stage, Tells, TellsOver, TellsSo, Told, WireEnds, and_then, announcing, answered, at_start, begins_with, config_stage, is_established, moments_in, needs_of, octets_in, opened_end, rules_stage, sender_of, sending_stage, status_of, still}
-use Rattle.fs_base.specs.declared.config.Config.{Config}
-use Rattle.fs_base.proofs.NumberTests.{le_false, le_true}
-use Rattle.fs_speaker.specs.declared.Closed.{Closed}
-use Rattle.fs_speaker.specs.Line.{fresh}
-use Rattle.fs_speaker.specs.Side.{announcer}
-use Rattle.fs_peering.proofs.WrittenInParts.{told_and}
+use Rattle.cmd_wire.proofs.Words.{Announcing, AtLimit, CanSend, Done, EndCloses, Ended, Ending, EndsBefore, EndsEarly, Found, HasReason, Machine, MetLimit, Names, Peer, Phase, Pieces, Refusal, SaidAll, Sending, Stage, Tells, TellsOver, TellsSo, Told, WireEnds, and_then, announcing, answered, at_start, begins_with, config_stage, is_established, moments_in, needs_of, octets_in, opened_end, rules_stage, sender_of, sending_stage, status_of, still, ◌≡◌, inl, inr, ◌<◌, ◌∙◌, ℕ, ◌+◌, List, [], ◌++◌, length, nat_le, Bool, true, false, if◌then◌else◌, Option, Some, None, IfSome, Result, append-nil, arith, refl, ap, sym, subst, Config, le_false, le_true, Closed, fresh, announcer, told_and, opened_by, ClosesSo, IsErrAnd, answered_err, ends_early, reason_then, Connected, IsBrokenOff, IsDue, IsOfSession, Speaks, Conversation}
 use Rattle.fs_peering.specs.declared.tell.Ending.TheVariants.{Closed as HasClosed}
-use Rattle.fs_peering.specs.Opening.{opened_by}
-use Rattle.fs_peering.specs.Teller.{ClosesSo}
-use Rattle.std.specs.Result.{IsErrAnd}
-use Rattle.cmd_stages.proofs.Stages.{answered_err, ends_early, reason_then}
-use Rattle.cmd_wire.specs.Announcing.{Connected, IsBrokenOff, IsDue, IsOfSession, Speaks, ending_by, ending_of}
-use Rattle.cmd_wire.specs.Conversation.{Conversation}
+use Rattle.cmd_wire.specs.Announcing.{ending_by, ending_of}
 
 -- the end that is due
 

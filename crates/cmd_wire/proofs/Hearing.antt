@@ -1,23 +1,8 @@
 -- How what `listen` answers follows from its stages.
-use Rattle.std.proofs.Common.{◌≡◌, ◌⊎◌, inl, inr, ◌∙◌, ℕ, List, [], ◌∷◌, ◌++◌, length, nat_le, Bool, true, false, if◌then◌else◌, Option, Some, None, append-nil, refl, ap, sym, subst}
-use Rattle.std.proofs.lemmas.Option.{same_Some}
-use Rattle.cmd_wire.proofs.Words.{AtLimit, ClosesIn, Desked, Done, EndCloses, Ended, Ending, ExpiresAt, FilesFailed, Found, Happened, Last, Names, Peer, Phase, Pieces, Played, SinkFailed, Stage, Told, WireEnds, WireFailed, and_then, at_start, bounded_from, bounded_session, closed, config_stage, is_established, octets_in, or_stop, peer_of, sender_of, still, tape_of}
-use Rattle.fs_base.specs.declared.config.Config.{Config}
-use Rattle.fs_base.proofs.NumberTests.{le_false, le_true}
-use Rattle.fs_attrs.specs.declared.update.Update.{Update}
-use Rattle.fs_speaker.specs.declared.Closed.{Closed}
-use Rattle.fs_desk.proofs.Leaves.{played_leaves}
-use Rattle.fs_peering.proofs.WrittenInParts.{told_as}
+use Rattle.cmd_wire.proofs.Words.{AtLimit, ClosesIn, Desked, Done, EndCloses, Ended, Ending, ExpiresAt, FilesFailed, Found, Happened, Last, Names, Peer, Phase, Pieces, Played, SinkFailed, Stage, Told, WireEnds, WireFailed, and_then, at_start, bounded_from, bounded_session, closed, config_stage, is_established, octets_in, or_stop, peer_of, sender_of, still, tape_of, ◌≡◌, ◌⊎◌, inl, inr, ◌∙◌, ℕ, List, [], ◌∷◌, ◌++◌, length, nat_le, Bool, true, false, if◌then◌else◌, Option, Some, None, append-nil, refl, ap, sym, subst, same_Some, Config, le_false, le_true, Update, Closed, played_leaves, told_as, EndsSo, Listens, ListensOver, ListensSo, Rejected, answers_for, Conversation, Begins, HasExpired, Heard, Hears, IsHeard, ListensThrough, ListensTo, ending_by, ending_of, hearing_stage, listening, with_peer, ListsDesk, TellsListing, verdict_by, sender_told}
 use Rattle.fs_peering.specs.declared.tell.Ending.TheVariants.{Closed as HasClosed}
 use Rattle.fs_peering.specs.Hearer.{HasClosed as ClosesOnce}
-use Rattle.fs_peering.specs.Listen.{EndsSo, Listens, ListensOver, ListensSo}
-use Rattle.cmd_stages.specs.declared.refusal.Refusal.TheVariants.{Rejected}
-use Rattle.cmd_stages.proofs.Stages.{answers_for}
 use Rattle.fs_peering.proofs.Courses.{octets_more}
-use Rattle.cmd_wire.specs.Conversation.{Conversation}
-use Rattle.cmd_wire.specs.Listening.{Begins, HasExpired, Heard, Hears, IsHeard, ListensThrough, ListensTo, ending_by, ending_of, hearing_stage, listening, with_peer}
-use Rattle.cmd_wire.specs.Listed.{ListsDesk, TellsListing, verdict_by}
-use Rattle.fs_speaker.proofs.Lowest.{sender_told}
 use Rattle.cmd_wire.proofs.FromStages.{told_through}
 
 pub closes_behind : (config : Config) (peer : Peer) (heard earlier : Pieces) (moment : ℕ) (piece said more : List ℕ) (why : Closed)

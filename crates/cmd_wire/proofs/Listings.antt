@@ -1,12 +1,8 @@
 -- A listing that was written in one piece, as the answer of a run.
-use Rattle.std.proofs.Common.{◌≡◌, ◌∙◌, inr, ℕ, List, Option, Result, Ok, Err}
-use Rattle.fs_base.specs.declared.config.Config.{Config}
+use Rattle.cmd_wire.proofs.Words.{Answers, Desked, Done, Played, Refusal, answered, verdict_with, ◌≡◌, ◌∙◌, inr, ℕ, List, Option, Result, Ok, Err, Config, said_partly, said_whole, TellsListing}
 use Rattle.fs_tape.specs.Tape.{Item}
-use Rattle.cmd_wire.proofs.Words.{Answers, Desked, Done, Played, Refusal, answered, verdict_with}
 use Rattle.fs_reports.specs.Listing.{listing}
 use Rattle.cmd_stages.specs.Writing.{Writes}
-use Rattle.cmd_stages.proofs.Texts.{said_partly, said_whole}
-use Rattle.cmd_wire.specs.Listed.{TellsListing}
 
 pub told_listing : {T : Type 0} (desk : Desked) (text written : List ℕ) (failed : Type 0) (before now : Option (List ℕ)) (result : Result T Refusal)
     → written ≡ text → ((config : Config) (items : List Item) → Played config items desk → text ≡ listing config items desk.held)

@@ -1,14 +1,6 @@
 -- An announcing end that the other end stayed open for named an identifier other than 0.0.0.0.
-use Rattle.std.proofs.Common.{◌≡◌, ℕ, zero, suc, ◌<◌, List, [], Option, None, Some, refl, ap, sym, ◌∙◌, arith}
-use Rattle.cmd_wire.proofs.Words.{Arrives, CanArrive, Desked, Found, IsUnnamed, Last, Names, Peer, Pieces, Sending, at_start, bounded, bounded_from, bounded_session, closed, is_lowest, octets_in, peer_of, sender_of, sending_stage, session_from, still}
-use Rattle.fs_base.specs.declared.config.Config.{Config}
-use Rattle.fs_attrs.specs.declared.update.Update.{Update}
-use Rattle.fs_conf.specs.Laws.{HasPeerNumbers}
-use Rattle.fs_conf.proofs.Accepted.{accepts_numbers}
-use Rattle.fs_conf.proofs.Found.{found_each}
+use Rattle.cmd_wire.proofs.Words.{Arrives, CanArrive, Desked, Found, IsUnnamed, Last, Names, Peer, Pieces, Sending, at_start, bounded, bounded_from, bounded_session, closed, is_lowest, octets_in, peer_of, sender_of, sending_stage, session_from, still, ◌≡◌, ℕ, zero, suc, ◌<◌, List, [], Option, None, Some, refl, ap, sym, ◌∙◌, arith, Config, Update, HasPeerNumbers, accepts_numbers, found_each, closed_still, sender_told}
 use Rattle.fs_speaker.specs.declared.Closed.TheVariants.{Fault}
-use Rattle.fs_peering.proofs.Phases.{closed_still}
-use Rattle.fs_speaker.proofs.Lowest.{sender_told}
 use Rattle.fs_speaker.proofs.Unnamed.{refused}
 use Rattle.cmd_wire.proofs.Accepted.{accepted_files, arrivable}
 

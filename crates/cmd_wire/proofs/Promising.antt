@@ -1,18 +1,8 @@
 -- What the clauses of a run of `announce` say follows from what it does.
-use Rattle.std.proofs.Common.{◌≡◌, ◌⊎◌, inl, inr, ◌<◌, ◌≤◌, ◌∙◌, ℕ, ◌+◌, List, [], ◌++◌, length, nat_le, Bool, true, false, if◌then◌else◌, Option, Some, None, append-nil, append_assoc, arith, refl, ap, sym, subst, length-append, true≢false}
-use Rattle.cmd_wire.proofs.Words.{AtLimit, Done, Ended, Ending, EndsBefore, FilesFailed, FilesStood, Found, Grew, Happened, Last, Limit, Machine, MetLimit, Names, Outside, Peer, Phase, Refusal, Sending, SinkFailed, SinkStood, Stage, Stopped, Told, WireEnds, WireFailed, WireStood, and_then, at_start, closed, config_stage, fetch, is_established, moments_in, needs_of, octets_in, or_stop, rules_stage, sending_stage, status_of, still}
-use Rattle.fs_base.specs.declared.config.Config.{Config}
-use Rattle.fs_speaker.specs.declared.Closed.{Closed}
-use Rattle.fs_speaker.specs.Side.{announcer}
+use Rattle.cmd_wire.proofs.Words.{AtLimit, Done, Ended, Ending, EndsBefore, FilesFailed, FilesStood, Found, Grew, Happened, Last, Limit, Machine, MetLimit, Names, Outside, Peer, Phase, Refusal, Sending, SinkFailed, SinkStood, Stage, Stopped, Told, WireEnds, WireFailed, WireStood, and_then, at_start, closed, config_stage, fetch, is_established, moments_in, needs_of, octets_in, or_stop, rules_stage, sending_stage, status_of, still, ◌≡◌, ◌⊎◌, inl, inr, ◌<◌, ◌≤◌, ◌∙◌, ℕ, ◌+◌, List, [], ◌++◌, length, nat_le, Bool, true, false, if◌then◌else◌, Option, Some, None, append-nil, append_assoc, arith, refl, ap, sym, subst, length-append, true≢false, Config, Closed, announcer, opened_by, ClosesSo, config_of, rules_of, Rejected, Announces, AnnouncesSo, Connected, Speaks, verdict_of, Conversation, AnnouncePromises, HasAnnounceStatus, HasStatusBy, IsServed, Sent}
 use Rattle.fs_peering.specs.declared.tell.Ending.TheVariants.{Closed as HasClosed}
-use Rattle.fs_peering.specs.Opening.{opened_by}
-use Rattle.fs_peering.specs.Teller.{ClosesSo, HasExpired}
-use Rattle.fs_conf.specs.Config.{config_of}
-use Rattle.fs_conf.specs.Rules.{rules_of}
-use Rattle.cmd_stages.specs.declared.refusal.Refusal.TheVariants.{Rejected}
-use Rattle.cmd_wire.specs.Announcing.{Announces, AnnouncesSo, Connected, Speaks, verdict_of}
-use Rattle.cmd_wire.specs.Conversation.{Conversation}
-use Rattle.cmd_wire.specs.Promised.{AnnouncePromises, EndsSo, HasAnnounceStatus, HasStatusBy, IsServed, Sent}
+use Rattle.fs_peering.specs.Teller.{HasExpired}
+use Rattle.cmd_wire.specs.Promised.{EndsSo}
 use Rattle.cmd_wire.proofs.Statuses.{differs, due_status, early_status, late_status, never_early, never_zero, none_failed, only_done, same_found, served_early, served_late}
 use Rattle.cmd_wire.specs.Lines.{sent_line}
 

@@ -1,21 +1,11 @@
 -- What the clauses of a run of `listen` say follows from what it does.
-use Rattle.std.proofs.Common.{◌≡◌, ◌⊎◌, inl, inr, ◌<◌, ◌≤◌, ◌∙◌, ℕ, ◌+◌, List, ◌++◌, length, true, false, Option, Some, None, append-nil, arith, refl, ap, sym, subst, length-append, true≢false}
-use Rattle.cmd_wire.proofs.Words.{AtLimit, ClosesIn, Done, Ended, Ending, ExpiresAt, FilesFailed, FilesStood, Found, Grew, Happened, Names, Peer, Phase, Pieces, Refusal, SinkFailed, SinkStood, Stage, Stopped, Told, WireEnds, WireFailed, WireStood, and_then, bounded_from, bounded_session, closed, config_stage, is_established, moments_in, octets_in, or_stop, peer_of, sender_of, still}
-use Rattle.fs_base.specs.declared.config.Config.{Config}
-use Rattle.fs_speaker.specs.declared.Closed.{Closed}
+use Rattle.cmd_wire.proofs.Words.{AtLimit, ClosesIn, Done, Ended, Ending, ExpiresAt, FilesFailed, FilesStood, Found, Grew, Happened, Names, Peer, Phase, Pieces, Refusal, SinkFailed, SinkStood, Stage, Stopped, Told, WireEnds, WireFailed, WireStood, and_then, bounded_from, bounded_session, closed, config_stage, is_established, moments_in, octets_in, or_stop, peer_of, sender_of, still, ◌≡◌, ◌⊎◌, inl, inr, ◌<◌, ◌≤◌, ◌∙◌, ℕ, ◌+◌, List, ◌++◌, length, true, false, Option, Some, None, append-nil, arith, refl, ap, sym, subst, length-append, true≢false, Config, Closed, EndsSo, MeetsLimit, closed_still, same_still, Rejected, Conversation, verdict_by, HasExpired, Heard, Hears, ListenedSo, ListensTo, hearing_stage, with_peer, sender_told}
 use Rattle.fs_peering.specs.declared.tell.Ending.TheVariants.{Closed as HasClosed}
 use Rattle.fs_peering.specs.Hearer.{HasClosed as ClosesOnce}
-use Rattle.fs_peering.specs.Listen.{EndsSo, MeetsLimit}
-use Rattle.fs_peering.proofs.Phases.{closed_still, same_still}
-use Rattle.cmd_stages.specs.declared.refusal.Refusal.TheVariants.{Rejected}
-use Rattle.cmd_wire.specs.Conversation.{Conversation}
-use Rattle.cmd_wire.specs.Listed.{verdict_by}
-use Rattle.cmd_wire.specs.Listening.{HasExpired, Heard, Hears, ListenedSo, ListensTo, hearing_stage, with_peer}
 use Rattle.cmd_wire.specs.PromisedHearing.{HasHeardStatus, HasListenStatus, HearingEnds, IsReached, ListenPromises, Received}
 use Rattle.cmd_wire.proofs.Hearing.{closes_behind, expired_so, session_is}
 use Rattle.cmd_wire.proofs.Promising.{IsOfFiles, config_stops, never_session, or_stops, then_stops}
 use Rattle.cmd_wire.proofs.Statuses.{differs, due_status, early_status, late_status, never_early, never_zero, none_failed, only_done, same_found, served_early, served_late}
-use Rattle.fs_speaker.proofs.Lowest.{sender_told}
 
 -- the configuration alone ends a run before the wire is opened
 

@@ -1,14 +1,5 @@
 -- What the clauses of a run of `pair` say follows from what it does.
-use Rattle.std.proofs.Common.{◌≡◌, ◌⊎◌, inl, inr, ◌∙◌, ℕ, ◌+◌, ◌<◌, List, ◌++◌, length, Option, Some, ap, sym, subst, arith, length-append}
-use Rattle.std.proofs.lemmas.Option.{same_Some}
-use Rattle.cmd_wire.proofs.Words.{CanArrive, Done, Ending, FilesFailed, FilesStood, Found, Grew, Happened, MayHold, Names, Peer, Sending, SinkFailed, SinkStood, Stage, Told, WireEnds, WireFailed, WireStood, sending_stage}
-use Rattle.fs_base.specs.declared.config.Config.{Config}
-use Rattle.fs_peering.specs.Joined.{of_first, of_second}
-use Rattle.fs_peering.proofs.WrittenInParts.{told_as}
-use Rattle.cmd_wire.specs.Conversation.{Conversation}
-use Rattle.cmd_wire.specs.Listed.{verdict_by}
-use Rattle.cmd_wire.specs.Pairing.{Joined, Joins, JoinsSo, Meets}
-use Rattle.cmd_wire.specs.Promised.{BreaksSo, CanBeCarried, Carried, HasJoinedStatus, HasPairStatus, PairPromises}
+use Rattle.cmd_wire.proofs.Words.{CanArrive, Done, Ending, FilesFailed, FilesStood, Found, Grew, Happened, MayHold, Names, Peer, Sending, SinkFailed, SinkStood, Stage, Told, WireEnds, WireFailed, WireStood, sending_stage, ◌≡◌, ◌⊎◌, inl, inr, ◌∙◌, ℕ, ◌+◌, ◌<◌, List, ◌++◌, length, Option, Some, ap, sym, subst, arith, length-append, same_Some, Config, of_first, of_second, told_as, Conversation, verdict_by, Joined, Joins, JoinsSo, Meets, BreaksSo, CanBeCarried, Carried, HasJoinedStatus, HasPairStatus, PairPromises}
 use Rattle.cmd_wire.proofs.Accepted.{arrivable}
 use Rattle.cmd_wire.proofs.Named.{arrived}
 use Rattle.cmd_wire.proofs.Promising.{files_stop, never_session}

@@ -1,9 +1,6 @@
 -- Which status a run answers, and which it doesn't.
-use Rattle.std.proofs.Common.{◌≡◌, ◌≢◌, ◌⊎◌, inl, inr, ◌∙◌, ℕ, List, arith, refl, sym, subst}
-use Rattle.cmd_wire.proofs.Words.{AtLimit, Capture, Done, Dump, Ended, Ending, FilesFailed, FilesStood, Found, Happened, Limit, Memory, Outside, Refusal, Rose, Session, SinkFailed, SinkStood, Stage, Stood, Stopped, Tape, WireFailed, WireStood, status_of}
+use Rattle.cmd_wire.proofs.Words.{AtLimit, Capture, Done, Dump, Ended, Ending, FilesFailed, FilesStood, Found, Happened, Limit, Memory, Outside, Refusal, Rose, Session, SinkFailed, SinkStood, Stage, Stood, Stopped, Tape, WireFailed, WireStood, status_of, ◌≡◌, ◌≢◌, ◌⊎◌, inl, inr, ◌∙◌, ℕ, List, arith, refl, sym, subst, Rejected, verdict_by}
 use Rattle.fs_peering.specs.declared.tell.Ending.TheVariants.{Closed}
-use Rattle.cmd_stages.specs.declared.refusal.Refusal.TheVariants.{Rejected}
-use Rattle.cmd_wire.specs.Listed.{verdict_by}
 
 -- the status that is due, or want of memory, or a call outside that failed
 abbrev pub Caused : Type 0 → ℕ → ℕ → Type 0

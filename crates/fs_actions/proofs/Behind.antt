@@ -1,11 +1,5 @@
 -- An action behind a list of actions.
-use Rattle.std.proofs.Common.{◌≡◌, ℕ, ◌-◌, List, [], ◌∷◌, ◌++◌, length, slice_get, refl, Some, None, arith}
-use Rattle.std.specs.declared.cmp.Ordering.TheVariants.{Less}
-use Rattle.std.specs.List.{AllByRecursion, last_or}
-use Rattle.std.specs.List.Sorted.{IsStrictlySortedBy}
-use Rattle.std.proofs.lemmas.Cmp.{nat_list_cmp_total}
-use Rattle.fs_actions.specs.Community.{IsAction}
-use Rattle.fs_actions.specs.Actions.{IsAbove, IsActions}
+use Rattle.fs_actions.proofs.Words.{◌≡◌, ℕ, ◌-◌, List, [], ◌∷◌, ◌++◌, length, slice_get, refl, Some, None, arith, Less, AllByRecursion, last_or, IsStrictlySortedBy, nat_list_cmp_total, IsAction, IsAbove, IsActions}
 use Rattle.fs_actions.proofs.Insertion.{by_octets}
 
 last_at : (first : List ℕ) (xs : List (List ℕ)) → slice_get (first ∷ xs) (length xs) ≡ last_or (Some first) xs

@@ -1,17 +1,8 @@
 -- Lists of actions in order, each once.
-use Rattle.std.proofs.Common.{◌≡◌, ℕ, zero, suc, ◌+◌, ◌<◌, ◌≤◌, List, [], ◌∷◌, ◌++◌, length, take, drop, get_or, refl, sym, ap, ◌∙◌, arith, add-one, Ordering, filter_map, Option, Some}
-use Rattle.std.specs.declared.cmp.Ordering.TheVariants.{Less, Equal, Greater}
-use Rattle.std.specs.Ordering.{match_ordering, nat_cmp, ordering_index, ordering_reverse, is_lt}
+use Rattle.fs_actions.proofs.Words.{◌≡◌, ℕ, zero, suc, ◌+◌, ◌<◌, ◌≤◌, List, [], ◌∷◌, ◌++◌, length, take, drop, get_or, refl, sym, ap, ◌∙◌, arith, add-one, Ordering, filter_map, Option, Some, Less, Equal, Greater, match_ordering, nat_cmp, ordering_index, ordering_reverse, is_lt, AllByRecursion, AllWithin, IsStrictlySortedBy, IsNonDecreasingBy, nat_list_cmp_total, tied_back, alike_right, cons_option, drop-cons, IsAction, normal_form, IsActions, with_action, with_actions}
 use Rattle.std.specs.Cmp.Lexicographic.{slice_cmp}
-use Rattle.std.specs.List.{AllByRecursion, AllWithin}
-use Rattle.std.specs.List.Sorted.{IsStrictlySortedBy, IsNonDecreasingBy}
-use Rattle.std.proofs.lemmas.Cmp.{nat_list_cmp_total, tied_back, alike_right}
 use Rattle.std.proofs.lemmas.List.Sorted.{searchable_from_sorted}
-use Rattle.std.specs.List.{cons_option}
-use Rattle.std.proofs.Math.Seq.{drop-cons}
 use Rattle.std.proofs.Math.ListN.{drop_of_length-le}
-use Rattle.fs_actions.specs.Community.{IsAction, normal_form}
-use Rattle.fs_actions.specs.Actions.{IsActions, with_action, with_actions}
 
 abbrev pub by_octets : List ℕ → List ℕ → Ordering
 by_octets = slice_cmp nat_cmp

@@ -1,3 +1,4 @@
+mod Words
 pub mod Insertion
 pub mod ReadBack
 pub mod Listed

@@ -1,12 +1,6 @@
 -- What is in the list of a field's actions: exactly the normal forms of its listed communities.
-use Rattle.std.proofs.Common.{◌≡◌, ℕ, zero, suc, ◌<◌, List, [], ◌∷◌, length, get_or, refl, sym, ap, ◌∙◌, arith, ◌⊎◌, inl, inr, Contains, Ordering, filter_map, Option, Some, None}
-use Rattle.std.specs.declared.cmp.Ordering.TheVariants.{Less, Equal, Greater}
-use Rattle.std.specs.Ordering.{match_ordering}
-use Rattle.std.specs.List.{cons_option}
-use Rattle.std.specs.List.Sorted.{IsStrictlySortedBy}
+use Rattle.fs_actions.proofs.Words.{◌≡◌, ℕ, zero, suc, ◌<◌, List, [], ◌∷◌, length, get_or, refl, sym, ap, ◌∙◌, arith, ◌⊎◌, inl, inr, Contains, Ordering, filter_map, Option, Some, None, Less, Equal, Greater, match_ordering, cons_option, IsStrictlySortedBy, normal_form, communities, with_action, with_actions, actions_of}
 use Rattle.std.proofs.lemmas.Map.Lookups.{exact_bytes}
-use Rattle.fs_actions.specs.Community.{normal_form}
-use Rattle.fs_actions.specs.Actions.{communities, with_action, with_actions, actions_of}
 use Rattle.fs_actions.specs.Laws.{IsListed, AreListed}
 use Rattle.fs_actions.proofs.Insertion.{by_octets, rising_with}
 

@@ -1,14 +1,8 @@
 -- The octets of a list of actions, and the list that they are read back as.
-use Rattle.std.proofs.Common.{◌≡◌, ℕ, ◌+◌, ◌*◌, ◌/◌, ◌<◌, List, [], ◌∷◌, ◌++◌, length, take, drop, get_or, refl, sym, ap, ◌∙◌, subst, arith, append_assoc, append-nil, filter_map, ◌&&◌, ◌==◌, ◌%◌, nat_lt}
-use Rattle.std.specs.declared.cmp.Ordering.TheVariants.{Less, Greater}
-use Rattle.std.specs.List.{AllByRecursion, concat}
-use Rattle.std.specs.List.Sorted.{IsStrictlySortedBy}
+use Rattle.fs_actions.proofs.Words.{◌≡◌, ℕ, ◌+◌, ◌*◌, ◌/◌, ◌<◌, List, [], ◌∷◌, ◌++◌, length, take, drop, get_or, refl, sym, ap, ◌∙◌, subst, arith, append_assoc, append-nil, filter_map, ◌&&◌, ◌==◌, ◌%◌, nat_lt, Less, Greater, AllByRecursion, concat, IsStrictlySortedBy, take-append_seam, drop-append_seam, IsAction, normal_form, IsActions, actions_of, are_communities, communities, with_action, with_actions}
 use Rattle.std.specs.Simd.{first_chunks}
-use Rattle.std.proofs.Math.Seq.{take-append_seam, drop-append_seam}
 use Rattle.std.proofs.lemmas.List.{length-append}
 use Rattle.std.proofs.lemmas.Bool.Decides.{nat_tests}
-use Rattle.fs_actions.specs.Community.{IsAction, normal_form}
-use Rattle.fs_actions.specs.Actions.{IsActions, actions_of, are_communities, communities, with_action, with_actions}
 use Rattle.fs_actions.proofs.Insertion.{by_octets, with_step, reversed}
 use Rattle.std.proofs.lemmas.List.{take_more}
 use Rattle.fs_base.proofs.Octets.{each_at}

@@ -1,13 +1,10 @@
 -- Lists of prefixes are compared by what each shows.
-use Rattle.std.proofs.Common.{◌≡◌, Bool, ◌&&◌, ◌==◌, List, sym, ap, ap₂, ◌∙◌, map}
+use Rattle.std.proofs.Common.{map}
+use Rattle.fs_attrs.proofs.Words.{◌≡◌, Bool, ◌&&◌, ◌==◌, List, sym, ap, ap₂, ◌∙◌, Prefix, shown, Shown, same_prefix, same_prefixes}
 use Rattle.std.specs.Cmp.Lexicographic.{pointwise}
 use Rattle.std.specs.Cmp.Derive.Mapped.{pointwise-map}
-use Rattle.fs_base.specs.declared.prefix.Prefix.{Prefix}
 use Rattle.fs_base.specs.contracts.prefix.PrefixPartialEq.TheImpl.{ghosts}
-use Rattle.fs_nlri.specs.Rule.{shown}
 use Rattle.fs_nlri.proofs.Equal.{same_families}
-use Rattle.fs_attrs.specs.Prefixes.{Shown}
-use Rattle.fs_attrs.specs.Same.{same_prefix, same_prefixes}
 
 same_shown : (a b : Prefix) → ghosts.eq a b ≡ same_prefix (shown a) (shown b)
 same_shown a b = ap (λ (t : Bool). t && ((a.length == b.length) && (a.bits == b.bits))) (same_families a.family b.family)

@@ -1,17 +1,6 @@
 -- Loops that gather the values of attributes, or look for a wrong segment.
-use Rattle.std.proofs.Common.{◌≡◌, ℕ, suc, ◌==◌, Bool, true, false, not, cond, ◌&&◌, ◌||◌, nat_lt, List, [], ◌∷◌, length, Option, Some, None, refl, sym, ap, subst, ◌∙◌, arith, if◌then◌else◌}
-use Rattle.std.specs.Prelude.{option_map, find, filter}
-use Rattle.std.specs.List.{list_any}
-use Rattle.std.specs.Option.{option_or, is_some, is_none}
-use Rattle.std.proofs.lemmas.Bool.Decides.{nat_tests}
-use Rattle.fs_base.specs.declared.path.Segment.{Segment}
+use Rattle.fs_attrs.proofs.Words.{◌≡◌, ℕ, suc, ◌==◌, Bool, true, false, not, cond, ◌&&◌, ◌||◌, nat_lt, List, [], ◌∷◌, length, Option, Some, None, refl, sym, ap, subst, ◌∙◌, arith, if◌then◌else◌, option_map, find, filter, list_any, option_or, is_some, is_none, nat_tests, Segment, parts_of, parts_step, parts_end, Terms, Attribute, first_attribute, attributes_of, are_attributes, value_of, is_doubled, stands_before, routes_doubled, Valued, values_of, values_with, kept_of, has_kept, first_segment, is_confederation, path_wrong}
 use Rattle.fs_base.proofs.Bools.{or_false, or_weaker}
-use Rattle.fs_base.specs.Parts.{parts_of}
-use Rattle.fs_base.proofs.Parts.{parts_step, parts_end}
-use Rattle.fs_attrs.specs.declared.update.Terms.{Terms}
-use Rattle.fs_attrs.specs.Attributes.{Attribute, first_attribute, attributes_of, are_attributes, value_of, is_doubled, stands_before, routes_doubled, Valued, values_of, values_with, kept_of, has_kept}
-use Rattle.fs_attrs.specs.Segments.{first_segment, is_confederation}
-use Rattle.fs_attrs.specs.Paths.{path_wrong}
 use Rattle.fs_attrs.proofs.PartSizes.{attribute_shrinks, segment_shrinks}
 
 -- the attributes of octets are the first one and those behind it

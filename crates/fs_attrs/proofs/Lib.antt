@@ -1,3 +1,4 @@
+mod Words
 pub mod Alike
 mod PartLists
 pub mod RulesRead

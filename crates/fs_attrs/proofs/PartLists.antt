@@ -1,8 +1,6 @@
 -- A loop that gathers the parts of an octet list.
-use Rattle.std.proofs.Common.{◌≡◌, ℕ, ◌==◌, List, [], ◌∷◌, ◌++◌, length, Option, Some, None, sym, ap, ◌∙◌, if◌then◌else◌}
-use Rattle.std.proofs.lemmas.List.{append-nil, append_assoc}
-use Rattle.fs_base.specs.Parts.{Shrinks, parts_of}
-use Rattle.fs_base.proofs.Parts.{parts_step, parts_end}
+use Rattle.fs_attrs.proofs.Words.{◌≡◌, ℕ, ◌==◌, List, [], ◌∷◌, ◌++◌, length, Option, Some, None, sym, ap, ◌∙◌, if◌then◌else◌, append-nil, Shrinks, parts_of, parts_step, parts_end}
+use Rattle.std.proofs.lemmas.List.{append_assoc}
 
 -- what is gathered so far, and then what the rest still gives
 abbrev pub behind : {A : Type 0} → List A → List A × List ℕ → List A × List ℕ

@@ -1,25 +1,7 @@
 -- The attributes of a path that are written are none of the causes of treat-as-withdraw, and say that path.
-use Rattle.std.proofs.Common.{◌≡◌, ℕ, ◌^◌, ◌<◌, ◌≤◌, ◌==◌, Bool, true, false, not, ◌&&◌, ◌||◌, nat_le, nat_lt, List, [], ◌∷◌, length, Option, Some, None, refl, sym, ap, subst, ◌∙◌, arith, if◌then◌else◌}
-use Rattle.std.specs.Prelude.{option_map, option_and_then, unwrap_or, IfSome}
-use Rattle.std.specs.Option.{is_none, option_map_or}
-use Rattle.std.specs.List.{AllByRecursion, list_all, list_any}
-use Rattle.std.proofs.lemmas.List.Elements.{recursion_from_All}
-use Rattle.std.proofs.lemmas.List.{append-nil, nil_from_length}
-use Rattle.std.proofs.lemmas.Bool.{and_parts, eqb-true}
-use Rattle.std.proofs.lemmas.Bool.Decides.{nat_tests}
-use Rattle.byteorder.specs.Endian.{big_number, big_bytes}
-use Rattle.byteorder.specs.Numbers.{big_number-reads_back}
-use Rattle.fs_base.specs.declared.path.Segment.{Segment}
-use Rattle.fs_base.specs.declared.path.Path.{Path}
+use Rattle.fs_attrs.proofs.Words.{◌≡◌, ℕ, ◌^◌, ◌<◌, ◌≤◌, ◌==◌, Bool, true, false, not, ◌&&◌, ◌||◌, nat_le, nat_lt, List, [], ◌∷◌, length, Option, Some, None, refl, sym, ap, subst, ◌∙◌, arith, if◌then◌else◌, option_map, option_and_then, unwrap_or, IfSome, is_none, option_map_or, AllByRecursion, list_all, list_any, recursion_from_All, append-nil, nil_from_length, and_parts, eqb-true, nat_tests, big_number, big_bytes, big_number-reads_back, Segment, Path, Terms, Update, value_of, values_of, is_confederation, is_written_segment, AreNumbers, are_low, four_octets, path_of, withdraws, written_attributes, IsPath, is_path_of_session}
 use Rattle.fs_actions.specs.Actions.{are_communities, IsActions, actions_of}
 use Rattle.fs_actions.proofs.ReadBack.{read_back as actions_back, whole_joined}
-use Rattle.fs_attrs.specs.declared.update.Terms.{Terms}
-use Rattle.fs_attrs.specs.declared.update.Update.{Update}
-use Rattle.fs_attrs.specs.Attributes.{value_of, values_of}
-use Rattle.fs_attrs.specs.Segments.{is_confederation, is_written_segment, AreNumbers, are_low}
-use Rattle.fs_attrs.specs.Paths.{four_octets, path_of, withdraws}
-use Rattle.fs_attrs.specs.Write.{written_attributes, IsPath}
-use Rattle.fs_attrs.specs.Writable.{is_path_of_session}
 use Rattle.fs_attrs.proofs.TextsReadBack.{FitsAs, FitsSegment, segments_whole, segments_read}
 use Rattle.fs_attrs.proofs.WrittenAttributes.{none_value, origin_value, segments_value, pref_octets, pref_value, originator_value, actions_octets, actions_value}
 

@@ -1,23 +1,11 @@
 -- The canonical frame of a rule is octets.
-use Rattle.std.proofs.Common.{◌≡◌, ℕ, ◌+◌, ◌-◌, ◌*◌, ◌/◌, ◌%◌, ◌^◌, ◌<◌, ◌≤◌, Bool, true, false, List, [], ◌∷◌, Option, Some, None, length, nat_lt, if◌then◌else◌, refl, subst, arith, inl, inr}
-use Rattle.std.specs.Prelude.{bit_and, flat_map}
-use Rattle.std.specs.List.{AllByRecursion}
-use Rattle.std.proofs.lemmas.Bool.{cases_lt, ltb-true}
-use Rattle.std.proofs.lemmas.List.{get_or_past}
+use Rattle.fs_attrs.proofs.Words.{◌≡◌, ℕ, ◌+◌, ◌-◌, ◌*◌, ◌/◌, ◌%◌, ◌^◌, ◌<◌, ◌≤◌, Bool, true, false, List, [], ◌∷◌, Option, Some, None, length, nat_lt, if◌then◌else◌, refl, subst, arith, inl, inr, flat_map, AllByRecursion, cases_lt, ltb-true, get_or_past, big_bytes, Family, V4, V6, IsOctets, octets_append, octets_cons, octets_nil, meant_bits, IsNormalPair, pair_octets, Form, V4Form, V6Form, ListForm, form_of, forms, Body, V4Body, V6Body, ListBody, Part, Ruled, IsRange, octets_for, AreNormal, IsNormalAt, IsNormalBody, IsRule, canonical_body, canonical_frame, canonical_length, canonical_part, canonical_value, first_octets}
+use Rattle.std.specs.Prelude.{bit_and}
 use Rattle.std.proofs.lemmas.Nat.{and_le_r}
-use Rattle.byteorder.specs.Endian.{big_bytes}
-use Rattle.fs_base.specs.declared.prefix.Family.{Family}
-use Rattle.fs_base.specs.declared.prefix.Family.TheVariants.{V4, V6}
-use Rattle.fs_base.specs.Language.{IsOctets}
 use Rattle.fs_base.proofs.Digits.{big_octets}
-use Rattle.fs_base.proofs.Octets.{octets_append, octets_cons, octets_nil}
-use Rattle.fs_ops.specs.Operator.{meant_bits, width_of}
-use Rattle.fs_ops.specs.OperatorList.{IsNormalPair, pair_octets, AreNormal as AreNormalPairs, canonical as canonical_pairs}
+use Rattle.fs_ops.specs.Operator.{width_of}
+use Rattle.fs_ops.specs.OperatorList.{AreNormal as AreNormalPairs, canonical as canonical_pairs}
 use Rattle.fs_ops.proofs.Canonical.{small_bits}
-use Rattle.fs_nlri.specs.Forms.{Form, V4Form, V6Form, ListForm, form_of, forms}
-use Rattle.fs_nlri.specs.Parts.{Body, V4Body, V6Body, ListBody, Part, Ruled}
-use Rattle.fs_nlri.specs.Spelling.{IsRange, octets_for}
-use Rattle.fs_nlri.specs.Rule.{AreNormal, IsNormalAt, IsNormalBody, IsRule, canonical_body, canonical_frame, canonical_length, canonical_part, canonical_value, first_octets}
 
 -- operators and values
 

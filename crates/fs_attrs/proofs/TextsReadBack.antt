@@ -1,25 +1,7 @@
 -- What is written of fields, attributes, prefixes and segments is read back as it was.
-use Rattle.std.proofs.Common.{◌≡◌, ℕ, suc, ◌+◌, ◌-◌, ◌*◌, ◌/◌, ◌^◌, ◌<◌, ◌≤◌, ◌==◌, Bool, true, false, ◌||◌, nat_le, nat_lt, List, [], ◌∷◌, ◌++◌, length, drop, Option, Some, None, refl, sym, ap, subst, ◌∙◌, arith, if◌then◌else◌, length-append, append_assoc}
-use Rattle.std.specs.Prelude.{bit_and, bit_or, flat_map}
-use Rattle.std.specs.List.{AllByRecursion}
-use Rattle.std.proofs.lemmas.List.{take_at, drop_at}
-use Rattle.std.proofs.lemmas.Bool.Decides.{nat_tests}
-use Rattle.byteorder.specs.Endian.{big_number, big_bytes}
-use Rattle.byteorder.specs.Numbers.{length-bytes_high_first, big_number-reads_back}
-use Rattle.fs_base.specs.Parts.{Shrinks, parts_of, with_part}
-use Rattle.fs_base.proofs.Parts.{parts_end, parts_step}
-use Rattle.fs_base.specs.declared.prefix.Family.{Family}
-use Rattle.fs_base.specs.declared.prefix.Family.TheVariants.{V4, V6}
-use Rattle.fs_base.specs.declared.path.Segment.{Segment}
-use Rattle.fs_base.specs.Bits.{width_of, cleared}
-use Rattle.fs_nlri.specs.Spelling.{octets_for}
-use Rattle.fs_nlri.specs.Rule.{first_octets}
-use Rattle.fs_nlri.proofs.Again.{octets_back}
+use Rattle.fs_attrs.proofs.Words.{◌≡◌, ℕ, suc, ◌+◌, ◌-◌, ◌*◌, ◌/◌, ◌^◌, ◌<◌, ◌≤◌, ◌==◌, Bool, true, false, ◌||◌, nat_le, nat_lt, List, [], ◌∷◌, ◌++◌, length, drop, Option, Some, None, refl, sym, ap, subst, ◌∙◌, arith, if◌then◌else◌, length-append, append_assoc, bit_or, flat_map, AllByRecursion, take_at, drop_at, nat_tests, big_number, big_bytes, length-bytes_high_first, big_number-reads_back, Shrinks, parts_of, with_part, parts_end, parts_step, Family, V4, V6, Segment, width_of, cleared, octets_for, first_octets, octets_back, Attribute, sized, long_field, first_attribute, Shown, first_prefix, are_prefixes, prefixes_of, as_width, first_as, numbers_of, first_segment, segments_of, are_segments, as_text, segment_text, segments_text, long_text, prefix_text, prefixes_text, flags_of, attribute_text}
+use Rattle.std.specs.Prelude.{bit_and}
 use Rattle.fs_message.specs.Write.{as_field}
-use Rattle.fs_attrs.specs.Attributes.{Attribute, sized, long_field, first_attribute}
-use Rattle.fs_attrs.specs.Prefixes.{Shown, first_prefix, are_prefixes, prefixes_of}
-use Rattle.fs_attrs.specs.Segments.{as_width, first_as, numbers_of, first_segment, segments_of, are_segments, as_text, segment_text, segments_text}
-use Rattle.fs_attrs.specs.Texts.{long_text, prefix_text, prefixes_text, flags_of, attribute_text}
 use Rattle.fs_attrs.proofs.PartSizes.{attribute_shrinks, prefix_shrinks, as_shrinks, segment_shrinks}
 
 -- parts: of what can be written each text is read as it was, whatever stands behind it

@@ -1,18 +1,5 @@
 -- The values of the attributes that are written, type by type.
-use Rattle.std.proofs.Common.{◌≡◌, ℕ, suc, ◌==◌, Bool, true, false, nat_lt, List, [], ◌∷◌, ◌++◌, length, Option, Some, None, refl, ap, ◌∙◌, arith, if◌then◌else◌}
-use Rattle.std.specs.Prelude.{option_map, find, filter}
-use Rattle.std.specs.Option.{is_some, option_or}
-use Rattle.std.specs.List.{concat}
-use Rattle.std.proofs.lemmas.List.Folds.{find-append}
-use Rattle.std.proofs.lemmas.Bool.Decides.{nat_tests}
-use Rattle.byteorder.specs.Endian.{big_bytes}
-use Rattle.fs_base.specs.declared.path.Path.{Path}
-use Rattle.fs_attrs.specs.declared.update.Terms.{Terms}
-use Rattle.fs_attrs.specs.declared.update.Routes.{Routes}
-use Rattle.fs_attrs.specs.declared.update.Update.{Update}
-use Rattle.fs_attrs.specs.Attributes.{Attribute, attribute, value_of, is_doubled}
-use Rattle.fs_attrs.specs.Write.{reach_text, unreach_text, reach_in, unreach_in, next_hop_in, local_pref_in, originator_in, actions_in, path_in, written_attributes}
-use Rattle.fs_attrs.specs.Segments.{segments_text}
+use Rattle.fs_attrs.proofs.Words.{◌≡◌, ℕ, suc, ◌==◌, Bool, true, false, nat_lt, List, [], ◌∷◌, ◌++◌, length, Option, Some, None, refl, ap, ◌∙◌, arith, if◌then◌else◌, option_map, find, filter, is_some, option_or, concat, find-append, nat_tests, big_bytes, Path, Terms, Routes, Update, Attribute, attribute, value_of, is_doubled, reach_text, unreach_text, reach_in, unreach_in, next_hop_in, local_pref_in, originator_in, actions_in, path_in, written_attributes, segments_text}
 use Rattle.fs_attrs.proofs.AttributeScans.{value_here, above_one, there}
 
 -- no attribute is of the type

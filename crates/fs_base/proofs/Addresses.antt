@@ -1,9 +1,5 @@
 -- Which addresses a prefix has: those from its lowest to its highest.
-use Rattle.std.proofs.Common.{ℕ, ◌≡◌, ◌+◌, ◌-◌, ◌*◌, ◌^◌, ◌<◌, ◌≤◌, ap, subst, sym, pow_pos, arith}
-use Rattle.std.specs.Prelude.{◌↔◌}
-use Rattle.fs_base.specs.declared.prefix.Prefix.{Prefix}
-use Rattle.fs_base.specs.Bits.{width_of, cleared}
-use Rattle.fs_base.specs.Prefix.{last_address}
+use Rattle.fs_base.proofs.Words.{ℕ, ◌≡◌, ◌+◌, ◌-◌, ◌*◌, ◌^◌, ◌<◌, ◌≤◌, ap, subst, sym, pow_pos, arith, ◌↔◌, Prefix, width_of, cleared, last_address}
 use Rattle.fs_base.proofs.Blocks.{IsBlock, block_inside, block_meeting}
 use Rattle.fs_base.proofs.Covers.{block}
 

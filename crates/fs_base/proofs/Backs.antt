@@ -1,8 +1,6 @@
 -- Octets that are put back before others.
-use Rattle.std.proofs.Common.{◌≡◌, ◌≤◌, ◌+◌, ℕ, List, ◌++◌, length, take, drop, sym, ap, ◌∙◌, arith, length-append}
+use Rattle.fs_base.proofs.Words.{◌≡◌, ◌≤◌, ◌+◌, ℕ, List, ◌++◌, length, take, drop, sym, ap, ◌∙◌, arith, length-append, length-drop, length-take, take-replicate, take-take, take-put_mid_below}
 use borrow.Rule.Slice.PartMut.{put_mid}
-use Rattle.std.proofs.lemmas.List.{length-drop, length-take, take-replicate, take-take}
-use Rattle.std.proofs.lemmas.Slice.{take-put_mid_below}
 use Rattle.fs_base.specs.Back.{IsBack}
 
 pub put_is_back : (xs ys : List ℕ) (from to k : ℕ) → IsBack xs from → to + k ≡ from → length ys ≡ k → IsBack (put_mid to k xs ys) to

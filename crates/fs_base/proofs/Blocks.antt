@@ -1,10 +1,7 @@
 -- Blocks of addresses, as plain numbers: where one lies in another.
-use Rattle.std.proofs.Common.{ℕ, ◌≡◌, ◌+◌, ◌-◌, ◌*◌, ◌/◌, ◌%◌, ◌^◌, ◌<◌, ◌≤◌, sym, ap, ◌∙◌, subst, arith, mul_assoc, add-mul, one-mul, mul-le-mul_right, lt_of_mul-lt-mul_right, div-add-mod'}
-use Rattle.std.proofs.lemmas.Nat.{pow_pos, pow-add, mod_below, div-mul-add}
-use Rattle.std.proofs.Math.Nat.{mod-eq_of_lt, div-mul-le_self}
-use Rattle.fs_base.specs.declared.prefix.Family.{Family}
-use Rattle.fs_base.specs.declared.prefix.Family.TheVariants.{V4, V6}
-use Rattle.fs_base.specs.Bits.{width_of, cleared}
+use Rattle.std.proofs.Common.{add-mul, mul-le-mul_right}
+use Rattle.fs_base.proofs.Words.{ℕ, ◌≡◌, ◌+◌, ◌-◌, ◌*◌, ◌/◌, ◌%◌, ◌^◌, ◌<◌, ◌≤◌, sym, ap, ◌∙◌, subst, arith, mul_assoc, one-mul, lt_of_mul-lt-mul_right, div-add-mod', pow-add, mod_below, div-mul-add, mod-eq_of_lt, div-mul-le_self, Family, V4, V6, width_of, cleared}
+use Rattle.std.proofs.lemmas.Nat.{pow_pos}
 pub use Rattle.fs_base.specs.Bits.{IsBlock, whole_width, block_cleared, block_below, block_of, block_again, cleared_again, min_short}
 
 pub width_most : (f : Family) → 2 ^ width_of f ≤ 2 ^ 128

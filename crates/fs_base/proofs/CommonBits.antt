@@ -1,13 +1,8 @@
 -- How many of the first bits of two numbers are the same.
-use Rattle.std.proofs.Common.{ℕ, ◌≡◌, ◌+◌, ◌-◌, ◌*◌, ◌/◌, ◌%◌, ◌^◌, ◌<◌, ◌≤◌, ◌⊎◌, inl, inr, sym, ap, ◌∙◌, arith, bit_xor, pow_pos, pow_mono, pow-add, zero-mul, mul-div_cancel}
-use Rattle.std.proofs.Math.Nat.{div-eq_of_lt}
-use Rattle.std.specs.Int.{bit_at}
+use Rattle.std.proofs.Common.{pow-add}
+use Rattle.fs_base.proofs.Words.{ℕ, ◌≡◌, ◌+◌, ◌-◌, ◌*◌, ◌/◌, ◌%◌, ◌^◌, ◌<◌, ◌≤◌, ◌⊎◌, inl, inr, sym, ap, ◌∙◌, arith, bit_xor, pow_pos, pow_mono, zero-mul, mul-div_cancel, div-eq_of_lt, bit_at, cases_lt, xor_shr, xor_lt, leading_length, shr_split, mod_below, same_from_bits, bit_at_xor, bit_at-lt, bit_at-zero, cleared}
 use Rattle.std.specs.Int.Bits.{xor_self}
-use Rattle.std.proofs.lemmas.Bool.{cases_lt}
-use Rattle.std.proofs.lemmas.Nat.{xor_shr, xor_lt, leading_length, shr_split, mod_below}
-use Rattle.std.proofs.lemmas.Nat.Bits.{same_from_bits, bit_at_xor, bit_at-lt, bit_at-zero}
 use lib.Count.{count_leading_zeros}
-use Rattle.fs_base.specs.Bits.{cleared}
 use Rattle.fs_base.proofs.Blocks.{first_bits_of}
 
 same_from_xor : (a b : ℕ) → bit_xor a b ≡ 0 → a ≡ b

@@ -1,11 +1,5 @@
 -- How the octets that reads give are counted.
-use Rattle.std.proofs.Common.{◌≡◌, ℕ, List, [], ◌++◌, ◌<◌, ◌≤◌, ◌+◌, ◌-◌, ◌⊎◌, inl, inr, subst, length, min, take, drop, refl, ap, sym, ◌∙◌, arith, append_assoc}
-use Rattle.std.proofs.Math.Seq.{drop-append-add}
-use Rattle.std.proofs.lemmas.Bool.{cases_lt}
-use Rattle.std.proofs.lemmas.List.{drop-append-le, drop-drop, drop_all, length-drop, take-append-drop}
-use Rattle.std.proofs.lemmas.Grind.{common_steps}
-use Rattle.fs_base.specs.declared.counted.Counted.{Counted}
-use Rattle.fs_base.specs.Draws.{Draws, Passed}
+use Rattle.fs_base.proofs.Words.{◌≡◌, ℕ, List, [], ◌++◌, ◌<◌, ◌≤◌, ◌+◌, ◌-◌, ◌⊎◌, inl, inr, subst, length, min, take, drop, refl, ap, sym, ◌∙◌, arith, append_assoc, drop-append-add, cases_lt, drop-append-le, drop-drop, drop_all, length-drop, take-append-drop, common_steps, Counted, Draws, Passed}
 use Rattle.fs_base.specs.Outside.{Rose}
 
 drop_join : (n : ℕ) (xs ys : List ℕ) → drop n (xs ++ ys) ≡ drop n xs ++ drop (n - length xs) ys

@@ -1,12 +1,7 @@
 -- The loop that fills a buffer: so many octets stand in it, and the rest is left.
-use Rattle.std.proofs.Common.{◌≡◌, ℕ, List, [], ◌++◌, ◌<◌, ◌≤◌, ◌+◌, ◌-◌, length, take, drop, min, inl, inr, ap, sym, ◌∙◌, arith, append_assoc, length-append}
+use Rattle.fs_base.proofs.Words.{◌≡◌, ℕ, List, [], ◌++◌, ◌<◌, ◌≤◌, ◌+◌, ◌-◌, length, take, drop, min, inl, inr, ap, sym, ◌∙◌, arith, append_assoc, length-append, take-append-add, drop_all, take-append-drop, take-append-le, length-take, length-drop, take-take, cases_lt, common_steps, window}
 use Rattle.std.specs.Prelude.{◌⊎◌}
 use borrow.Rule.Slice.PartMut.{put_mid}
-use Rattle.std.proofs.Math.Seq.{take-append-add}
-use Rattle.std.proofs.lemmas.List.{drop_all, take-append-drop, take-append-le, length-take, length-drop, take-take}
-use Rattle.std.proofs.lemmas.Bool.{cases_lt}
-use Rattle.std.proofs.lemmas.Grind.{common_steps}
-use Rattle.fs_base.specs.Parts.{window}
 use Rattle.fs_base.specs.Filling.{Fills}
 
 -- the first `count` octets of the buffer, and then what is left now, are what was left at the start

@@ -1,9 +1,6 @@
+use Rattle.fs_base.proofs.Words.{◌≡◌, ℕ, List, [], ◌++◌, Option, Some, None, Result, Ok, Err, ◌+◌, length, take, min, ap, ◌∙◌, arith, append_assoc, OnErr, take-append-add, common_steps, Grew, GrewPart}
+
 -- Laws of what a sink tells.
-use Rattle.std.proofs.Common.{◌≡◌, ℕ, List, [], ◌++◌, Option, Some, None, Result, Ok, Err, ◌+◌, length, take, min, ap, ◌∙◌, arith, append_assoc}
-use Rattle.std.specs.Prelude.{OnErr}
-use Rattle.std.proofs.Math.Seq.{take-append-add}
-use Rattle.std.proofs.lemmas.Grind.{common_steps}
-use Rattle.fs_base.specs.Sink.{Grew, GrewPart}
 
 -- nothing was written
 pub Grew-refl : {A : Type 0} (a : Option (List A)) → Grew a a []

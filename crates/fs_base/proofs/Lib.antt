@@ -1,3 +1,4 @@
+mod Words
 pub mod Bools
 pub mod Languages
 pub mod Octets

@@ -1,10 +1,5 @@
 -- What follows from one prefix covering another: of covers of covers, of equal prefixes, of shorter ones.
-use Rattle.std.proofs.Common.{ℕ, ◌≡◌, ◌+◌, ◌-◌, ◌^◌, ◌<◌, ◌≤◌, refl, sym, ap, ◌∙◌, subst, arith, true, nat_cmp, is_eq, pow_pos, min}
-use Rattle.std.specs.Ordering.{ordering_then}
-use Rattle.std.proofs.lemmas.Bool.Decides.{nat_tests}
-use Rattle.fs_base.specs.declared.prefix.Prefix.{Prefix}
-use Rattle.fs_base.specs.Bits.{width_of, afi_of, cleared}
-use Rattle.fs_base.specs.Prefix.{covers, prefix_cmp, last_address, IsPrefixOf}
+use Rattle.fs_base.proofs.Words.{ℕ, ◌≡◌, ◌+◌, ◌-◌, ◌^◌, ◌<◌, ◌≤◌, refl, sym, ap, ◌∙◌, subst, arith, true, nat_cmp, is_eq, pow_pos, min, ordering_then, nat_tests, Prefix, width_of, afi_of, cleared, covers, prefix_cmp, last_address, IsPrefixOf}
 use Rattle.fs_base.proofs.Covers.{Covers, covers_fact, covers_test, meeting_covers, same_family, same_width, covers_bits, covers_from_bits}
 
 pub covers_self : (p : Prefix) → covers p p ≡ true

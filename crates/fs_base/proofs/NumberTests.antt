@@ -1,8 +1,6 @@
+use Rattle.fs_base.proofs.Words.{nat_tests, ◌≡◌, ◌==◌, ℕ, true, arith, false, ◌<◌, ◌≤◌, ◌+◌, ◌*◌, nat_le, add-mul, mul-le-mul_right}
+
 -- Laws of numbertests.
-use Rattle.std.proofs.lemmas.Bool.Decides.{nat_tests}
-use Rattle.std.proofs.Common.{◌≡◌, ◌==◌, ℕ, true, arith, false, ◌<◌, ◌≤◌, ◌+◌, ◌*◌}
-use Rattle.std.specs.Prelude.{nat_le}
-use Rattle.std.proofs.Math.Nat.{add-mul, mul-le-mul_right}
 
 pub eq_itself : (n : ℕ) → (n == n) ≡ true
 eq_itself n = grind (arith, nat_tests)

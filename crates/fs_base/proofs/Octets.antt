@@ -1,12 +1,7 @@
 -- Octet lists: their parts are octets, and how two splits of one list relate.
-use Rattle.std.proofs.Common.{◌≡◌, ℕ, ◌+◌, ◌<◌, ◌≤◌, List, [], ◌∷◌, ◌++◌, length, get_or, take, drop, refl, ap, sym, subst, suc, inl, inr, arith}
+use Rattle.fs_base.proofs.Words.{◌≡◌, ℕ, ◌+◌, ◌<◌, ◌≤◌, List, [], ◌∷◌, ◌++◌, length, get_or, take, drop, refl, ap, sym, subst, suc, inl, inr, arith, take_at, drop_at, take-append-drop, take-take, get_or_past, cases_lt, AllByRecursion, concat, common_steps, IsOctets}
 pub use Rattle.std.proofs.Math.Seq.{take-append-add}
-use Rattle.std.proofs.lemmas.List.{take_at, drop_at, take-append-drop, take-take, get_or_past}
 use Rattle.std.proofs.lemmas.List.Elements.{All-from_get_or, All-append, All-take, All-drop}
-use Rattle.std.proofs.lemmas.Bool.{cases_lt}
-use Rattle.std.specs.List.{AllByRecursion, concat}
-use Rattle.std.proofs.lemmas.Grind.{common_steps}
-use Rattle.fs_base.specs.Language.{IsOctets}
 
 pub octets_from : (octets : List ℕ) → ((i : ℕ) → get_or octets i 0 < 256) → IsOctets octets
 octets_from octets small = All-from_get_or (λ octet. octet < 256) octets 0 (λ i inside. small i)

@@ -1,9 +1,6 @@
 -- Laws of the parts that stand one behind the other.
-use Rattle.std.proofs.Common.{◌≡◌, ℕ, zero, suc, List, [], ◌++◌, Option, Some, None, ◌<◌, ◌≤◌, ◌+◌, ◌-◌, inl, inr, length, take, drop, refl, ap, sym, ◌∙◌, arith, length-drop, subst}
-use Rattle.std.specs.Prelude.{nat_le}
-use Rattle.std.proofs.lemmas.List.{drop-take}
-use Rattle.std.proofs.lemmas.Bool.Decides.{nat_tests}
-use Rattle.fs_base.specs.Parts.{with_part, parts_within, parts_of, parts_then, Shrinks, ShrinksBy, Stable}
+use Rattle.std.proofs.Common.{length-drop}
+use Rattle.fs_base.proofs.Words.{◌≡◌, ℕ, zero, suc, List, [], ◌++◌, Option, Some, None, ◌<◌, ◌≤◌, ◌+◌, ◌-◌, inl, inr, length, take, drop, refl, ap, sym, ◌∙◌, arith, subst, nat_le, drop-take, nat_tests, with_part, parts_within, parts_of, parts_then, Shrinks, ShrinksBy, Stable}
 use Rattle.fs_base.proofs.Options.{none_or_some}
 
 module _ {N A : Type 0} (size : N → ℕ) (next : N → Option (A × N)) where

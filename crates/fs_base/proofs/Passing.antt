@@ -1,7 +1,5 @@
 -- Calls one behind the other: what they do to the files, and to the slot that they read.
-use Rattle.std.proofs.Common.{◌≡◌, ℕ, List, [], Bool, Option, refl, ◌∙◌, subst, arith, le_trans}
-use Rattle.fs_base.specs.declared.counted.Counted.{Counted}
-use Rattle.fs_base.specs.Draws.{Calls, Draws, Passed, Passes, PassesOn}
+use Rattle.fs_base.proofs.Words.{◌≡◌, ℕ, List, [], Bool, Option, refl, ◌∙◌, subst, arith, le_trans, Counted, Calls, Draws, Passed, Passes, PassesOn}
 use Rattle.fs_base.proofs.Drawing.{draws_more, draws_straight, passed_none, passed_then}
 
 -- what was taken, told in another way

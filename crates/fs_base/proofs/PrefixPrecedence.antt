@@ -1,12 +1,5 @@
 -- The order of prefixes is what its words say.
-use Rattle.std.proofs.Common.{ℕ, ◌≡◌, ◌+◌, ◌-◌, ◌^◌, ◌<◌, ◌≤◌, ◌⊎◌, inl, inr, sym, ap, ◌∙◌, arith, true, false, nat_cmp, is_eq, Less, Equal, pow_pos, true≢false}
-use Rattle.std.specs.Ordering.{ordering_then}
-use Rattle.std.proofs.lemmas.Bool.{cases_lt}
-use Rattle.std.proofs.lemmas.Bool.Decides.{nat_tests}
-use Rattle.fs_base.specs.declared.prefix.Family.TheVariants.{V4, V6}
-use Rattle.fs_base.specs.declared.prefix.Prefix.{Prefix}
-use Rattle.fs_base.specs.Bits.{width_of, afi_of}
-use Rattle.fs_base.specs.Prefix.{covers, prefix_cmp, last_address, prefix_total}
+use Rattle.fs_base.proofs.Words.{ℕ, ◌≡◌, ◌+◌, ◌-◌, ◌^◌, ◌<◌, ◌≤◌, ◌⊎◌, inl, inr, sym, ap, ◌∙◌, arith, true, false, nat_cmp, is_eq, Less, Equal, pow_pos, true≢false, ordering_then, cases_lt, nat_tests, V4, V6, Prefix, width_of, afi_of, covers, prefix_cmp, last_address, prefix_total}
 use Rattle.fs_base.specs.Laws.{IsPrecedence}
 use Rattle.fs_base.proofs.Covers.{Covers, covers_fact, meeting_covers, same_width}
 use Rattle.fs_base.proofs.Nesting.{Alike, alike, alike_test}

@@ -1,11 +1,7 @@
 -- Two prefixes of the same family, bits and length are one value.
-use Rattle.std.proofs.Common.{◌≡◌, ◌≤◌, true, is_eq, refl, ap, sym, ◌∙◌, min, arith}
-use Rattle.fs_base.specs.Prefix.{prefix_of, prefix_cmp}
-use Rattle.std.proofs.Math.Nat.{ℕ_set}
+use Rattle.fs_base.proofs.Words.{◌≡◌, ◌≤◌, true, is_eq, refl, ap, sym, ◌∙◌, min, arith, prefix_of, prefix_cmp, ℕ_set, Prefix, width_of, cleared}
 use native.Mathlib.Bridge.{le_prop}
 use mathlib.Core.HLevel.{is_prop→PathP}
-use Rattle.fs_base.specs.declared.prefix.Prefix.{Prefix}
-use Rattle.fs_base.specs.Bits.{width_of, cleared}
 use Rattle.fs_base.proofs.Nesting.{Alike, alike}
 
 pub same_prefix : (p q : Prefix) → p.family ≡ q.family → p.bits ≡ q.bits → p.length ≡ q.length → p ≡ q

@@ -1,10 +1,6 @@
 -- The longest prefix that covers another, found by the order: where the first prefix from `low` on doesn't cover
 -- it, each that does covers what the two have in common.
-use Rattle.std.proofs.Common.{◌≡◌, ◌<◌, ◌≤◌, ◌⊎◌, inl, inr, sym, ◌∙◌, true, false, List, true≢false, is_eq, is_le, arith}
-use Rattle.std.specs.List.{AllByRecursion}
-use Rattle.std.proofs.lemmas.Bool.{cases_lt}
-use Rattle.fs_base.specs.declared.prefix.Prefix.{Prefix}
-use Rattle.fs_base.specs.Prefix.{covers, prefix_cmp}
+use Rattle.fs_base.proofs.Words.{◌≡◌, ◌<◌, ◌≤◌, ◌⊎◌, inl, inr, sym, ◌∙◌, true, false, List, true≢false, is_eq, is_le, arith, AllByRecursion, cases_lt, Prefix, covers, prefix_cmp}
 use Rattle.fs_base.specs.Search.{IsFirst, IsLongest}
 use Rattle.fs_base.proofs.Bools.{false_from}
 use Rattle.fs_base.proofs.Covers.{covers_fact, covered_before, between_covered, Covers, same_family}

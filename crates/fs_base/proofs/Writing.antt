@@ -1,7 +1,5 @@
 -- The loop that writes a whole piece: so much was written, and so much is left.
-use Rattle.std.proofs.Common.{◌≡◌, ◌<◌, ◌+◌, ℕ, List, [], ◌++◌, Option, length, take, drop, ap, sym, ◌∙◌, arith, append_assoc, length-append}
-use Rattle.std.proofs.lemmas.List.{take-append-drop}
-use Rattle.fs_base.specs.Sink.{Grew, GrewPart}
+use Rattle.fs_base.proofs.Words.{◌≡◌, ◌<◌, ◌+◌, ℕ, List, [], ◌++◌, Option, length, take, drop, ap, sym, ◌∙◌, arith, append_assoc, length-append, take-append-drop, Grew, GrewPart}
 use Rattle.fs_base.proofs.Grew.{Grew-trans, part_then, part_none}
 
 pub record Writing (piece rest : List ℕ) (before now : Option (List ℕ)) : Type 0 where

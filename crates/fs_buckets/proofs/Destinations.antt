@@ -1,12 +1,6 @@
+use Rattle.fs_buckets.proofs.Words.{◌≡◌, ℕ, ◌-◌, refl, sym, subst, Option, Some, None, none-some, same_Some, Family, Ruled, IsRule, destination_of, IsMade, made_parts, last_shown, span_by, span_of}
+
 -- A rule's destination by its first and last address.
-use Rattle.std.proofs.Common.{◌≡◌, ℕ, ◌-◌, refl, sym, subst, Option, Some, None}
-use Rattle.std.proofs.lemmas.Option.{none-some, same_Some}
-use Rattle.fs_base.specs.declared.prefix.Family.{Family}
-use Rattle.fs_nlri.specs.Parts.{Ruled}
-use Rattle.fs_nlri.specs.Rule.{IsRule, destination_of}
-use Rattle.fs_nlri.proofs.Destination.{IsMade, made_parts}
-use Rattle.fs_order.specs.Laws.{last_shown}
-use Rattle.fs_buckets.specs.Destinations.{span_by, span_of}
 
 pub made_destination : (rule : Ruled) (d : Family × ℕ × ℕ) → IsRule rule → destination_of rule ≡ Some d → IsMade (Some d)
 made_destination rule d h e = subst IsMade e (made_parts rule.family rule.parts h.normal)

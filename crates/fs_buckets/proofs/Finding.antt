@@ -1,9 +1,6 @@
 -- Where a list of addresses that rise turns.
-use Rattle.std.proofs.Common.{◌≡◌, ℕ, ◌<◌, ◌≤◌, ◌⊎◌, inl, inr, subst, List, get_or, length, nat_lt, arith}
+use Rattle.fs_buckets.proofs.Words.{◌≡◌, ℕ, ◌<◌, ◌≤◌, ◌⊎◌, inl, inr, subst, List, get_or, length, nat_lt, arith, cases_order, ltb-true, lt-ltb, get_or_default, AreRising}
 use Rattle.std.specs.List.Sorted.{IsPartitionedBy}
-use Rattle.std.proofs.lemmas.Bool.{cases_order, ltb-true, lt-ltb}
-use Rattle.std.proofs.lemmas.List.{get_or_default}
-use Rattle.fs_buckets.specs.Buckets.{AreRising}
 
 -- no later one is less
 pub rises : (xs : List ℕ) (i j : ℕ) → AreRising xs → i ≤ j → j < length xs → get_or xs i 0 ≤ get_or xs j 0

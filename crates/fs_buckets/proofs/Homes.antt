@@ -1,8 +1,6 @@
+use Rattle.fs_buckets.proofs.Words.{◌≡◌, ℕ, ◌+◌, ◌-◌, ◌<◌, ◌≤◌, ◌⊎◌, inl, inr, List, length, get_or, arith, cases_lt, Node, AreBuckets, node_at}
+
 -- The buckets of rules by the numbers of the rules.
-use Rattle.std.proofs.Common.{◌≡◌, ℕ, ◌+◌, ◌-◌, ◌<◌, ◌≤◌, ◌⊎◌, inl, inr, List, length, get_or, arith}
-use Rattle.std.proofs.lemmas.Bool.{cases_lt}
-use Rattle.fs_buckets.specs.declared.nodes.Node.{Node}
-use Rattle.fs_buckets.specs.Buckets.{AreBuckets, node_at}
 
 -- A rule before the start of a bucket that has one is in an earlier bucket.
 pub home_before : (lasts : List ℕ) (nodes : List (Node ℕ)) (homes : List ℕ) (count j k : ℕ) → AreBuckets lasts nodes homes count

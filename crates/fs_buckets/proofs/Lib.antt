@@ -1,3 +1,4 @@
+mod Words
 pub mod Pairing
 pub mod Destinations
 pub mod Finding

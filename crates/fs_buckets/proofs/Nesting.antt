@@ -1,28 +1,13 @@
 -- Rules in order have destinations in order: as intervals they are nested or apart, and rules without one come last.
-use Rattle.std.proofs.Common.{◌≡◌, ℕ, zero, suc, ◌+◌, ◌-◌, ◌^◌, ◌<◌, ◌≤◌, ◌⊎◌, inl, inr, refl, sym, ap, ap₂, subst, ◌∙◌, true, true≢false, Option, Some, None, List, [], ◌∷◌, get_or, map, Ordering, Less, Equal, Greater, is_le, nat_cmp, pow_pos, arith}
-use Rattle.std.specs.List.{AllByRecursion}
-use Rattle.std.specs.Ordering.{MatchOrdering, ordering_then}
-use Rattle.std.specs.Cmp.{nat_cmp_is}
+use Rattle.fs_buckets.proofs.Words.{◌≡◌, ℕ, zero, suc, ◌+◌, ◌-◌, ◌^◌, ◌<◌, ◌≤◌, ◌⊎◌, inl, inr, refl, sym, ap, ap₂, subst, ◌∙◌, true, true≢false, Option, Some, None, List, [], ◌∷◌, get_or, map, Ordering, Less, Equal, Greater, is_le, nat_cmp, pow_pos, arith, AllByRecursion, MatchOrdering, ordering_then, nat_cmp_is, cases_lt, none-some, Family, width_of, afi_of, Ruled, IsRule, destination_of, IsMade, destination_cmp, last_shown, shown_cmp, listed, family_of_destination, IsOfFamily, span_by, span_of, spans_of, AreNesting}
 use Rattle.std.proofs.Math.Pow.{pow_mono}
-use Rattle.std.proofs.lemmas.Bool.{cases_lt}
-use Rattle.std.proofs.lemmas.Option.{none-some}
 use Rattle.std.proofs.lemmas.Cmp.{ranked}
-use Rattle.fs_base.specs.declared.prefix.Family.{Family}
-use Rattle.fs_base.specs.Bits.{width_of, afi_of}
 use Rattle.fs_base.proofs.Blocks.{IsBlock, block_inside, block_meeting, block_of}
 use Rattle.fs_base.proofs.Orderings.{is_le_of_then}
-use Rattle.fs_nlri.specs.Parts.{Ruled}
-use Rattle.fs_nlri.specs.Rule.{IsRule, destination_of}
-use Rattle.fs_nlri.proofs.Destination.{IsMade}
 use Rattle.fs_order.specs.Comparison.{rule_cmp}
-use Rattle.fs_order.specs.Laws.{destination_cmp, last_shown, shown_cmp}
 use Rattle.fs_order.proofs.First.{destinations_first}
-use Rattle.fs_rules.specs.Lent.{listed}
 use Rattle.fs_rules.specs.Table.{AreOrdered, IsRuleOf}
 use Rattle.fs_validate.specs.declared.route.FlowRoute.{FlowRoute}
-use Rattle.fs_rules.proofs.Noting.{family_of_destination}
-use Rattle.fs_buckets.specs.Destinations.{IsOfFamily, span_by, span_of, spans_of}
-use Rattle.fs_buckets.specs.Runs.{AreNesting}
 use Rattle.fs_buckets.proofs.Destinations.{HasDestination, from_span, made_destination}
 
 le_from : (x y : ℕ) → is_le (nat_cmp x y) ≡ true → x ≤ y

@@ -1,17 +1,5 @@
 -- Buckets with the rules of one destination put anew.
-use Rattle.std.proofs.Common.{◌≡◌, ℕ, ◌+◌, ◌-◌, ◌<◌, ◌≤◌, ◌⊎◌, inl, inr, sym, ap, subst, ◌∙◌, Option, Some, None, List, [], length, get_or, arith}
-use Rattle.std.specs.List.{AllByRecursion, splice}
-use Rattle.std.proofs.lemmas.Bool.{cases_lt}
-use Rattle.std.proofs.lemmas.List.{length-map}
-use Rattle.fs_base.specs.declared.prefix.Family.{Family}
-use Rattle.fs_base.specs.Bits.{width_of}
-use Rattle.fs_rules.specs.Lent.{Listed, all_admitted, shown_lent}
-use Rattle.fs_rules.specs.declared.lent.LentRule.{LentRule}
-use Rattle.fs_buckets.specs.declared.buckets.Buckets.{Buckets}
-use Rattle.fs_buckets.specs.Buckets.{IsSubnet}
-use Rattle.fs_buckets.specs.Housed.{AreHoused, AreBucketsOf, HasStretch, Mends, AreSound}
-use Rattle.fs_buckets.specs.Destinations.{IsOfFamily, span_of, spans_of, AreNarrow, AreTo, IsStretch, place_by}
-use Rattle.fs_buckets.specs.Runs.{AreNesting}
+use Rattle.fs_buckets.proofs.Words.{◌≡◌, ℕ, ◌+◌, ◌-◌, ◌<◌, ◌≤◌, ◌⊎◌, inl, inr, sym, ap, subst, ◌∙◌, Option, Some, None, List, [], length, get_or, arith, AllByRecursion, splice, cases_lt, length-map, Family, width_of, Listed, all_admitted, shown_lent, LentRule, Buckets, IsSubnet, AreHoused, AreBucketsOf, HasStretch, Mends, AreSound, IsOfFamily, span_of, spans_of, AreNarrow, AreTo, IsStretch, place_by, AreNesting}
 use Rattle.fs_buckets.proofs.Splicing.{each_spliced, map_spliced}
 use Rattle.fs_buckets.proofs.Stretching.{bare_behind, housed_same, mends_spliced, nesting_housed, less_equal, nesting_spliced, none_count, same_count}
 use Rattle.fs_buckets.proofs.Widths.{narrow}

@@ -1,14 +1,5 @@
 -- Buckets of which one has another count of rules.
-use Rattle.std.proofs.Common.{◌≡◌, ℕ, ◌+◌, ◌-◌, ◌^◌, ◌<◌, ◌≤◌, ◌⊎◌, inl, inr, sym, ap, ap₂, subst, ◌∙◌, Option, Some, None, List, length, get_or, replicate, arith}
-use Rattle.std.specs.List.{splice}
-use Rattle.std.proofs.lemmas.Bool.{cases_lt}
-use Rattle.std.proofs.lemmas.List.{get_or-replicate, get_or_default, length-replicate}
-use Rattle.fs_buckets.specs.declared.buckets.Buckets.{Buckets}
-use Rattle.fs_buckets.specs.declared.nodes.Node.{Node}
-use Rattle.fs_buckets.specs.Addresses.{numbers_in, nodes_in}
-use Rattle.fs_buckets.specs.Buckets.{AreAbove, AreChanged, IsSubnet, moved, node_at}
-use Rattle.fs_buckets.specs.Housed.{AreHoused, span_at, AreBucketsOf, IsHolder, AreSound}
-use Rattle.fs_buckets.specs.Destinations.{AreTo}
+use Rattle.fs_buckets.proofs.Words.{◌≡◌, ℕ, ◌+◌, ◌-◌, ◌^◌, ◌<◌, ◌≤◌, ◌⊎◌, inl, inr, sym, ap, ap₂, subst, ◌∙◌, Option, Some, None, List, length, get_or, replicate, arith, splice, cases_lt, get_or-replicate, get_or_default, length-replicate, Buckets, Node, numbers_in, nodes_in, AreAbove, AreChanged, IsSubnet, moved, node_at, AreHoused, span_at, AreBucketsOf, IsHolder, AreSound, AreTo}
 use Rattle.fs_buckets.proofs.Splicing.{Part, at_back, at_front, at_middle, part_at, spliced_size}
 use Rattle.fs_buckets.proofs.Stretching.{first_of, home_of, home_over, home_under, none, start_of}
 

@@ -1,13 +1,6 @@
+use Rattle.fs_buckets.proofs.Words.{◌≡◌, ℕ, ◌+◌, ◌-◌, ◌<◌, ◌≤◌, ◌⊎◌, inl, inr, refl, sym, ap, ap₂, subst, ◌∙◌, ◌++◌, [], ◌∷◌, Option, Some, None, List, length, get_or, length-append, arith, cases_lt, cases_order, get_or_append_left, get_or_push, Node, AreBuckets, IsSubnet, node_at, AreNesting, AreNodes, ArePlain, AreRuns, Buckets, numbers_in, nodes_in, AreHoused}
+
 -- Runs, one rule more; their parents and nodes; and the buckets that these are.
-use Rattle.std.proofs.Common.{◌≡◌, ℕ, ◌+◌, ◌-◌, ◌<◌, ◌≤◌, ◌⊎◌, inl, inr, refl, sym, ap, ap₂, subst, ◌∙◌, ◌++◌, [], ◌∷◌, Option, Some, None, List, length, get_or, length-append, arith}
-use Rattle.std.proofs.lemmas.Bool.{cases_lt, cases_order}
-use Rattle.std.proofs.lemmas.List.{get_or_append_left, get_or_push}
-use Rattle.fs_buckets.specs.declared.nodes.Node.{Node}
-use Rattle.fs_buckets.specs.Buckets.{AreBuckets, IsSubnet, node_at}
-use Rattle.fs_buckets.specs.Runs.{AreNesting, AreNodes, ArePlain, AreRuns}
-use Rattle.fs_buckets.specs.declared.buckets.Buckets.{Buckets}
-use Rattle.fs_buckets.specs.Addresses.{numbers_in, nodes_in}
-use Rattle.fs_buckets.specs.Housed.{AreHoused}
 
 longer : {X : Type 0} (xs : List X) (y : X) → length (xs ++ y ∷ []) ≡ length xs + 1
 longer xs y = length-append xs (y ∷ [])

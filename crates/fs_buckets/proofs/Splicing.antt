@@ -1,9 +1,5 @@
 -- Lists with a stretch put anew: what stands where, and what is left elsewhere.
-use Rattle.std.proofs.Common.{◌≡◌, ℕ, zero, suc, ◌+◌, ◌-◌, ◌<◌, ◌≤◌, ◌⊎◌, inl, inr, refl, sym, ap, ap₂, subst, ◌∙◌, Some, List, [], ◌∷◌, ◌++◌, length, get_or, take, drop, map, length-take-le, length-drop, length-append, get_or-drop, arith}
-use Rattle.std.specs.List.{AllByRecursion, slice_get, splice}
-use Rattle.std.proofs.lemmas.Bool.{cases_lt}
-use Rattle.std.proofs.lemmas.List.{drop-map, get_or-append_right, get_or-take, get_or_append_left, map-append, take-map}
-use Rattle.std.proofs.lemmas.Option.{none-some, same_Some}
+use Rattle.fs_buckets.proofs.Words.{◌≡◌, ℕ, zero, suc, ◌+◌, ◌-◌, ◌<◌, ◌≤◌, ◌⊎◌, inl, inr, refl, sym, ap, ap₂, subst, ◌∙◌, Some, List, [], ◌∷◌, ◌++◌, length, get_or, take, drop, map, length-take-le, length-drop, length-append, get_or-drop, arith, AllByRecursion, slice_get, splice, cases_lt, drop-map, get_or-append_right, get_or-take, get_or_append_left, map-append, take-map, none-some, same_Some}
 use Rattle.fs_base.proofs.Lists.{each_append}
 use Rattle.fs_rules.proofs.Apart.{take_each, drop_each}
 

@@ -1,20 +1,5 @@
 -- How destinations stand to one another, and that rules in order stay nested with a stretch put anew.
-use Rattle.std.proofs.Common.{◌≡◌, ℕ, zero, suc, ◌+◌, ◌-◌, ◌<◌, ◌≤◌, ◌⊎◌, inl, inr, refl, sym, ap, ap₂, subst, ◌∙◌, Bool, true, false, if◌then◌else◌, Option, Some, None, List, [], ◌∷◌, length, get_or, Less, Equal, Greater, nat_cmp, arith}
-use Rattle.std.specs.List.{AllByRecursion, splice}
-use Rattle.std.specs.Cmp.{nat_cmp_is}
-use Rattle.std.specs.Ordering.{ordering_then}
-use Rattle.std.proofs.lemmas.Bool.{cases_lt, cases_order}
-use Rattle.std.proofs.lemmas.List.{get_or_past, length-map}
-use Rattle.std.proofs.lemmas.Option.{none-some}
-use Rattle.fs_base.specs.declared.prefix.Family.{Family}
-use Rattle.fs_rules.specs.Lent.{Listed}
-use Rattle.fs_buckets.specs.declared.buckets.Buckets.{Buckets}
-use Rattle.fs_buckets.specs.declared.nodes.Node.{Node}
-use Rattle.fs_buckets.specs.Addresses.{numbers_in, nodes_in}
-use Rattle.fs_buckets.specs.Buckets.{node_at}
-use Rattle.fs_buckets.specs.Housed.{AreHoused, span_at, IsLeft, IsPassed, Mends, Passes, bucket_span, AreSound}
-use Rattle.fs_buckets.specs.Destinations.{IsOfFamily, span_of, spans_of, AreTo, IsStretch, place_by, span_cmp}
-use Rattle.fs_buckets.specs.Runs.{AreNesting}
+use Rattle.fs_buckets.proofs.Words.{◌≡◌, ℕ, zero, suc, ◌+◌, ◌-◌, ◌<◌, ◌≤◌, ◌⊎◌, inl, inr, refl, sym, ap, ap₂, subst, ◌∙◌, Bool, true, false, if◌then◌else◌, Option, Some, None, List, [], ◌∷◌, length, get_or, Less, Equal, Greater, nat_cmp, arith, AllByRecursion, splice, nat_cmp_is, ordering_then, cases_lt, cases_order, get_or_past, length-map, none-some, Family, Listed, Buckets, Node, numbers_in, nodes_in, node_at, AreHoused, span_at, IsLeft, IsPassed, Mends, Passes, bucket_span, AreSound, IsOfFamily, span_of, spans_of, AreTo, IsStretch, place_by, span_cmp, AreNesting}
 use Rattle.fs_buckets.proofs.Homes.{home_before, home_from}
 use Rattle.fs_buckets.proofs.Nesting.{Fits, Follows, follows_none, nesting_from, span_proper, spans_fit}
 use Rattle.fs_buckets.proofs.Subnets.{subnet_proper}

@@ -1,10 +1,7 @@
 -- Prefixes as intervals of addresses are nested or apart.
-use Rattle.std.proofs.Common.{◌≡◌, ℕ, ◌+◌, ◌-◌, ◌*◌, ◌^◌, ◌<◌, ◌≤◌, ◌⊎◌, inl, inr, sym, ap, ◌∙◌, pow_pos, arith}
-use Rattle.std.proofs.Math.Nat.{add-mul, mul_assoc, mul-le-mul_right}
-use Rattle.std.proofs.lemmas.Bool.{cases_lt}
+use Rattle.fs_buckets.proofs.Words.{◌≡◌, ℕ, ◌+◌, ◌-◌, ◌*◌, ◌^◌, ◌<◌, ◌≤◌, ◌⊎◌, inl, inr, sym, ap, ◌∙◌, pow_pos, arith, add-mul, mul_assoc, mul-le-mul_right, cases_lt, IsSubnet}
 use Rattle.std.proofs.lemmas.Nat.{pow-add}
 use Rattle.fs_base.proofs.NumberTests.{next_row}
-use Rattle.fs_buckets.specs.Buckets.{IsSubnet}
 
 pub subnet_proper : (first last : ℕ) → IsSubnet first last → first ≤ last
 subnet_proper first last s = let some : 0 < 2 ^ s.host = pow_pos s.host in let e : last + 1 ≡ first + 2 ^ s.host = s.ends in omega (arith, some, e)

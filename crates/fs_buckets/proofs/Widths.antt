@@ -1,15 +1,5 @@
 -- The addresses of a rule's destination are those of a prefix, and have the width of its family.
-use Rattle.std.proofs.Common.{◌≡◌, ◌∙◌, ℕ, zero, suc, ◌+◌, ◌-◌, ◌^◌, ◌<◌, ◌≤◌, sym, subst, Some, List, [], ◌∷◌, pow_pos, arith}
-use Rattle.std.specs.List.{AllByRecursion}
-use Rattle.std.proofs.lemmas.Option.{none-some}
-use Rattle.fs_base.specs.declared.prefix.Family.{Family}
-use Rattle.fs_base.specs.Bits.{IsBlock, width_of, block_of}
-use Rattle.fs_nlri.proofs.Destination.{IsMade}
-use Rattle.fs_order.specs.Laws.{last_shown}
-use Rattle.fs_rules.specs.Lent.{Listed}
-use Rattle.fs_rules.proofs.Noting.{family_of_destination}
-use Rattle.fs_buckets.specs.Buckets.{IsSubnet}
-use Rattle.fs_buckets.specs.Destinations.{IsOfFamily, span_of, spans_of, AreNarrow}
+use Rattle.fs_buckets.proofs.Words.{◌≡◌, ◌∙◌, ℕ, zero, suc, ◌+◌, ◌-◌, ◌^◌, ◌<◌, ◌≤◌, sym, subst, Some, List, [], ◌∷◌, pow_pos, arith, AllByRecursion, none-some, Family, IsBlock, width_of, block_of, IsMade, last_shown, Listed, family_of_destination, IsSubnet, IsOfFamily, span_of, spans_of, AreNarrow}
 use Rattle.fs_buckets.proofs.Destinations.{HasDestination, from_span, made_destination}
 
 span_narrow : (family : Family) (r : Listed) (s : ℕ × ℕ) → IsOfFamily family r → span_of r.rule ≡ Some s → (s.0 < 2 ^ width_of family) × (s.1 < 2 ^ width_of family) × IsSubnet s.0 s.1

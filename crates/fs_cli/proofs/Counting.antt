@@ -1,12 +1,9 @@
 -- The number that the second word of `gen` writes.
-use Rattle.std.proofs.Common.{◌≡◌, ◌∙◌, ◌≤◌, ℕ, List, Bool, true, false, ◌&&◌, nat_le, Some, None, Result, Ok, Err, decimal, refl, ap, sym, arith, if◌then◌else◌}
-use Rattle.std.specs.Str.{bytes_eq}
+use Rattle.fs_cli.proofs.Words.{◌≡◌, ◌∙◌, ◌≤◌, ℕ, List, Bool, true, false, ◌&&◌, nat_le, Some, None, Result, Ok, Err, decimal, refl, ap, sym, arith, if◌then◌else◌, bytes_eq, bytes_eq-Decides, count_of}
 use Rattle.std.specs.Str.Parse.{ParsesUnsigned, digits_value}
 use Rattle.std.proofs.lemmas.Bool.{and_parts, le-leb, leb-true}
 use Rattle.std.proofs.lemmas.Fmt.{decimal_is_IsNumeral, parse-decimal}
-use Rattle.std.proofs.lemmas.Slice.Eq.{bytes_eq-Decides}
 use Rattle.fs_base.proofs.Bools.{and_both}
-use Rattle.fs_cli.specs.Command.{count_of}
 
 none_if : (b : Bool) (n : ℕ) → (b ≡ true → ⊥) → None ≡ (if b then Some n else None)
 none_if true n h = absurd (h refl)

@@ -1,3 +1,4 @@
+mod Words
 pub mod Counting
 pub mod Surveying
 pub mod Running

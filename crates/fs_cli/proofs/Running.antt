@@ -1,51 +1,35 @@
 -- What the clauses of a run say follows from what it does.
-use Rattle.std.proofs.Common.{◌≡◌, ◌≢◌, ◌⊎◌, ◌++◌, append-nil, inl, inr, ◌<◌, ◌∙◌, ◌==◌, ℕ, List, [], ◌∷◌, Option, Some, None, Result, Ok, Err, IsTrue, refl, ap, sym, subst, arith, true, false, Bool, not, if◌then◌else◌, filter, length, nat_le}
+use Rattle.fs_cli.proofs.Words.{◌≡◌, ◌≢◌, ◌⊎◌, ◌++◌, append-nil, inl, inr, ◌<◌, ◌∙◌, ◌==◌, ℕ, List, [], ◌∷◌, Option, Some, None, Result, Ok, Err, IsTrue, refl, ap, sym, subst, arith, true, false, Bool, not, if◌then◌else◌, filter, length, nat_le, Happened, happened, with_wire, FilesFailed, SinkFailed, WireFailed, FilesStood, SinkStood, WireStood, Grew, Grew-refl, Config, Timed, tape_of, Conversation, conversation, ChecksSo, Does, IsOneOf, Runs, HasNoMoments, HasStatus, HasCauses, Completes, Promises, objects, FailedOver, OutsideFailed, WireServed, Objects, AreTold, FilesKept, SinkKept, WireKept, ClockKept, names_in, happened_in, talk_in, speaks, statuses, EnforcesSo, Enforced, Wants, Inputs, inputs, inputs_stage, status_for, HoldsConfig, Names, OpensBoth, fetch, config_stage, Form, Enforce, Surveys, Converts, Check, Gen, form_of, Announce, Listen, Pair, Text, ListsSo, Surveyed, listed_status, text_for, HasVersion, HoldsTape, accepted_stage, tape_stage, Answers, answered, Stage, Found, Stopped, Verdict, and_then, or_stop, status_of, Refusal, Outside, Rejected, Tape, Capture, Dump, Memory, Limit, Session, Caused, due_status, early_status, late_status, never_early, never_zero, not_rose, same_found}
 use Rattle.std.specs.List.{AllByRecursion}
 use Rattle.std.specs.Prelude.{⊤}
 use Rattle.std.proofs.lemmas.Bool.Decides.{nat_tests}
-use Rattle.fs_base.specs.Happened.{Happened, happened, with_wire, FilesFailed, SinkFailed, WireFailed, FilesStood, SinkStood, WireStood}
-use Rattle.fs_base.specs.Sink.{Grew}
 use Rattle.fs_base.specs.declared.Files as files
 use Rattle.fs_base.specs.declared.Sink as sink
 use Rattle.fs_base.specs.declared.Wire as wire
 use Rattle.fs_base.specs.declared.Clock as clock
-use Rattle.fs_base.proofs.Grew.{Grew-refl}
 use Rattle.fs_input.specs.Records.{End, done, limited, bad}
-use Rattle.fs_base.specs.declared.config.Config.{Config}
 use Rattle.fs_conf.specs.Config.{config_of}
 use Rattle.cmd_enforce.specs.Capture.{Captured, Recorded, capture_of}
 use Rattle.cmd_enforce.specs.declared.fault.CaptureReason.{CaptureReason}
 use Rattle.fs_rules.specs.Table.{Held}
-use Rattle.fs_tape.specs.Tape.{Timed, tape_of}
 use Rattle.fs_tape.specs.Laws.{tape_text}
 use Rattle.fs_tape.specs.declared.fault.TapeReason.{TapeReason}
-use Rattle.cmd_wire.specs.Conversation.{Conversation, conversation}
 use Rattle.cmd_wire.specs.Promised.{AnnouncePromises, PairPromises}
 use Rattle.cmd_wire.proofs.Promising.{announce_promises, announce_status}
 use Rattle.cmd_wire.specs.PromisedHearing.{ListenPromises}
 use Rattle.cmd_wire.proofs.PromisingHearing.{listen_promises, listen_status}
 use Rattle.cmd_wire.proofs.PromisingPair.{pair_promises, pair_status}
-use Rattle.fs_cli.specs.Program.{ChecksSo, Does, IsOneOf, Runs, HasNoMoments, HasStatus, HasCauses, Completes, Promises, objects, FailedOver, OutsideFailed, WireServed, Objects, AreTold, FilesKept, SinkKept, WireKept, ClockKept, names_in, happened_in, talk_in, speaks, statuses}
-use Rattle.cmd_enforce.specs.Command.{EnforcesSo, Enforced, Wants, Inputs, inputs, inputs_stage, status_for}
 use Rattle.cmd_gen.specs.Command.{GeneratesSo, Generated}
-use Rattle.cmd_stages.specs.Load.{HoldsConfig, Names, OpensBoth, fetch, config_stage}
-use Rattle.fs_cli.specs.Command.{Form, Enforce, Surveys, Converts, Check, Gen, form_of, Announce, Listen, Pair}
 use Rattle.fs_mrt.specs.declared.fault.DumpReason.{DumpReason}
 use Rattle.cmd_convert.specs.Command.{Converted, ConvertsSo, convert_status, dump_stage, status_for as status_by, status_at as dump_status, verdict_of}
 use Rattle.cmd_convert.specs.Making.{remade}
 use Rattle.cmd_convert.proofs.Fitting.{reads_back_converted}
-use Rattle.fs_cli.specs.Survey.{Text, ListsSo, Surveyed, listed_status, text_for}
 use Rattle.fs_cli.specs.declared.command.Subject.{Subject}
 use Rattle.fs_cli.specs.declared.survey.Survey.{Survey}
 use Rattle.fs_tape.specs.declared.magic.Version.TheVariants.{Two}
-use Rattle.cmd_stages.specs.Play.{HasVersion, HoldsTape, accepted_stage, tape_stage}
 use Rattle.cmd_stages.proofs.LookingAhead.{found_items}
 use Rattle.cmd_enforce.specs.Judge.{capture_stage, lines_from, output_of, rules_by, status_at}
 use Rattle.cmd_enforce.specs.Moments.{AnswersAt, HoldAt, verdict_at}
-use Rattle.cmd_stages.specs.Refusal.{Answers, answered, Stage, Found, Stopped, Verdict, and_then, or_stop, status_of}
-use Rattle.cmd_stages.specs.declared.refusal.Refusal.{Refusal}
-use Rattle.cmd_stages.specs.declared.refusal.Refusal.TheVariants.{Outside, Rejected, Tape, Capture, Dump, Memory, Limit, Session}
-use Rattle.cmd_wire.proofs.Statuses.{Caused, due_status, early_status, late_status, never_early, never_zero, not_rose, same_found}
 use Rattle.cmd_wire.proofs.Accepted.{some_found, then_found}
 
 -- the status

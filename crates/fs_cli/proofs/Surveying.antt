@@ -1,21 +1,8 @@
 -- How the answer of a survey follows from those of its stages.
-use Rattle.std.proofs.Common.{◌≡◌, ◌≢◌, ◌⊎◌, inl, inr, ◌∙◌, ℕ, List, [], Option, Result, Ok, Err, refl, ap, sym, subst}
+use Rattle.fs_cli.proofs.Words.{◌≡◌, ◌≢◌, ◌⊎◌, inl, inr, ◌∙◌, ℕ, List, [], Option, Result, Ok, Err, refl, ap, sym, subst, Grew, GrewPart, Config, Grew-refl, Timed, Names, config_stage, tape_stage, IsPlayed, untimed, answered, Answers, verdict_with, Stage, Found, and_then, status_of, HasReason, Fails, Writes, Refusal, Outside, Rejected, Tape, Capture, Dump, Memory, Limit, Session, take_nothing, accepted_with, fails_for, said_by, said_partly, said_so, said_whole, Text, stopped_text, ListsSo, SaysOf}
 use Rattle.std.specs.Result.{IsErrAnd}
-use Rattle.fs_base.specs.Sink.{Grew, GrewPart}
-use Rattle.fs_base.specs.declared.config.Config.{Config}
-use Rattle.fs_base.proofs.Grew.{Grew-refl}
-use Rattle.fs_tape.specs.Tape.{Timed}
 use Rattle.fs_desk.specs.Desk.{Desked}
 use Rattle.fs_desk.proofs.Leaves.{played_leaves}
-use Rattle.cmd_stages.specs.Load.{Names, config_stage}
-use Rattle.cmd_stages.specs.Play.{tape_stage, IsPlayed, untimed}
-use Rattle.cmd_stages.specs.Refusal.{answered, Answers, verdict_with, Stage, Found, and_then, status_of, HasReason}
-use Rattle.cmd_stages.specs.Writing.{Fails, Writes}
-use Rattle.cmd_stages.specs.declared.refusal.Refusal.{Refusal}
-use Rattle.cmd_stages.specs.declared.refusal.Refusal.TheVariants.{Outside, Rejected, Tape, Capture, Dump, Memory, Limit, Session}
-use Rattle.cmd_stages.proofs.Stages.{take_nothing, accepted_with}
-use Rattle.cmd_stages.proofs.Texts.{fails_for, said_by, said_partly, said_so, said_whole}
-use Rattle.fs_cli.specs.Survey.{Text, stopped_text, ListsSo, SaysOf}
 
 -- of no other fault than a tape's anything is said
 nothing_said : (refusal : Refusal) → status_of refusal ≢ 4 → stopped_text refusal ≡ []

@@ -1,12 +1,5 @@
 -- The search through buckets, from one to its parent: what it passes holds no rule that matches, and what it tests is near.
-use Rattle.std.proofs.Common.{◌≡◌, ℕ, ◌+◌, ◌-◌, ◌<◌, ◌≤◌, ◌⊎◌, inl, inr, max, sym, ap, subst, ◌∙◌, Bool, true, false, true≢false, Option, Some, None, MatchOption, IfSome, cond, map, List, length, get_or, count_by, arith}
-use Rattle.std.proofs.lemmas.Bool.{cases_lt}
-use Rattle.std.proofs.lemmas.List.{get_or-map}
-use Rattle.std.proofs.lemmas.List.Sums.{sum_by-take-le}
-use Rattle.fs_base.proofs.Bools.{false_from}
-use Rattle.fs_buckets.specs.declared.Node.{Node}
-use Rattle.fs_buckets.specs.Buckets.{AreBuckets, node_at}
-use Rattle.fs_compile.specs.Search.{AreNear, Found, Missed, Within, marked, tested_to}
+use Rattle.fs_compile.proofs.Words.{◌≡◌, ℕ, ◌+◌, ◌-◌, ◌<◌, ◌≤◌, ◌⊎◌, inl, inr, max, sym, ap, subst, ◌∙◌, Bool, true, false, true≢false, Option, Some, None, MatchOption, IfSome, cond, map, List, length, get_or, count_by, arith, cases_lt, get_or-map, sum_by-take-le, false_from, Node, AreBuckets, node_at, AreNear, Found, Missed, Within, marked, tested_to}
 use Rattle.fs_compile.proofs.Counts.{marked_all, marked_later, marked_tested}
 use Rattle.fs_buckets.proofs.Homes.{home_before, home_from}
 

@@ -1,9 +1,6 @@
+use Rattle.fs_compile.proofs.Words.{◌≡◌, ℕ, zero, suc, ◌+◌, ◌-◌, ◌<◌, ◌≤◌, ◌⊎◌, inl, inr, refl, sym, ap, subst, max, Bool, true, false, List, length, get_or, count_by, arith, take_all, take, cond, cases_lt, marked, count_by_more_yes, sum_by-take-le, take-take}
+
 -- Counts of what holds in the front of a list of tests.
-use Rattle.std.proofs.Common.{◌≡◌, ℕ, zero, suc, ◌+◌, ◌-◌, ◌<◌, ◌≤◌, ◌⊎◌, inl, inr, refl, sym, ap, subst, max, Bool, true, false, List, length, get_or, count_by, arith, take_all, take, cond}
-use Rattle.std.proofs.lemmas.Bool.{cases_lt}
-use Rattle.fs_compile.specs.Search.{marked}
-use Rattle.std.proofs.lemmas.List.Sums.{count_by_more_yes, sum_by-take-le}
-use Rattle.std.proofs.lemmas.List.{take-take}
 
 -- counts don't fall
 pub marked_later : (n m : ℕ) (near : List Bool) → n ≤ m → marked n near ≤ marked m near

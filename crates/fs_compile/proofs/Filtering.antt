@@ -1,17 +1,6 @@
 -- The filters of rules of which a stretch is put anew.
-use Rattle.std.proofs.Common.{◌≡◌, ℕ, ◌+◌, ◌-◌, ◌*◌, ◌<◌, ◌≤◌, max, refl, sym, ap, ap₂, subst, ◌∙◌, false, List, length, get_or, arith}
-use Rattle.std.specs.List.{splice}
-use Rattle.std.proofs.lemmas.List.{length-map}
+use Rattle.fs_compile.proofs.Words.{◌≡◌, ℕ, ◌+◌, ◌-◌, ◌*◌, ◌<◌, ◌≤◌, max, refl, sym, ap, ap₂, subst, ◌∙◌, false, List, length, get_or, arith, splice, length-map, PortRows, Fast, Filter, ArePortRows, AreRowsOf, IsColumn, bit_in, words_for, Facts, facts_hold, IsFilter, hits, at_back, at_front, map_spliced, spliced_size}
 use Rattle.fs_compile.specs.declared.columns.Column.{Column}
-use Rattle.fs_compile.specs.declared.columns.PortRows.{PortRows}
-use Rattle.fs_ranges.specs.declared.Fast.{Fast}
-use Rattle.fs_compile.specs.declared.filters.Filter.{Filter}
-use Rattle.fs_compile.specs.Columns.{ArePortRows, AreRowsOf, IsColumn, bit_in, words_for}
-use Rattle.fs_ranges.specs.Facts.{Facts}
-use Rattle.fs_ranges.specs.Fast.{facts_hold}
-use Rattle.fs_compile.specs.Filters.{IsFilter}
-use Rattle.fs_compile.specs.Search.{hits}
-use Rattle.fs_buckets.proofs.Splicing.{at_back, at_front, map_spliced, spliced_size}
 
 column_moved : (before after : List Fast) (first end first' end' : ℕ) (column : Column) → first ≤ end → end' ≡ first' + (end - first)
     → ((facts : Facts) (i : ℕ) → first + i < end → get_or (hits facts after) (first' + i) false ≡ get_or (hits facts before) (first + i) false)

@@ -1,18 +1,7 @@
 -- An index with the rules of one destination put anew.
-use Rattle.std.proofs.Common.{◌≡◌, ℕ, ◌-◌, ◌≤◌, sym, ap, subst, ◌∙◌, Option, List, ◌++◌, take, drop, length, arith}
-use Rattle.std.specs.List.{AllByRecursion, splice}
-use Rattle.std.proofs.lemmas.List.{length-map}
-use Rattle.fs_base.specs.declared.prefix.Family.{Family}
-use Rattle.fs_rules.specs.Lent.{Listed}
-use Rattle.fs_ranges.specs.declared.Fast.{Fast}
-use Rattle.fs_ranges.specs.Fast.{StandsFor}
-use Rattle.fs_buckets.specs.Housed.{AreHoused, HasStretch}
-use Rattle.fs_compile.specs.Index.{Indexed, IsIndexOf, StandForEach, actions_of}
-use Rattle.fs_buckets.specs.Destinations.{IsOfFamily, span_of, spans_of, IsStretch}
+use Rattle.fs_compile.proofs.Words.{◌≡◌, ℕ, ◌-◌, ◌≤◌, sym, ap, subst, ◌∙◌, Option, List, ◌++◌, take, drop, length, arith, AllByRecursion, splice, length-map, Family, Listed, Fast, StandsFor, AreHoused, HasStretch, Indexed, IsIndexOf, StandForEach, actions_of, IsOfFamily, span_of, spans_of, IsStretch, each_spliced, map_spliced, rules_size}
 use Rattle.fs_compile.proofs.Indexing.{stand_size}
 use Rattle.fs_buckets.proofs.Pairing.{each_append as pairs_append, each_dropped as pairs_dropped, each_taken as pairs_taken}
-use Rattle.fs_buckets.proofs.Splicing.{each_spliced, map_spliced}
-use Rattle.fs_buckets.proofs.Replacing.{rules_size}
 
 -- the index stands for the rules with the stretch put anew
 pub index_spliced : (family : Family) (rules news : List Listed) (from to : ℕ) (new : Indexed) → AllByRecursion (IsOfFamily family) rules

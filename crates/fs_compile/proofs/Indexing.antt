@@ -1,31 +1,8 @@
 -- What the search over the buckets of an index says of the rules that it stands for.
-use Rattle.std.proofs.Common.{◌≡◌, ℕ, zero, suc, ◌+◌, ◌-◌, ◌<◌, ◌≤◌, ◌⊎◌, inl, inr, refl, sym, ap, ap₂, subst, ◌∙◌, Bool, true, false, true≢false, cond, if◌then◌else◌, Option, Some, None, MatchOption, max, List, [], ◌∷◌, length, get_or, drop, map, count_by, get_or-drop, drop_of_length-le, arith}
-use Rattle.std.specs.List.{AllByRecursion}
-use Rattle.std.proofs.lemmas.Bool.{cases_lt}
-use Rattle.std.proofs.lemmas.List.{drop-map, get_or_past, length-map}
-use Rattle.std.proofs.lemmas.List.Sums.{sum_by-cons, sum_by-take-drop}
-use Rattle.std.proofs.lemmas.Option.{none-some}
-use Rattle.fs_base.specs.declared.prefix.Family.{Family}
-use Rattle.fs_base.specs.declared.prefix.Family.TheVariants.{V4, V6}
-use Rattle.fs_packet.specs.Fields.{Viewed, family_of}
-use Rattle.fs_packet.specs.Matching.{is_match}
-use Rattle.fs_rules.specs.Lent.{Listed}
-use Rattle.fs_rules.specs.Walk.{first_from}
-use Rattle.fs_compile.specs.declared.compiled.Compiled.{Compiled}
-use Rattle.fs_ranges.specs.declared.Fast.{Fast}
-use Rattle.fs_compile.specs.declared.search.Hit.{Hit}
-use Rattle.fs_ranges.specs.Facts.{AreFacts, Facts, IsSmall}
-use Rattle.fs_ranges.specs.Fast.{StandsFor}
-use Rattle.fs_compile.specs.Index.{Indexed, IsIndexOf, StandForEach}
-use Rattle.fs_buckets.specs.Destinations.{IsOfFamily, spans_of}
-use Rattle.fs_compile.specs.Matcher.{StandsForLists, next_from}
-use Rattle.fs_buckets.specs.Addresses.{number_of}
-use Rattle.fs_compile.specs.Reach.{reaches, reaching, reaching_behind, reaching_from}
-use Rattle.fs_compile.specs.Search.{Found, IsNear, Missed, Within, hit_number, hits, marked, tested_to}
+use Rattle.fs_compile.proofs.Words.{◌≡◌, ℕ, zero, suc, ◌+◌, ◌-◌, ◌<◌, ◌≤◌, ◌⊎◌, inl, inr, refl, sym, ap, ap₂, subst, ◌∙◌, Bool, true, false, true≢false, cond, if◌then◌else◌, Option, Some, None, MatchOption, max, List, [], ◌∷◌, length, get_or, drop, map, count_by, get_or-drop, drop_of_length-le, arith, AllByRecursion, cases_lt, drop-map, get_or_past, length-map, sum_by-cons, sum_by-take-drop, none-some, Family, V4, V6, Viewed, family_of, is_match, Listed, first_from, Compiled, Fast, Hit, AreFacts, Facts, IsSmall, StandsFor, Indexed, IsIndexOf, StandForEach, IsOfFamily, spans_of, StandsForLists, next_from, number_of, reaches, reaching, reaching_behind, reaching_from, Found, IsNear, Missed, Within, hit_number, hits, marked, tested_to, each_size}
 use Rattle.fs_compile.proofs.Climbing.{marked_most}
 use Rattle.fs_ranges.proofs.Placing.{held_of}
 use Rattle.fs_compile.proofs.Reaching.{bare_reaches, match_reaches, span_reaches}
-use Rattle.fs_buckets.proofs.Pairing.{each_size}
 
 abbrev matches_of : Viewed → List Listed → List Bool
 matches_of view rules = map (λ r. is_match r.rule view) rules

@@ -1,38 +1,11 @@
 -- The rules of a matcher put anew, one place after the other.
-use Rattle.std.proofs.Common.{◌≡◌, ℕ, zero, suc, Result, Ok, Err, IfOk, ◌-◌, ◌^◌, ◌<◌, ◌≤◌, ◌+◌, ◌==◌, ◌&&◌, ◌||◌, ◌⊎◌, inl, inr, refl, sym, ap, subst, ◌∙◌, Bool, true, false, true≢false, not, cond, Option, Some, None, IfSome, option_map, List, [], ◌∷◌, filter, length, get_or, map, Ordering, Less, Equal, Greater, nat_cmp, pow_pos, arith}
-use Rattle.std.specs.List.{AllByRecursion}
+use Rattle.fs_compile.proofs.Words.{◌≡◌, ℕ, zero, suc, Result, Ok, Err, IfOk, ◌-◌, ◌^◌, ◌<◌, ◌≤◌, ◌+◌, ◌==◌, ◌&&◌, ◌||◌, ◌⊎◌, inl, inr, refl, sym, ap, subst, ◌∙◌, Bool, true, false, true≢false, not, cond, Option, Some, None, IfSome, option_map, List, [], ◌∷◌, filter, length, get_or, map, Ordering, Less, Equal, Greater, nat_cmp, pow_pos, arith, AllByRecursion, is_eq, is_gt, is_lt, ordering_then, cases_order, eq-eqb, eqb-true, slice_get_read, each_append, each_weaker, filter_all, filter_on, each_filtered, afi_of, width_of, Family, V4, V6, Prefix, IsMade, Ruled, destination_of, shown, destination_cmp, last_shown, shown_cmp, Listed, listed, Held, IsAdmitted, IsRuleOf, admitted, Change, family_of_destination, Compiled, IsIndexOf, IsOfFamily, span_by, span_of, spans_of, AreTo, place_by, span_cmp, target_of, StandsForLists, admitted_in, AreOwn, put_in, replaced, AreNesting, all_of_family, nesting, made_destination, each_got, same_place}
 use Rattle.std.specs.Cmp.{nat_cmp_is}
-use Rattle.std.specs.Ordering.{is_eq, is_gt, is_lt, ordering_then}
 use Rattle.std.proofs.Math.Pow.{pow-lt}
-use Rattle.std.proofs.lemmas.Bool.{cases_order, eq-eqb, eqb-true}
-use Rattle.std.proofs.lemmas.Option.{slice_get_read}
-use Rattle.fs_base.proofs.Lists.{each_append, each_weaker, filter_all, filter_on, each_filtered}
-use Rattle.fs_base.specs.Bits.{afi_of, width_of}
-use Rattle.fs_base.specs.declared.prefix.Family.{Family}
-use Rattle.fs_base.specs.declared.prefix.Family.TheVariants.{V4, V6}
-use Rattle.fs_base.specs.declared.prefix.Prefix.{Prefix}
-use Rattle.fs_nlri.proofs.Destination.{IsMade}
-use Rattle.fs_nlri.specs.Parts.{Ruled}
-use Rattle.fs_nlri.specs.Rule.{destination_of, shown}
-use Rattle.fs_order.specs.Laws.{destination_cmp, last_shown, shown_cmp}
 use Rattle.fs_rules.specs.Changes.{AdmitsElsewhere, IsOwn, is_to, touched_by}
-use Rattle.fs_rules.specs.Lent.{Listed, listed}
-use Rattle.fs_rules.specs.Table.{Held, IsAdmitted, IsRuleOf, admitted}
-use Rattle.fs_rules.specs.declared.Change.{Change}
 use Rattle.fs_validate.specs.declared.route.FlowRoute.{FlowRoute}
-use Rattle.fs_rules.proofs.Noting.{family_of_destination}
-use Rattle.fs_compile.specs.declared.compiled.Compiled.{Compiled}
-use Rattle.fs_compile.specs.Index.{IsIndexOf}
-use Rattle.fs_buckets.specs.Destinations.{IsOfFamily, span_by, span_of, spans_of, AreTo, place_by, span_cmp, target_of}
-use Rattle.fs_compile.specs.Matcher.{StandsForLists, admitted_in}
-use Rattle.fs_compile.specs.Mending.{AreOwn, put_in, replaced}
-use Rattle.fs_buckets.specs.Runs.{AreNesting}
-use Rattle.fs_buckets.proofs.Nesting.{all_of_family, nesting}
-use Rattle.fs_buckets.proofs.Destinations.{made_destination}
-use Rattle.fs_buckets.proofs.Splicing.{each_got}
 use Rattle.fs_compile.proofs.Parting.{one_fewer}
 use Rattle.fs_compile.proofs.Replacing.{placed}
-use Rattle.fs_buckets.proofs.Stretching.{same_place}
 
 -- the rules are of the family
 abbrev pub AreOf : Family → List Listed → Type 0

@@ -1,7 +1,6 @@
+use Rattle.fs_compile.proofs.Words.{◌≡◌, ℕ, zero, suc, ◌+◌, ◌-◌, ◌<◌, ◌≤◌, refl, sym, ap, ap₂, ◌∙◌, Bool, true, false, true≢false, cond, not, ◌||◌, List, [], ◌∷◌, ◌++◌, length, get_or, take, drop, map, filter, Ordering, Less, Equal, Greater, arith, is_eq, is_gt, is_lt, filter-append}
+
 -- Lists parted by a test, or by an order: what stands in front, at a place, and behind.
-use Rattle.std.proofs.Common.{◌≡◌, ℕ, zero, suc, ◌+◌, ◌-◌, ◌<◌, ◌≤◌, refl, sym, ap, ap₂, ◌∙◌, Bool, true, false, true≢false, cond, not, ◌||◌, List, [], ◌∷◌, ◌++◌, length, get_or, take, drop, map, filter, Ordering, Less, Equal, Greater, arith}
-use Rattle.std.specs.Ordering.{is_eq, is_gt, is_lt}
-use Rattle.fs_base.proofs.Lists.{filter-append}
 
 -- What passes a test stands in front, or behind.
 pub filter_front : {X K : Type 0} (key : X → K) (p : K → Bool) (e : K) (xs : List X) (n : ℕ) → ((k : ℕ) → k < n → k < length xs → p (get_or (map key xs) k e) ≡ true)

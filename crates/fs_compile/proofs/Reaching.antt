@@ -1,30 +1,10 @@
 -- Which packets the destination of a rule covers: those whose destination lies between its first and its last address. A
 -- rule matches no others.
-use Rattle.std.proofs.Common.{◌≡◌, ℕ, ◌-◌, ◌*◌, ◌^◌, ◌<◌, ◌≤◌, ◌==◌, ◌↔◌, refl, sym, ap, ap₂, subst, ◌∙◌, Bool, true, false, true≢false, cond, Option, Some, None, List, [], ◌∷◌, arith}
-use Rattle.std.specs.List.{list_all}
-use Rattle.std.proofs.lemmas.Bool.{eqb-true, eq-eqb}
-use Rattle.std.proofs.lemmas.Option.{none-some}
-use Rattle.fs_base.proofs.Bools.{and_first, and_second}
-use Rattle.fs_base.specs.declared.prefix.Family.{Family}
-use Rattle.fs_base.specs.declared.prefix.Family.TheVariants.{V4, V6}
-use Rattle.fs_base.specs.declared.prefix.Prefix.{Prefix}
+use Rattle.fs_compile.proofs.Words.{◌≡◌, ℕ, ◌-◌, ◌*◌, ◌^◌, ◌<◌, ◌≤◌, ◌==◌, ◌↔◌, refl, sym, ap, ap₂, subst, ◌∙◌, Bool, true, false, true≢false, cond, Option, Some, None, List, [], ◌∷◌, arith, list_all, eqb-true, eq-eqb, none-some, and_first, and_second, Family, V4, V6, Prefix, width_of, cleared, Body, V4Body, V6Body, ListBody, Part, Ruled, IsRule, IsNormalAt, AreNormal, destination_body, destination_in, destination_of, IsMade, destination_first, last_shown, Viewed, family_of, is_match, is_prefix_of, body_matches, part_matches, family_of_destination, IsSmallAddress, span_by, span_of, number_of, covers_address, reaches, made_destination, HasDestination, from_span}
 use Rattle.fs_base.specs.declared.config.Address.{Address}
 use Rattle.fs_base.specs.declared.config.Address.TheVariants.{V4 as V4Address, V6 as V6Address}
-use Rattle.fs_base.specs.Bits.{width_of, cleared}
 use Rattle.fs_base.proofs.Addresses.{address_range}
 use Rattle.fs_nlri.specs.Forms.{form_of}
-use Rattle.fs_nlri.specs.Parts.{Body, V4Body, V6Body, ListBody, Part, Ruled}
-use Rattle.fs_nlri.specs.Rule.{IsRule, IsNormalAt, AreNormal, destination_body, destination_in, destination_of}
-use Rattle.fs_nlri.proofs.Destination.{IsMade, destination_first}
-use Rattle.fs_order.specs.Laws.{last_shown}
-use Rattle.fs_packet.specs.Fields.{Viewed, family_of}
-use Rattle.fs_packet.specs.Matching.{is_match, is_prefix_of, body_matches, part_matches}
-use Rattle.fs_rules.proofs.Noting.{family_of_destination}
-use Rattle.fs_ranges.specs.Facts.{IsSmallAddress}
-use Rattle.fs_buckets.specs.Destinations.{span_by, span_of}
-use Rattle.fs_buckets.specs.Addresses.{number_of}
-use Rattle.fs_compile.specs.Reach.{covers_address, reaches}
-use Rattle.fs_buckets.proofs.Destinations.{made_destination, HasDestination, from_span}
 
 -- the addresses with the first bits of a destination are those from its first to its last
 destination_range : (d : Family × ℕ × ℕ) (n : ℕ) → IsMade (Some d) → n < 2 ^ width_of d.0

@@ -1,19 +1,8 @@
 -- The rules that a packet may match, by the bits of words.
-use Rattle.std.proofs.Common.{◌≡◌, ℕ, ◌+◌, ◌-◌, ◌*◌, ◌/◌, ◌%◌, ◌^◌, ◌<◌, ◌≤◌, ◌⊎◌, inl, inr, max, min, sym, subst, ap, ◌∙◌, Bool, true, false, bit_and, map, List, get_or, length, w64, arith}
-use Rattle.std.specs.Int.{bit_at, trailing_zeros}
+use Rattle.fs_compile.proofs.Words.{◌≡◌, ℕ, ◌+◌, ◌-◌, ◌*◌, ◌/◌, ◌%◌, ◌^◌, ◌<◌, ◌≤◌, ◌⊎◌, inl, inr, max, min, sym, subst, ap, ◌∙◌, Bool, true, false, bit_and, map, List, get_or, length, w64, arith, bit_at, trailing_zeros, cases_lt, get_or-map, bit_at-trailing_zeros, bit_at-zero, bit_at_and, bit_at_or, false_from, Rows, PortRows, Fast, ArePortRows, IsClass, IsRow, bit_in, words_for, Facts, AreRows, front_of, word_of, Missed, hits}
 use Rattle.std.proofs.Math.Nat.{div-div-eq-div-mul, div-le_self}
-use Rattle.std.proofs.lemmas.Bool.{cases_lt}
-use Rattle.std.proofs.lemmas.List.{get_or-map}
 use Rattle.std.proofs.lemmas.Nat.{pow-add}
-use Rattle.std.proofs.lemmas.Nat.Bits.{bit_at-trailing_zeros, bit_at-zero, bit_at_and, bit_at_or}
-use Rattle.fs_base.proofs.Bools.{false_from}
-use Rattle.fs_compile.specs.declared.filters.Rows.{Rows}
-use Rattle.fs_compile.specs.declared.columns.PortRows.{PortRows}
-use Rattle.fs_ranges.specs.declared.Fast.{Fast}
-use Rattle.fs_compile.specs.Columns.{ArePortRows, IsClass, IsRow, bit_in, words_for}
-use Rattle.fs_ranges.specs.Facts.{Facts, number_of}
-use Rattle.fs_compile.specs.Filters.{AreRows, front_of, word_of}
-use Rattle.fs_compile.specs.Search.{Missed, hits}
+use Rattle.fs_ranges.specs.Facts.{number_of}
 
 -- the bits of a number without its lowest ones
 shifted : (n a i : ℕ) → bit_at (n / 2 ^ a) i ≡ bit_at n (a + i)

@@ -1,7 +1,5 @@
 -- Words of rows that have no bit in front.
-use Rattle.std.proofs.Common.{◌≡◌, ℕ, ◌+◌, ◌-◌, ◌*◌, ◌/◌, ◌<◌, ◌≤◌, Bool, false, List, get_or, arith}
-use Rattle.fs_compile.specs.declared.filters.Rows.{Rows}
-use Rattle.fs_compile.specs.Filters.{AreRows, front_of}
+use Rattle.fs_compile.proofs.Words.{◌≡◌, ℕ, ◌+◌, ◌-◌, ◌*◌, ◌/◌, ◌<◌, ◌≤◌, Bool, false, List, get_or, arith, Rows, AreRows, front_of}
 use Rattle.fs_compile.proofs.Sieving.{none_marked, set_in_all}
 
 -- no rule matches of those whose words have none

@@ -1,13 +1,6 @@
 -- How the walk goes on from one matching rule to the next.
-use Rattle.std.proofs.Common.{◌≡◌, ℕ, ◌+◌, ◌<◌, ◌≤◌, List, [], ◌∷◌, Bool, true, false, Option, Some, None, IfSome, if◌then◌else◌, length, drop, get_or, refl, ap, ◌∙◌, arith, add-one, drop-cons}
+use Rattle.fs_compile.proofs.Words.{◌≡◌, ℕ, ◌+◌, ◌<◌, ◌≤◌, List, [], ◌∷◌, Bool, true, false, Option, Some, None, IfSome, if◌then◌else◌, length, drop, get_or, refl, ap, ◌∙◌, arith, add-one, drop-cons, length-drop, if_true, if_false, Viewed, is_match, Listed, first_from, goes_on, walk_from, WalksByNext, WalksOn, next_from}
 use Rattle.std.proofs.lemmas.Grind.{common_steps}
-use Rattle.std.proofs.lemmas.List.{length-drop}
-use Rattle.fs_base.proofs.Bools.{if_true, if_false}
-use Rattle.fs_packet.specs.Fields.{Viewed}
-use Rattle.fs_packet.specs.Matching.{is_match}
-use Rattle.fs_rules.specs.Lent.{Listed}
-use Rattle.fs_rules.specs.Walk.{first_from, goes_on, walk_from}
-use Rattle.fs_compile.specs.Matcher.{WalksByNext, WalksOn, next_from}
 
 heads : (x y : Listed) (xs ys : List Listed) → x ∷ xs ≡ y ∷ ys → (x ≡ y) × (xs ≡ ys)
 heads x y xs ys e = (cc, cc)

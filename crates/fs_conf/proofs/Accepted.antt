@@ -1,20 +1,7 @@
 -- What the numbers of an accepted configuration are.
-use Rattle.std.proofs.Common.{◌≡◌, ℕ, ◌⊎◌, ◌<◌, ◌≤◌, ◌==◌, ◌^◌, nat_le, true, false, not, ◌&&◌, ◌||◌, List, [], ◌∷◌, Option, Some, None, subst, arith}
-use Rattle.std.specs.Prelude.{◌≢◌, codes, pos, negsuc, option_and_then}
+use Rattle.fs_conf.proofs.Words.{◌≡◌, ℕ, ◌⊎◌, ◌<◌, ◌≤◌, ◌==◌, ◌^◌, nat_le, true, false, not, ◌&&◌, ◌||◌, List, [], ◌∷◌, Option, Some, None, subst, arith, ◌≢◌, codes, pos, negsuc, option_and_then, AllByRecursion, and_parts, leb-true, same_Some, and_then_some, cond_some, map_some, Data, string, integer, float, boolean, datetime, array, table, as_array, as_str, as_table, Items, no_items, item, Members, get_member, Config, Peer, address_of, ipv4_octets_of, ipv4_of, are_peers, as_number, config_keys, config_of_document, config_of_members, hold_time_in, identifier, limit_in, peer_keys, peer_of_data, peer_of_members, peer_of_table, peers_in, peers_of_items, written, document_of, flag_or, keys_among, number_in, number_or, AcceptsNumbers, HasNumbers, HasPeerNumbers}
 use Rattle.std.specs.Int.{w32, from_be_bytes}
-use Rattle.std.specs.List.{AllByRecursion}
-use Rattle.std.proofs.lemmas.Bool.{and_parts, leb-true}
 use Rattle.std.proofs.lemmas.Bool.Decides.{nat_tests}
-use Rattle.std.proofs.lemmas.Option.{same_Some}
-use Rattle.std.proofs.NetLemmas.Options.{and_then_some, cond_some, map_some}
-use Rattle.toml.specs.Data.{Data, string, integer, float, boolean, datetime, array, table, as_array, as_str, as_table, Items, no_items, item, Members, get_member}
-use Rattle.fs_base.specs.declared.config.Config.{Config}
-use Rattle.fs_base.specs.declared.config.Peer.{Peer}
-use Rattle.fs_conf.specs.Address.{address_of, ipv4_octets_of, ipv4_of}
-use Rattle.fs_conf.specs.Config.{are_peers, as_number, config_keys, config_of_document, config_of_members, hold_time_in, identifier, limit_in, peer_keys, peer_of_data, peer_of_members, peer_of_table, peers_in, peers_of_items, written}
-use Rattle.fs_conf.specs.Document.{document_of}
-use Rattle.fs_conf.specs.Fields.{flag_or, keys_among, number_in, number_or}
-use Rattle.fs_conf.specs.Laws.{AcceptsNumbers, HasNumbers, HasPeerNumbers}
 use Rattle.fs_conf.proofs.DottedText.{ipv4_octets_of_sound}
 use Rattle.fs_conf.proofs.Found.{cond_within}
 

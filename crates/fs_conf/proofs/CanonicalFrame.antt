@@ -1,9 +1,6 @@
 -- The canonical frame of a rule: how many octets it has.
-use Rattle.std.proofs.Common.{ℕ, ◌+◌, ◌/◌, ◌%◌, ◌≤◌, Bool, true, false, [], ◌∷◌, length, arith}
+use Rattle.fs_conf.proofs.Words.{ℕ, ◌+◌, ◌/◌, ◌%◌, ◌≤◌, Bool, true, false, [], ◌∷◌, length, arith, length-append, Ruled, IsRule, canonical_frame, canonical_length, canonical_value}
 use Rattle.std.specs.Prelude.{nat_lt, if◌then◌else◌}
-use Rattle.std.proofs.lemmas.List.{length-append}
-use Rattle.fs_nlri.specs.Parts.{Ruled}
-use Rattle.fs_nlri.specs.Rule.{IsRule, canonical_frame, canonical_length, canonical_value}
 
 -- one octet or two say the length
 head_short : (len : ℕ) → length (canonical_length len) ≤ 2

@@ -1,16 +1,8 @@
 -- The dotted texts of std's grammar are those whose octets `ipv4_octets_of` gives.
-use Rattle.std.proofs.Common.{◌≡◌, ℕ, ◌<◌, ◌==◌, nat_lt, ◌&&◌, List, [], ◌∷◌, ◌++◌, length, get_or, map, Some, decimal, refl, arith, append_assoc, append-nil, lt-ltb, ltb-true, eqb-true, lit≤}
-use Rattle.std.proofs.lemmas.Bool.{and_parts}
+use Rattle.fs_conf.proofs.Words.{◌≡◌, ℕ, ◌<◌, ◌==◌, nat_lt, ◌&&◌, List, [], ◌∷◌, ◌++◌, length, get_or, map, Some, decimal, refl, arith, append_assoc, append-nil, lt-ltb, ltb-true, eqb-true, lit≤, and_parts, same_Some, bytes_eq-Decides, cond_some, and_then_some, map_some, IsDotted, bytes_eq, digits_value, dot, fields_of, each_of, decimal_octet, ipv4_octets_of}
 use Rattle.std.proofs.lemmas.Fmt.{decimal_is_IsNumeral}
-use Rattle.std.proofs.lemmas.Option.{same_Some}
-use Rattle.std.proofs.lemmas.Slice.Eq.{bytes_eq-Decides}
 use Rattle.std.proofs.NetLemmas.Arrays.{four_items}
-use Rattle.std.proofs.NetLemmas.Options.{cond_some, and_then_some, map_some}
-use Rattle.std.specs.Net.Grammar.{IsDotted}
 use Rattle.std.specs.Net.Text.{dotted_text}
-use Rattle.std.specs.Str.{bytes_eq}
-use Rattle.std.specs.Str.Parse.{digits_value}
-use Rattle.fs_conf.specs.Address.{dot, fields_of, each_of, decimal_octet, ipv4_octets_of}
 use Rattle.fs_conf.proofs.Separated.{joined, joined-fields_of, Lacks, Lacks-AllDigits, fields_of-end, fields_of-append}
 
 decimal_octet-decimal : (n : ℕ) → n < 256 → decimal_octet (decimal n) ≡ Some n

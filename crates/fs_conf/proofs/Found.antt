@@ -1,8 +1,6 @@
 -- What was found passes, and what holds of each holds of it.
-use Rattle.std.proofs.Common.{◌≡◌, Bool, true, false, cond, List, [], ◌∷◌, Option, Some, None, refl, subst}
-use Rattle.std.specs.Prelude.{find, if◌then◌else◌}
-use Rattle.std.specs.List.{AllByRecursion}
-use Rattle.std.proofs.lemmas.Option.{none-some}
+use Rattle.fs_conf.proofs.Words.{◌≡◌, Bool, true, false, cond, List, [], ◌∷◌, Option, Some, None, refl, subst, find, AllByRecursion, none-some}
+use Rattle.std.specs.Prelude.{if◌then◌else◌}
 
 -- where a test passes
 pub cond_within : {A : Type 0} (test : Bool) (found : Option A) (value : A) → (if test then found else None) ≡ Some value → (test ≡ true) × (found ≡ Some value)

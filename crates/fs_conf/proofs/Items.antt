@@ -1,10 +1,6 @@
+use Rattle.fs_conf.proofs.Words.{◌≡◌, ℕ, ◌+◌, ◌<◌, get_or, sym, ap, ◌∙◌, List, [], ◌∷◌, ◌++◌, length, drop, Option, Some, None, option_map, refl, append_assoc, Data, Items, item, Value, view, items_view, items_view-drop, each_item}
+
 -- The items of an array, read one after the other.
-use Rattle.std.proofs.Common.{◌≡◌, ℕ, ◌+◌, ◌<◌, get_or, sym, ap, ◌∙◌, List, [], ◌∷◌, ◌++◌, length, drop, Option, Some, None, option_map, refl, append_assoc}
-use Rattle.toml.specs.Data.{Data, Items, item}
-use Rattle.toml.specs.declared.value.Value.{Value}
-use Rattle.toml.specs.View.{view, items_view}
-use Rattle.toml.proofs.Views.{items_view-drop}
-use Rattle.fs_conf.specs.Document.{each_item}
 
 joined : {A : Type 0} (read : List A) (found : A) (more : Option (List A))
     → option_map (λ m. read ++ m) (option_map (λ m. found ∷ m) more) ≡ option_map (λ m. (read ++ found ∷ []) ++ m) more

@@ -1,3 +1,4 @@
+mod Words
 pub mod Separated
 pub mod DottedText
 pub mod ColonText

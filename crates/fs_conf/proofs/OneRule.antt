@@ -1,19 +1,8 @@
 -- Octets that are exactly one frame.
-use Rattle.std.proofs.Common.{◌≡◌, ℕ, ◌≤◌, List, [], ◌∷◌, ◌++◌, Option, Some, None, Result, Ok, Err, length, take, drop, refl, ap, sym, ◌∙◌, subst, arith, append-nil, length-drop}
-use Rattle.std.specs.Prelude.{option_and_then}
-use Rattle.std.proofs.lemmas.List.{take-append-drop, take_all}
-use Rattle.fs_base.specs.declared.prefix.Family.{Family}
-use Rattle.fs_base.specs.Language.{IsOctets}
-use Rattle.fs_nlri.specs.declared.fault.Reason.{Reason}
-use Rattle.fs_nlri.specs.Parts.{Ruled}
-use Rattle.fs_nlri.specs.Spelling.{IsFrame}
+use Rattle.fs_conf.proofs.Words.{◌≡◌, ℕ, ◌≤◌, List, [], ◌∷◌, ◌++◌, Option, Some, None, Result, Ok, Err, length, take, drop, refl, ap, sym, ◌∙◌, subst, arith, append-nil, length-drop, option_and_then, take-append-drop, take_all, Family, IsOctets, Reason, Ruled, IsFrame, IsFieldOutcome, IsTheOutcome, rules_of, if_ok, only, rule_of}
 use Rattle.fs_nlri.specs.Fault.{IsFrameBad}
 use Rattle.fs_nlri.specs.Laws.{NoFrameGoesOn}
-use Rattle.fs_nlri.specs.Outcome.{IsFieldOutcome}
 use Rattle.fs_nlri.proofs.OneOutcome.{one_field_outcome}
-use Rattle.fs_attrs.specs.Laws.{IsTheOutcome}
-use Rattle.fs_attrs.specs.Rules.{rules_of}
-use Rattle.fs_conf.specs.Sent.{if_ok, only, rule_of}
 
 abbrev Found : Type 0
 Found = Result (List Ruled) (Reason × ℕ)

@@ -1,10 +1,6 @@
 -- The fields of a text, and the text that they make.
-use Rattle.std.proofs.Common.{◌≡◌, ℕ, ◌<◌, ◌≤◌, ◌==◌, Bool, true, false, if◌then◌else◌, List, [], ◌∷◌, ◌++◌, length, refl, sym, ap, ◌∙◌, arith, eqb-true, ne_eqb, eq-eqb, true≢false}
-use Rattle.std.specs.Char.{digit_value}
-use Rattle.std.specs.List.{list_any}
-use Rattle.std.specs.Str.Parse.{AllDigits}
+use Rattle.fs_conf.proofs.Words.{◌≡◌, ℕ, ◌<◌, ◌≤◌, ◌==◌, Bool, true, false, if◌then◌else◌, List, [], ◌∷◌, ◌++◌, length, refl, sym, ap, ◌∙◌, arith, eqb-true, ne_eqb, eq-eqb, true≢false, digit_value, list_any, AllDigits, begin_field, fields_of}
 use Rattle.fs_base.proofs.Bools.{or_false}
-use Rattle.fs_conf.specs.Address.{begin_field, fields_of}
 
 -- fields that each follow a separator
 abbrev pub each_after : ℕ → List (List ℕ) → List ℕ

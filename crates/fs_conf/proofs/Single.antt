@@ -1,11 +1,6 @@
+use Rattle.fs_conf.proofs.Words.{◌≡◌, ◌||◌, ◌&&◌, Bool, true, false, not, List, [], ◌∷◌, refl, ap, sym, ◌∙◌, list_all, list_any, is_eq, Ruled, rule_cmp, Sent, are_single, is_same}
+
 -- Rules of which no two are one, tried one after the other beside those before.
-use Rattle.std.proofs.Common.{◌≡◌, ◌||◌, ◌&&◌, Bool, true, false, not, List, [], ◌∷◌, refl, ap, sym, ◌∙◌}
-use Rattle.std.specs.List.{list_all, list_any}
-use Rattle.std.specs.Ordering.{is_eq}
-use Rattle.fs_nlri.specs.Parts.{Ruled}
-use Rattle.fs_order.specs.Comparison.{rule_cmp}
-use Rattle.fs_speaker.specs.declared.Sent.{Sent}
-use Rattle.fs_conf.specs.Rules.{are_single, is_same}
 
 abbrev pub is_fresh : (Ruled → Bool) → Sent → Bool
 is_fresh has sent = not (has sent.rule)

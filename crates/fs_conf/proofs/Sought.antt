@@ -1,10 +1,6 @@
 -- Lists of all that is below bounds, and what is sought in such lists.
-use Rattle.std.proofs.Common.{◌≡◌, ◌⊎◌, inl, inr, ℕ, zero, suc, ◌+◌, ◌<◌, ◌≤◌, Bool, true, false, cond, List, [], ◌∷◌, ◌++◌, map, length, Option, Some, None, All, refl, sym, ap, subst, arith}
-use Rattle.std.specs.Prelude.{filter_map, find}
-use Rattle.std.specs.List.{AllByRecursion, cons_option, flat_map, range_with_len}
-use Rattle.std.proofs.lemmas.List.Elements.{All-append}
-use Rattle.fs_base.proofs.Lists.{each_append, each_mapped, each_weaker}
-use Rattle.fs_conf.specs.Worded.{lists_below}
+use Rattle.fs_conf.proofs.Words.{◌≡◌, ◌⊎◌, inl, inr, ℕ, zero, suc, ◌+◌, ◌<◌, ◌≤◌, Bool, true, false, cond, List, [], ◌∷◌, ◌++◌, map, length, Option, Some, None, All, refl, sym, ap, subst, arith, find, AllByRecursion, cons_option, flat_map, range_with_len, All-append, each_append, each_mapped, each_weaker, lists_below}
+use Rattle.std.specs.Prelude.{filter_map}
 
 abbrev pub IsIn : {A : Type 0} → A → List A → Type 0
 IsIn x [] = ⊥

@@ -1,36 +1,15 @@
 -- What a text says in a rules file, found among all rules and actions that octets can say.
-use Rattle.std.proofs.Common.{◌≡◌, ℕ, ◌+◌, ◌*◌, ◌≤◌, true, false, List, [], ◌∷◌, ◌++◌, map, length, Option, Some, None, Result, Ok, Err, refl, sym, ap, ◌∙◌, subst, arith, append-nil}
-use Rattle.std.specs.Prelude.{option_and_then}
-use Rattle.std.specs.List.{AllByRecursion, concat}
-use Rattle.std.specs.Str.{bytes_eq}
-use Rattle.std.proofs.lemmas.List.{length-append, take_all}
-use Rattle.std.proofs.lemmas.Slice.Eq.{bytes_eq-Decides}
-use Rattle.fs_base.proofs.Lists.{each_append, each_mapped, each_weaker}
-use Rattle.fs_base.proofs.Octets.{octets_of_each}
-use Rattle.fs_base.specs.Language.{IsOctets}
-use Rattle.fs_base.specs.declared.prefix.Family.{Family}
+use Rattle.fs_conf.proofs.Words.{◌≡◌, ℕ, ◌+◌, ◌*◌, ◌≤◌, true, false, List, [], ◌∷◌, ◌++◌, map, length, Option, Some, None, Result, Ok, Err, refl, sym, ap, ◌∙◌, subst, arith, append-nil, option_and_then, AllByRecursion, concat, bytes_eq, length-append, take_all, bytes_eq-Decides, each_append, each_mapped, each_weaker, octets_of_each, IsOctets, Family, Reason, IsFieldOutcome, Ruled, IsRule, canonical_frame, IsFrame, IsTheOutcome, rules_of, AreActions, ReadsAs, Sent, actions_among, if_ok, listed_actions, only, rule_of, rules_among, sent_of_text, sents_among, has_text, octet_lists, sent, each_length}
 use Rattle.fs_base.specs.declared.prefix.Family.TheVariants.{V4, V6}
-use Rattle.fs_nlri.specs.declared.fault.Reason.{Reason}
-use Rattle.fs_nlri.specs.Outcome.{IsFieldOutcome}
-use Rattle.fs_nlri.specs.Parts.{Ruled}
-use Rattle.fs_nlri.specs.Rule.{IsRule, canonical_frame}
-use Rattle.fs_nlri.specs.Spelling.{IsFrame}
 use Rattle.fs_nlri.proofs.Again.{canonical_is_frame, frame_is_rule}
-use Rattle.fs_attrs.specs.Laws.{IsTheOutcome}
-use Rattle.fs_attrs.specs.Rules.{rules_of}
 use Rattle.fs_text.specs.Laws.{EachHasOnePair}
-use Rattle.fs_text.specs.Text.{AreActions, ReadsAs}
 use Rattle.fs_text.specs.declared.fault.TextFault.{TextFault}
 use Rattle.fs_text.specs.declared.fault.TextFault.TheVariants.{Bad, TooLong, Memory}
-use Rattle.fs_speaker.specs.declared.Sent.{Sent}
 use Rattle.fs_text.specs.Printed.{action_words, component_words, family_word, spaced, text_of, then_words}
 use Rattle.fs_text.proofs.Spaces.{join_spaced}
-use Rattle.fs_conf.specs.Sent.{actions_among, if_ok, listed_actions, only, rule_of, rules_among, sent_of_text, sents_among}
-use Rattle.fs_conf.specs.Worded.{has_text, octet_lists, sent}
 use Rattle.fs_conf.specs.WordedLaw.{IsTextOf, SaysItsOwn}
 use Rattle.fs_attrs.proofs.RuleOctets.{frame_are}
 use Rattle.fs_conf.proofs.CanonicalFrame.{frame_short}
-use Rattle.fs_actions.proofs.ReadBack.{each_length}
 use Rattle.fs_conf.proofs.Found.{found_in}
 use Rattle.fs_conf.proofs.ListedActions.{listed_are, listed_back}
 use Rattle.fs_conf.proofs.OneRule.{one_frame}

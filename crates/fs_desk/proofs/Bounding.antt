@@ -1,12 +1,6 @@
 -- The first update behind which a peer holds more than it may, and the session that it cuts.
-use Rattle.std.proofs.Common.{◌≡◌, ℕ, List, [], ◌∷◌, ◌++◌, map, map-id, find, Bool, true, false, Option, Some, None, if◌then◌else◌, refl, ap, sym, ◌∙◌}
-use Rattle.std.proofs.lemmas.List.{map-append}
-use Rattle.std.proofs.lemmas.List.Folds.{find-append}
-use Rattle.std.specs.Option.{option_or}
-use Rattle.fs_attrs.specs.declared.update.Update.{Update}
-use Rattle.fs_speaker.specs.Session.{Last, closed}
+use Rattle.fs_desk.proofs.Words.{◌≡◌, ℕ, List, [], ◌∷◌, ◌++◌, map, map-id, find, Bool, true, false, Option, Some, None, if◌then◌else◌, refl, ap, sym, ◌∙◌, map-append, find-append, option_or, Update, Last, closed, routes_left, is_over, fronts, first_over, too_many, bounded}
 use Rattle.fs_rules.proofs.Chosen.{map-map}
-use Rattle.fs_desk.specs.Limit.{routes_left, is_over, fronts, first_over, too_many, bounded}
 
 fronts-append : {A : Type 0} (xs ys : List A) → fronts (xs ++ ys) ≡ fronts xs ++ map (λ front. xs ++ front) (fronts ys)
 fronts-append [] ys = sym (map-id (fronts ys))

@@ -1,22 +1,6 @@
 -- Changes of the table one after the other, up to that of an update.
-use Rattle.std.proofs.Common.{◌≡◌, ◌==◌, ◌<◌, ◌+◌, ℕ, List, [], ◌∷◌, ◌++◌, Bool, true, false, ◌||◌, Option, Some, None, Result, Ok, Err, OnOk, if◌then◌else◌, option_map, length, take, map, get_or, refl, ap, sym, subst, ◌∙◌, append_assoc, append-nil, is_some, ◌⊎◌, inl, inr}
-use Rattle.std.specs.List.{list_any}
-use Rattle.std.specs.Option.{option_to_list}
-use Rattle.std.proofs.lemmas.List.{take_more, map-append}
-use Rattle.std.proofs.lemmas.List.Folds.{list_any-append}
+use Rattle.fs_desk.proofs.Words.{◌≡◌, ◌==◌, ◌<◌, ◌+◌, ℕ, List, [], ◌∷◌, ◌++◌, Bool, true, false, ◌||◌, Option, Some, None, Result, Ok, Err, OnOk, if◌then◌else◌, option_map, length, take, map, get_or, refl, ap, sym, subst, ◌∙◌, append_assoc, append-nil, is_some, ◌⊎◌, inl, inr, list_any, option_to_list, take_more, map-append, list_any-append, or_none, Path, Prefix, Ruled, shown, Held, Shown, Update, unicast_in, flows_in, given_prefixes, unicast_at, flow_at, last_such, Given, is_prefix, is_rule, given_with, Changes, same, taken_of, given_at, rules_taken, rules_given, given_or, told, told_of}
 use Rattle.std.proofs.lemmas.Option.{none-some}
-use Rattle.fs_base.proofs.Bools.{or_none}
-use Rattle.fs_base.specs.declared.path.Path.{Path}
-use Rattle.fs_base.specs.declared.prefix.Prefix.{Prefix}
-use Rattle.fs_nlri.specs.Parts.{Ruled}
-use Rattle.fs_nlri.specs.Rule.{shown}
-use Rattle.fs_rules.specs.Table.{Held}
-use Rattle.fs_attrs.specs.Prefixes.{Shown}
-use Rattle.fs_attrs.specs.declared.update.Update.{Update}
-use Rattle.fs_attrs.specs.Update.{unicast_in, flows_in, given_prefixes}
-use Rattle.fs_desk.specs.Leaves.{unicast_at, flow_at}
-use Rattle.fs_desk.specs.Updates.{last_such, Given, is_prefix, is_rule, given_with}
-use Rattle.fs_desk.specs.Apply.{Changes, same, taken_of, given_at, rules_taken, rules_given, given_or, told, told_of}
 use Rattle.fs_desk.proofs.Life.{any-more}
 use Rattle.fs_desk.proofs.Updates.{last-more, later_of}
 

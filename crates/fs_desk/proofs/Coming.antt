@@ -1,23 +1,5 @@
 -- What a session is still to come to with a piece, message by message.
-use Rattle.std.proofs.Common.{◌≡◌, ◌==◌, ℕ, max, List, [], ◌++◌, drop, length, true, Bool, Option, Some, None, refl, ap, sym, ◌∙◌, append_assoc, append-nil, subst, arith}
-use Rattle.std.proofs.lemmas.Bool.Decides.{nat_tests}
-use Rattle.std.proofs.lemmas.List.{nil_from_length}
-use Rattle.fs_base.specs.declared.config.Config.{Config}
-use Rattle.fs_base.specs.declared.config.Peer.{Peer}
-use Rattle.fs_message.specs.Deframer.{pending}
-use Rattle.fs_attrs.specs.declared.update.Update.{Update}
-use Rattle.fs_rules.specs.Table.{Held}
-use Rattle.fs_speaker.specs.declared.Closed.{Closed}
-use Rattle.fs_session.specs.declared.times.Times.{Times}
-use Rattle.fs_session.specs.declared.transition.Phase.{Phase}
-use Rattle.fs_speaker.specs.Handed.{Handed, with_taken, runs_by}
-use Rattle.fs_speaker.specs.Line.{Step, waits, takes, stops}
-use Rattle.fs_speaker.specs.Session.{Live, Does, reply_of, step_with}
-use Rattle.fs_speaker.specs.Side.{receiver}
-use Rattle.fs_speaker.specs.Times.{at_moment, taken_in}
-use Rattle.fs_speaker.specs.Transition.{Machine}
-use Rattle.fs_speaker.proofs.MessageRuns.{runs_takes}
-use Rattle.fs_desk.specs.Receive.{Comes, MessageComes, TakesUpdate, comes_to}
+use Rattle.fs_desk.proofs.Words.{◌≡◌, ◌==◌, ℕ, max, List, [], ◌++◌, drop, length, true, Bool, Option, Some, None, refl, ap, sym, ◌∙◌, append_assoc, append-nil, subst, arith, nat_tests, nil_from_length, Config, Peer, pending, Update, Held, Closed, Times, Phase, Handed, with_taken, runs_by, Step, waits, takes, stops, Live, Does, reply_of, step_with, receiver, at_moment, taken_in, Machine, runs_takes, Comes, MessageComes, TakesUpdate, comes_to}
 use Rattle.fs_desk.proofs.Follows.{all_gone}
 
 -- the greatest moment so far moves nothing

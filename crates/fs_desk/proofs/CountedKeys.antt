@@ -1,15 +1,7 @@
 -- Keys that are mentioned and left, each counted once, are as many as the entries of a peer.
-use Rattle.std.proofs.Common.{◌≡◌, inl, inr, Bool, true, false, true≢false, ◌&&◌, ◌||◌, cond, List, [], ◌∷◌, length, map, filter, flat_map, Less, Ordering, refl, sym, ap, ap₂, ◌∙◌}
-use Rattle.std.proofs.lemmas.List.{length-map}
-use Rattle.std.proofs.lemmas.List.Folds.{list_any-append}
-use Rattle.std.proofs.lemmas.Map.Keys.{sorted_head, sorted_tail}
-use Rattle.std.proofs.lemmas.Map.Made.{length-from_keys}
-use Rattle.std.specs.Cmp.{IsEquivalence}
-use Rattle.std.specs.List.{list_any, AllByRecursion, IsDistinct}
-use Rattle.std.specs.List.Sorted.{IsStrictlySortedBy}
+use Rattle.std.proofs.Common.{Less, Ordering}
+use Rattle.fs_desk.proofs.Words.{◌≡◌, inl, inr, Bool, true, false, true≢false, ◌&&◌, ◌||◌, cond, List, [], ◌∷◌, length, map, filter, flat_map, refl, sym, ap, ap₂, ◌∙◌, length-map, list_any-append, sorted_head, sorted_tail, length-from_keys, IsEquivalence, list_any, AllByRecursion, IsDistinct, IsStrictlySortedBy, and_both, and_first, and_second, or_either, or_first, or_second, same_tests, any_filter, each_weaker}
 use Rattle.std.specs.Set.{distinct_count}
-use Rattle.fs_base.proofs.Bools.{and_both, and_first, and_second, or_either, or_first, or_second, same_tests}
-use Rattle.fs_base.proofs.Lists.{any_filter, each_weaker}
 
 -- whether some element passes, in other words
 pub any_on : {A : Type 0} (p q : A → Bool) (xs : List A) → ((x : A) → p x ≡ q x) → list_any p xs ≡ list_any q xs

@@ -1,18 +1,6 @@
 -- A session that is fed octet by octet and the session of all octets that the peer sent.
-use Rattle.std.proofs.Common.{◌≡◌, ℕ, List, [], ◌∷◌, ◌++◌, length, drop, Option, Some, None, true, refl, ap, sym, ◌∙◌, append_assoc, append-nil, subst, arith}
-use Rattle.std.proofs.lemmas.List.{drop_all}
-use Rattle.fs_base.specs.declared.config.Config.{Config}
-use Rattle.fs_base.specs.declared.config.Peer.{Peer}
-use Rattle.fs_message.specs.Deframer.{pending}
-use Rattle.fs_attrs.specs.declared.update.Update.{Update}
-use Rattle.fs_speaker.specs.declared.Closed.{Closed}
-use Rattle.fs_session.specs.declared.transition.Phase.{Phase}
-use Rattle.fs_speaker.specs.Line.{Step, waits, takes, stops, fresh}
-use Rattle.fs_speaker.specs.Session.{at_start, Last, still, closed, with_update, session_from, Live, live, step_of, Does, step_with}
-use Rattle.fs_desk.specs.Limit.{bounded, bounded_from, first_over, is_over, routes_left, too_many}
-use Rattle.fs_desk.specs.Receive.{with_updates, Follows, IsOver, AreWithin}
+use Rattle.fs_desk.proofs.Words.{◌≡◌, ℕ, List, [], ◌∷◌, ◌++◌, length, drop, Option, Some, None, true, refl, ap, sym, ◌∙◌, append_assoc, append-nil, subst, arith, drop_all, Config, Peer, pending, Update, Closed, Phase, Step, waits, takes, stops, fresh, at_start, Last, still, closed, with_update, session_from, Live, live, step_of, Does, step_with, bounded, bounded_from, first_over, is_over, routes_left, too_many, with_updates, Follows, IsOver, AreWithin, session_takes, session_stops, session_waits}
 use Rattle.fs_desk.proofs.Bounding.{next_passes, over_stays, bounded_within, bounded_over}
-use Rattle.fs_speaker.proofs.SessionSteps.{session_takes, session_stops, session_waits}
 
 -- an update that a call answered, as a list
 abbrev as_list : Option Update → List Update

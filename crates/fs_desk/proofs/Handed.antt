@@ -1,28 +1,5 @@
 -- What a piece makes of the session that a desk keeps of a peer.
-use Rattle.std.proofs.Common.{◌≡◌, ◌==◌, ℕ, List, [], ◌∷◌, ◌++◌, Option, Some, None, ap, sym, ◌∙◌, subst, append-nil}
-use Rattle.std.specs.Ordering.{nat_cmp}
-use Rattle.std.specs.Map.{set_value}
-use Rattle.std.specs.BTreeMap.{is_at}
-use Rattle.fs_base.specs.Config.{peer_of}
-use Rattle.fs_base.specs.declared.config.Config.{Config}
-use Rattle.fs_base.specs.declared.config.Peer.{Peer}
-use Rattle.fs_base.proofs.NumberTests.{eq_itself}
-use Rattle.fs_base.proofs.Bools.{if_true}
-use Rattle.fs_message.specs.Deframer.{pending}
-use Rattle.fs_rules.specs.Changes.{Noted}
-use Rattle.fs_rules.specs.Table.{Held}
-use Rattle.fs_speaker.specs.declared.Closed.{Closed}
-use Rattle.fs_session.specs.declared.times.Times.{Times}
-use Rattle.fs_speaker.specs.Handed.{Handed, Point, handed, hand, runs_by}
-use Rattle.fs_speaker.specs.Line.{waits}
-use Rattle.fs_speaker.specs.Session.{Live, step_of}
-use Rattle.fs_speaker.specs.Side.{receiver}
-use Rattle.fs_speaker.specs.Times.{at_moment}
-use Rattle.fs_speaker.proofs.MessageRuns.{runs_waits}
-use Rattle.fs_tape.specs.Tape.{Item, received}
-use Rattle.fs_desk.specs.Desk.{Desked, HandsPeer, IsHanded, PeerIs, Played, session_at}
-use Rattle.fs_desk.specs.Life.{life}
-use Rattle.fs_desk.specs.Receive.{Comes, IsFed, PieceComes, TakesPiece, comes_to, point_of}
+use Rattle.fs_desk.proofs.Words.{◌≡◌, ◌==◌, ℕ, List, [], ◌∷◌, ◌++◌, Option, Some, None, ap, sym, ◌∙◌, subst, append-nil, nat_cmp, set_value, is_at, peer_of, Config, Peer, eq_itself, if_true, pending, Noted, Held, Closed, Times, Handed, Point, handed, hand, runs_by, waits, Live, step_of, receiver, at_moment, runs_waits, Item, received, Desked, HandsPeer, IsHanded, PeerIs, Played, session_at, life, Comes, IsFed, PieceComes, TakesPiece, comes_to, point_of}
 use Rattle.fs_desk.proofs.Coming.{at_greatest}
 use Rattle.fs_desk.proofs.Played.{desk_fed, desk_of, session_value}
 

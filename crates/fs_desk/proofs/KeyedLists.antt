@@ -1,13 +1,6 @@
+use Rattle.fs_desk.proofs.Words.{◌≡◌, List, [], ◌∷◌, Bool, true, false, not, cond, Option, Some, None, if◌then◌else◌, refl, ap, sym, ◌∙◌, map, filter, find, true≢false, Ordering, Less, Equal, Greater, is_eq, match_ordering, ordering_reverse, IsTotalOrder, alike_right, AllByRecursion, each_mapped, each_of_map, each_weaker, each_filtered, IsStrictlySortedBy, equal_of_is_eq}
+
 -- Lists that are kept in the order of a key, one element a key: what putting, taking away and looking up do.
-use Rattle.std.proofs.Common.{◌≡◌, List, [], ◌∷◌, Bool, true, false, not, cond, Option, Some, None, if◌then◌else◌, refl, ap, sym, ◌∙◌, map, filter, find, true≢false}
-use Rattle.std.specs.declared.cmp.Ordering.{Ordering}
-use Rattle.std.specs.declared.cmp.Ordering.TheVariants.{Less, Equal, Greater}
-use Rattle.std.specs.Ordering.{is_eq, match_ordering, ordering_reverse}
-use Rattle.std.specs.Cmp.{IsTotalOrder, alike_right}
-use Rattle.std.specs.List.{AllByRecursion}
-use Rattle.fs_base.proofs.Lists.{each_mapped, each_of_map, each_weaker, each_filtered}
-use Rattle.std.specs.List.Sorted.{IsStrictlySortedBy}
-use Rattle.fs_base.proofs.Orderings.{equal_of_is_eq}
 
 module _ {X K : Type 0} (key : X → K) (R : K → K → Ordering) where
   -- the element of that key

@@ -1,23 +1,8 @@
 -- The keys of unicast and flow routes as tests.
-use Rattle.std.proofs.Common.{◌≡◌, ◌==◌, ℕ, Bool, true, false, ◌&&◌, refl, ap, ap₂, sym, ◌∙◌}
-use Rattle.std.specs.Ordering.{nat_cmp, is_eq}
-use Rattle.std.specs.Cmp.{IsTotalOrder, then_total, on_total, nat_cmp_total, tied_then}
-use Rattle.fs_base.specs.Bits.{afi_of}
-use Rattle.fs_base.specs.Prefix.{prefix_cmp, prefix_matches_eq}
-use Rattle.fs_base.specs.declared.prefix.Family.{Family}
+use Rattle.fs_desk.proofs.Words.{◌≡◌, ◌==◌, ℕ, Bool, true, false, ◌&&◌, refl, ap, ap₂, sym, ◌∙◌, nat_cmp, is_eq, IsTotalOrder, then_total, on_total, nat_cmp_total, tied_then, afi_of, prefix_cmp, prefix_matches_eq, Family, Prefix, Ruled, shown, rule_cmp, rule_total, place_cmp, Place, flow_key_cmp, FlowKey, is_prefix, is_eq_of_nats}
 use Rattle.fs_base.specs.declared.prefix.Family.TheVariants.{V4, V6}
-use Rattle.fs_base.specs.declared.prefix.Prefix.{Prefix}
-use Rattle.fs_nlri.specs.Parts.{Ruled}
-use Rattle.fs_nlri.specs.Rule.{shown}
-use Rattle.fs_order.specs.Comparison.{rule_cmp}
-use Rattle.fs_order.specs.Ranked.{rule_total}
-use Rattle.fs_unicast.specs.Unicast.{place_cmp}
-use Rattle.fs_unicast.specs.declared.unicast.Place.{Place}
-use Rattle.fs_desk.specs.Leaves.{flow_key_cmp, FlowKey}
-use Rattle.fs_desk.specs.Updates.{is_prefix}
 use denote.Enum.Bare.{sameb}
 use Rattle.fs_base.specs.contracts.prefix.Family.{the_type}
-use Rattle.fs_base.proofs.Orderings.{is_eq_of_nats}
 
 pub flow_key_total : IsTotalOrder flow_key_cmp
 flow_key_total = then_total (on_total (λ (k : FlowKey). k.0) rule_total) (on_total (λ (k : FlowKey). k.1) nat_cmp_total)

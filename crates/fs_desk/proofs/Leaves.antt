@@ -1,19 +1,5 @@
 -- What a desk that followed a tape holds is what the tape leaves.
-use Rattle.std.proofs.Common.{◌≡◌, ◌∙◌, ℕ, List, [], Option, Some, None, ap, sym, subst}
-use Rattle.fs_base.specs.Config.{peer_of}
-use Rattle.fs_base.specs.declared.config.Config.{Config}
-use Rattle.fs_base.specs.declared.config.Peer.{Peer}
-use Rattle.fs_base.proofs.NumberTests.{eq_itself}
-use Rattle.fs_attrs.specs.declared.update.Update.{Update}
-use Rattle.fs_rules.specs.Table.{Held}
-use Rattle.fs_speaker.specs.Session.{still, at_start, Live}
-use Rattle.fs_speaker.specs.declared.Closed.{Closed}
-use Rattle.fs_tape.specs.Tape.{Item}
-use Rattle.fs_desk.specs.Desk.{Desked, session_at, PeerIs, Played}
-use Rattle.fs_desk.specs.Limit.{bounded_from}
-use Rattle.fs_desk.specs.Receive.{IsFed, IsLeft}
-use Rattle.fs_desk.specs.Leaves.{Leaves, counted, updates_of}
-use Rattle.fs_desk.specs.Life.{life}
+use Rattle.fs_desk.proofs.Words.{◌≡◌, ◌∙◌, ℕ, List, [], Option, Some, None, ap, sym, subst, peer_of, Config, Peer, eq_itself, Update, Held, still, at_start, Live, Closed, Item, Desked, session_at, PeerIs, Played, bounded_from, IsFed, IsLeft, Leaves, counted, updates_of, life}
 use Rattle.fs_desk.proofs.Follows.{follows_session, over_session}
 
 -- the updates that a session counts are those of all octets that it was fed with

@@ -1,3 +1,4 @@
+mod Words
 mod Bounding
 mod ChangesJoined
 mod Coming

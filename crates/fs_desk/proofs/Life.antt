@@ -1,10 +1,6 @@
+use Rattle.fs_desk.proofs.Words.{◌≡◌, ℕ, List, [], ◌∷◌, ◌++◌, Bool, true, false, ◌||◌, Option, Some, None, if◌then◌else◌, option_map, refl, ap, sym, ◌∙◌, true≢false, append_assoc, append-nil, list_any, list_any-append, or_none, Item, bounds_life, sent_in, sent_by, begins_life, life}
+
 -- What one more item of a tape changes of a peer's life.
-use Rattle.std.proofs.Common.{◌≡◌, ℕ, List, [], ◌∷◌, ◌++◌, Bool, true, false, ◌||◌, Option, Some, None, if◌then◌else◌, option_map, refl, ap, sym, ◌∙◌, true≢false, append_assoc, append-nil}
-use Rattle.std.specs.List.{list_any}
-use Rattle.std.proofs.lemmas.List.Folds.{list_any-append}
-use Rattle.fs_base.proofs.Bools.{or_none}
-use Rattle.fs_tape.specs.Tape.{Item}
-use Rattle.fs_desk.specs.Life.{bounds_life, sent_in, sent_by, begins_life, life}
 
 -- one more element of a list that is searched
 pub any-more : {A : Type 0} (test : A → Bool) (xs : List A) (x : A) → list_any test (xs ++ x ∷ []) ≡ (list_any test xs || test x)

@@ -1,24 +1,6 @@
 -- One session and the table, through a piece of the peer's octets.
-use Rattle.std.proofs.Common.{◌≡◌, inl, inr, ℕ, List, [], ◌∷◌, ◌++◌, drop, flat_map, not, Bool, Option, Some, None, refl, ap, sym, ◌∙◌, subst, append-nil, is_some, true, false, true≢false}
-use Rattle.std.specs.List.{AllByRecursion}
-use Rattle.fs_base.specs.declared.config.Config.{Config}
-use Rattle.fs_base.specs.declared.config.Peer.{Peer}
-use Rattle.fs_attrs.specs.Lists.{IsPrefix}
-use Rattle.fs_attrs.specs.declared.update.Update.{Update}
-use Rattle.fs_attrs.specs.Update.{gives_prefixes}
-use Rattle.fs_base.proofs.Bools.{false_of_not, true_of_not}
-use Rattle.fs_base.proofs.Lists.{each_append}
-use Rattle.fs_base.proofs.Options.{some_there}
+use Rattle.fs_desk.proofs.Words.{◌≡◌, inl, inr, ℕ, List, [], ◌∷◌, ◌++◌, drop, flat_map, not, Bool, Option, Some, None, refl, ap, sym, ◌∙◌, subst, append-nil, is_some, true, false, true≢false, AllByRecursion, Config, Peer, IsPrefix, Update, gives_prefixes, false_of_not, true_of_not, each_append, some_there, Held, held_count, Closed, Fault, Notified, NoFamily, Memory, Step, stops, CloseIs, Live, Does, step_with, Changes, nothing, told, told_of, IsListed, is_over, routes_left, too_many, bounded_replies_from, wants_memory, Follows, AreWithin, TakesUpdate, IsFed, HasReplied, IsLeft, Spares, IsUp, HasTaken, MessageTaken, TakesMessage, HasRepliedMore}
 use Rattle.fs_rules.proofs.Apart.{each_front, each_back}
-use Rattle.fs_rules.specs.Table.{Held, held_count}
-use Rattle.fs_speaker.specs.declared.Closed.{Closed}
-use Rattle.fs_speaker.specs.declared.Closed.TheVariants.{Fault, Notified, NoFamily, Memory}
-use Rattle.fs_speaker.specs.Line.{Step, stops, CloseIs}
-use Rattle.fs_speaker.specs.Session.{Live, Does, step_with}
-use Rattle.fs_desk.specs.Apply.{Changes, nothing, told, told_of}
-use Rattle.fs_desk.specs.Leaves.{IsListed}
-use Rattle.fs_desk.specs.Limit.{is_over, routes_left, too_many, bounded_replies_from}
-use Rattle.fs_desk.specs.Receive.{wants_memory, Follows, AreWithin, TakesUpdate, IsFed, HasReplied, IsLeft, Spares, IsUp, HasTaken, MessageTaken, TakesMessage, HasRepliedMore}
 use Rattle.fs_desk.proofs.Bounding.{next_within}
 use Rattle.fs_desk.proofs.Follows.{follows_piece, follows_fed, follows_closed, follows_ceased, over_more}
 use Rattle.fs_desk.proofs.Replying.{replied_exactly, replied_over}

@@ -1,31 +1,5 @@
 -- The desk behind one more item of the tape.
-use Rattle.std.proofs.Common.{◌≡◌, ◌==◌, ℕ, List, [], ◌∷◌, ◌++◌, Bool, true, false, cond, Option, Some, None, if◌then◌else◌, option_map, refl, ap, sym, ◌∙◌, subst, append-nil, arith, unwrap_or, IsSome}
-use Rattle.std.proofs.lemmas.Bool.Decides.{nat_tests}
-use Rattle.std.specs.Ordering.{nat_cmp, is_eq}
-use Rattle.std.specs.Cmp.{IsTotalOrder, nat_cmp_total, eq_by_cmp_equiv}
-use Rattle.std.specs.List.Sorted.{IsStrictlySortedBy}
-use Rattle.std.specs.Map.{remove_entry, set_value, keys_of}
-use Rattle.std.specs.BTreeMap.{insert_entry, is_at}
-use Rattle.std.proofs.lemmas.Map.{lookup-remove_entry, lookup-set_value, keys-set_value}
-use Rattle.std.proofs.lemmas.Map.Keys.{IsDistinct-from_sorted}
-use Rattle.fs_base.specs.Config.{peer_of}
-use Rattle.fs_base.specs.declared.config.Config.{Config}
-use Rattle.fs_base.specs.declared.config.Peer.{Peer}
-use Rattle.fs_base.proofs.NumberTests.{eq_itself, equal_of_eq}
-use Rattle.fs_base.proofs.Orderings.{equal_of_is_eq, is_eq_of_nats}
-use Rattle.fs_base.proofs.Bools.{if_true, if_false}
-use Rattle.fs_rules.specs.Changes.{Noted}
-use Rattle.fs_rules.specs.Table.{Held}
-use Rattle.fs_speaker.specs.Line.{fresh}
-use Rattle.fs_speaker.specs.Session.{Live, live, begins}
-use Rattle.fs_tape.specs.Tape.{Item, came_up, received, was_lost}
-use Rattle.fs_desk.specs.Life.{bounds_life, begins_life, sent_in, life}
-use Rattle.fs_desk.specs.Apply.{Changes, nothing}
-use Rattle.fs_desk.specs.Leaves.{IsListed}
-use Rattle.fs_desk.specs.Limit.{bounded_replies_from}
-use Rattle.fs_desk.specs.Receive.{IsLeft, Spares, IsUp, TakesPiece, RepliesPiece}
-use Rattle.fs_desk.specs.Desk.{Desked, session_at, PeerIs, Played, Replied}
-use Rattle.fs_rules.proofs.Entries.{lookup-insert_entry, sorted-insert_entry, sorted-remove_entry}
+use Rattle.fs_desk.proofs.Words.{◌≡◌, ◌==◌, ℕ, List, [], ◌∷◌, ◌++◌, Bool, true, false, cond, Option, Some, None, if◌then◌else◌, option_map, refl, ap, sym, ◌∙◌, subst, append-nil, arith, unwrap_or, IsSome, nat_tests, nat_cmp, is_eq, IsTotalOrder, nat_cmp_total, eq_by_cmp_equiv, IsStrictlySortedBy, remove_entry, set_value, keys_of, insert_entry, is_at, lookup-remove_entry, lookup-set_value, keys-set_value, IsDistinct-from_sorted, peer_of, Config, Peer, eq_itself, equal_of_eq, equal_of_is_eq, is_eq_of_nats, if_true, if_false, Noted, Held, fresh, Live, live, begins, Item, came_up, received, was_lost, bounds_life, begins_life, sent_in, life, Changes, nothing, IsListed, bounded_replies_from, IsLeft, Spares, IsUp, TakesPiece, RepliesPiece, Desked, session_at, PeerIs, Played, Replied, lookup-insert_entry, sorted-insert_entry, sorted-remove_entry}
 use Rattle.fs_desk.proofs.Life.{life-bound, life-more}
 use Rattle.fs_desk.proofs.Follows.{follows_none, within_none}
 use Rattle.fs_desk.proofs.Replying.{replied_none}

@@ -1,21 +1,5 @@
 -- What is appended to the replies, through a piece of the peer's octets.
-use Rattle.std.proofs.Common.{◌≡◌, ◌==◌, ℕ, List, [], ◌∷◌, ◌++◌, length, drop, Bool, false, Option, Some, None, IfSome, Result, Err, refl, sym, ap, ◌∙◌, append_assoc, append-nil, subst, is_some, true, arith}
-use Rattle.std.proofs.lemmas.Bool.Decides.{nat_tests}
-use Rattle.std.proofs.lemmas.List.{nil_from_length}
-use Rattle.fs_base.specs.declared.config.Config.{Config}
-use Rattle.fs_base.specs.declared.config.Peer.{Peer}
-use Rattle.fs_attrs.specs.declared.update.Update.{Update}
-use Rattle.fs_rules.specs.Table.{Held}
-use Rattle.fs_speaker.specs.declared.Closed.{Closed}
-use Rattle.fs_speaker.specs.declared.Closed.TheVariants.{Memory}
-use Rattle.fs_speaker.specs.Line.{CloseIs}
-use Rattle.fs_speaker.specs.Side.{reply_at}
-use Rattle.fs_speaker.specs.Session.{Live, Does, reply_of, step_with}
-use Rattle.fs_base.proofs.Bools.{true_of_not}
-use Rattle.fs_base.proofs.Options.{some_there}
-use Rattle.fs_desk.specs.Leaves.{IsListed}
-use Rattle.fs_desk.specs.Limit.{is_over, routes_left, too_many, bounded_replies_from}
-use Rattle.fs_desk.specs.Receive.{Follows, AreWithin, TakesUpdate, IsLeft, IsFed, IsReplying, HasReplied, IsUp, RepliesTo, Extends, IsReplyingMore, HasRepliedMore, RepliesMessage}
+use Rattle.fs_desk.proofs.Words.{◌≡◌, ◌==◌, ℕ, List, [], ◌∷◌, ◌++◌, length, drop, Bool, false, Option, Some, None, IfSome, Result, Err, refl, sym, ap, ◌∙◌, append_assoc, append-nil, subst, is_some, true, arith, nat_tests, nil_from_length, Config, Peer, Update, Held, Closed, Memory, CloseIs, reply_at, Live, Does, reply_of, step_with, true_of_not, some_there, IsListed, is_over, routes_left, too_many, bounded_replies_from, Follows, AreWithin, TakesUpdate, IsLeft, IsFed, IsReplying, HasReplied, IsUp, RepliesTo, Extends, IsReplyingMore, HasRepliedMore, RepliesMessage}
 use Rattle.fs_desk.proofs.Follows.{follows_fed}
 use Rattle.fs_desk.proofs.Pieces.{close_is, held_left}
 use Rattle.fs_desk.proofs.Replying.{replying_piece, replying_fed, fed_established, replying_closed, replying_ceased, replied_all}

@@ -1,20 +1,7 @@
 -- What a session replies when it is fed octet by octet, and all that is replied to the octets that the peer sent.
-use Rattle.std.proofs.Common.{◌≡◌, ℕ, List, [], ◌∷◌, ◌++◌, true, drop, Option, Some, None, ap, sym, ◌∙◌, append_assoc, append-nil, subst}
-use Rattle.fs_base.specs.declared.config.Config.{Config}
-use Rattle.fs_base.specs.declared.config.Peer.{Peer}
-use Rattle.fs_message.specs.Deframer.{pending}
-use Rattle.fs_attrs.specs.declared.update.Update.{Update}
-use Rattle.fs_speaker.specs.declared.State.TheVariants.{Established}
-use Rattle.fs_speaker.specs.declared.Closed.{Closed}
-use Rattle.fs_session.specs.declared.transition.Phase.{Phase}
-use Rattle.fs_speaker.specs.Line.{Step, waits, takes, stops, fresh}
-use Rattle.fs_speaker.specs.Side.{reply_to, reply_at}
-use Rattle.fs_speaker.specs.Session.{at_start, Last, session_from, Live, live, step_of, Does, reply_of, step_with}
+use Rattle.fs_desk.proofs.Words.{◌≡◌, ℕ, List, [], ◌∷◌, ◌++◌, true, drop, Option, Some, None, ap, sym, ◌∙◌, append_assoc, append-nil, subst, Config, Peer, pending, Update, Established, Closed, Phase, Step, waits, takes, stops, fresh, reply_to, reply_at, at_start, Last, session_from, Live, live, step_of, Does, reply_of, step_with, session_waits, first_over, is_over, routes_left, too_many, bounded_replies_from, replies_to_limit, Follows, AreWithin, IsFed, said_in, IsReplying, HasReplied}
 use Rattle.fs_speaker.specs.Replies.{replies_from}
 use Rattle.fs_speaker.proofs.ReplySteps.{replies_takes, replies_stops, replies_waits}
-use Rattle.fs_speaker.proofs.SessionSteps.{session_waits}
-use Rattle.fs_desk.specs.Limit.{first_over, is_over, routes_left, too_many, bounded_replies_from, replies_to_limit}
-use Rattle.fs_desk.specs.Receive.{Follows, AreWithin, IsFed, said_in, IsReplying, HasReplied}
 use Rattle.fs_desk.proofs.Follows.{nothing_waits, all_gone, closed_small, follows_over, follows_small}
 use Rattle.fs_desk.proofs.Saying.{takes_says, takes_update}
 

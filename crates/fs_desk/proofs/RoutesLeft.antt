@@ -1,31 +1,7 @@
 -- A peer that holds what its updates leave holds as many routes as they leave.
-use Rattle.std.proofs.Common.{◌≡◌, ◌==◌, ℕ, ◌+◌, Bool, true, false, true≢false, ◌&&◌, ◌||◌, cond, if◌then◌else◌, is_some, List, [], ◌∷◌, map, filter, find, flat_map, Option, Some, None, option_map, option_and_then, Less, is_eq, refl, sym, ap, ap₂, ◌∙◌, subst, arith}
-use Rattle.std.proofs.lemmas.Bool.Decides.{nat_tests}
-use Rattle.std.specs.BTreeMap.{is_at}
-use Rattle.std.specs.Cmp.{IsEquivalence, eq_by_cmp_equiv}
-use Rattle.std.specs.List.{list_any, AllByRecursion}
-use Rattle.std.proofs.lemmas.Map.Made.{is_some-lookup}
-use Rattle.fs_base.proofs.Bools.{and_first, and_second, and_both, or_first, or_second, same_tests}
-use Rattle.fs_base.proofs.Lists.{each}
-use Rattle.fs_base.specs.Bits.{afi_of}
-use Rattle.fs_base.specs.declared.path.Path.{Path}
+use Rattle.std.proofs.Common.{Less, is_eq}
+use Rattle.fs_desk.proofs.Words.{◌≡◌, ◌==◌, ℕ, ◌+◌, Bool, true, false, true≢false, ◌&&◌, ◌||◌, cond, if◌then◌else◌, is_some, List, [], ◌∷◌, map, filter, find, flat_map, Option, Some, None, option_map, option_and_then, refl, sym, ap, ap₂, ◌∙◌, subst, arith, nat_tests, is_at, IsEquivalence, eq_by_cmp_equiv, list_any, AllByRecursion, is_some-lookup, and_first, and_second, and_both, or_first, or_second, same_tests, each, afi_of, Path, eq_itself, equal_of_eq, Ruled, shown, rule_total, place_cmp, Route, Place, IsPrefix, Shown, Update, gives_prefixes, gives_rules, FlowRoute, Held, is_key, held_count, IsListed, flow_key, flow_key_cmp, given_of, routes_left, IsLeft, last_such, same_prefix, gives_at, tells_of, path_left, is_rule, rule_given, tells_of_rule, given_with, flow_left, Given}
 use Rattle.fs_base.proofs.Covers.{same_family}
-use Rattle.fs_base.proofs.NumberTests.{eq_itself, equal_of_eq}
-use Rattle.fs_nlri.specs.Parts.{Ruled}
-use Rattle.fs_nlri.specs.Rule.{shown}
-use Rattle.fs_order.specs.Ranked.{rule_total}
-use Rattle.fs_unicast.specs.Unicast.{place_cmp, Route}
-use Rattle.fs_unicast.specs.declared.unicast.Place.{Place}
-use Rattle.fs_attrs.specs.Lists.{IsPrefix}
-use Rattle.fs_attrs.specs.Prefixes.{Shown}
-use Rattle.fs_attrs.specs.declared.update.Update.{Update}
-use Rattle.fs_attrs.specs.Update.{gives_prefixes, gives_rules}
-use Rattle.fs_validate.specs.declared.route.FlowRoute.{FlowRoute}
-use Rattle.fs_rules.specs.Table.{Held, is_key, held_count}
-use Rattle.fs_desk.specs.Leaves.{IsListed, flow_key, flow_key_cmp, given_of}
-use Rattle.fs_desk.specs.Limit.{routes_left}
-use Rattle.fs_desk.specs.Receive.{IsLeft}
-use Rattle.fs_desk.specs.Updates.{last_such, same_prefix, gives_at, tells_of, path_left, is_rule, rule_given, tells_of_rule, given_with, flow_left, Given}
 use Rattle.fs_desk.proofs.ChangesJoined.{last_there}
 use Rattle.fs_desk.proofs.CountedKeys.{any_on, any_flat, any_map, any_own, distinct_own, counted_own}
 use Rattle.fs_desk.proofs.Keys.{and_swapped, place_same, key_same}

@@ -1,27 +1,9 @@
 -- Tapes that leave the same routes leave one list of held routes.
-use Rattle.std.proofs.Common.{◌≡◌, ℕ, List, [], ◌∷◌, Bool, true, false, cond, Some, option_map, refl, ap, sym, ◌∙◌, subst, map, find}
-use Rattle.std.specs.declared.cmp.Ordering.TheVariants.{Equal}
-use Rattle.std.specs.Ordering.{is_eq, nat_cmp}
-use Rattle.std.specs.List.Sorted.{IsStrictlySortedBy}
-use Rattle.std.specs.Map.{keys_of}
-use Rattle.fs_base.specs.Prefix.{prefix_cmp}
-use Rattle.fs_base.specs.declared.config.Config.{Config}
-use Rattle.fs_base.specs.declared.path.Path.{Path}
-use Rattle.fs_base.specs.declared.prefix.Prefix.{Prefix}
+use Rattle.fs_desk.proofs.Words.{◌≡◌, ℕ, List, [], ◌∷◌, Bool, true, false, cond, Some, option_map, refl, ap, sym, ◌∙◌, subst, map, find, Equal, is_eq, nat_cmp, IsStrictlySortedBy, keys_of, prefix_cmp, Config, Path, Prefix, Ruled, rule_cmp, place_cmp, Route, Place, place_total, FlowRoute, Held, Item, Leaves, flow_key, flow_key_cmp, given_of, unicast_at, flow_at, Given}
 use Rattle.fs_base.proofs.SamePrefix.{same_from_cmp}
-use Rattle.fs_nlri.specs.Parts.{Ruled}
-use Rattle.fs_order.specs.Comparison.{rule_cmp}
 use Rattle.fs_order.proofs.Same.{first_equal, second_equal}
 use Rattle.fs_order.proofs.Pairs.{equal_numbers}
-use Rattle.fs_unicast.specs.Unicast.{place_cmp, Route}
-use Rattle.fs_unicast.specs.declared.unicast.Place.{Place}
-use Rattle.fs_unicast.proofs.PlaceOrder.{place_total}
-use Rattle.fs_validate.specs.declared.route.FlowRoute.{FlowRoute}
-use Rattle.fs_rules.specs.Table.{Held}
-use Rattle.fs_tape.specs.Tape.{Item}
 use Rattle.fs_desk.specs.Laws.{LeaveSame}
-use Rattle.fs_desk.specs.Leaves.{Leaves, flow_key, flow_key_cmp, given_of, unicast_at, flow_at}
-use Rattle.fs_desk.specs.Updates.{Given}
 use Rattle.fs_desk.proofs.KeyedSame.{value_at, one_list}
 use Rattle.fs_desk.proofs.Keys.{flow_key_total}
 

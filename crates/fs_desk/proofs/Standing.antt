@@ -1,20 +1,8 @@
 -- How it stands with a peer: the sessions that a desk keeps beside those of the tape's octets.
-use Rattle.std.proofs.Common.{◌≡◌, ℕ, List, [], Option, Some, None, refl, ap, sym, ◌∙◌}
-use Rattle.fs_base.specs.Config.{peer_of}
-use Rattle.fs_base.specs.declared.config.Config.{Config}
-use Rattle.fs_base.specs.declared.config.Peer.{Peer}
-use Rattle.fs_attrs.specs.declared.update.Update.{Update}
-use Rattle.fs_rules.specs.Table.{Held}
-use Rattle.fs_speaker.specs.declared.Closed.{Closed}
-use Rattle.fs_speaker.specs.Session.{Last, still, at_start, Live as Session}
-use Rattle.fs_tape.specs.Tape.{Item}
-use Rattle.fs_desk.specs.Life.{life}
-use Rattle.fs_desk.specs.Desk.{Desked, session_at, PeerIs, Played, standing_of, standing_at_desk}
-use Rattle.fs_desk.specs.Limit.{bounded_from, bounded_session}
-use Rattle.fs_desk.specs.Receive.{IsFed}
+use Rattle.fs_desk.proofs.Words.{◌≡◌, ℕ, List, [], Option, Some, None, refl, ap, sym, ◌∙◌, peer_of, Config, Peer, Update, Held, Closed, Last, still, at_start, Item, life, Desked, session_at, PeerIs, Played, standing_of, standing_at_desk, bounded_from, bounded_session, IsFed, Down, Ended, standing_at, standing_by}
+use Rattle.fs_speaker.specs.Session.{Live as Session}
 use Rattle.fs_speaker.specs.declared.Standing.{Standing}
-use Rattle.fs_speaker.specs.declared.Standing.TheVariants.{Down, Live as LiveIn, Ended}
-use Rattle.fs_speaker.specs.State.{standing_at, standing_by}
+use Rattle.fs_speaker.specs.declared.Standing.TheVariants.{Live as LiveIn}
 use Rattle.fs_desk.proofs.Follows.{follows_session, over_session}
 
 -- what a session came to is what the desk keeps of it

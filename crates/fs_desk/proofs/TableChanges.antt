@@ -1,30 +1,5 @@
 -- What each call of the table changes.
-use Rattle.std.proofs.Common.{◌≡◌, ◌==◌, ℕ, List, [], ◌∷◌, Bool, true, false, not, ◌&&◌, ◌||◌, cond, Option, Some, None, if◌then◌else◌, map, option_map, refl, ap, sym, subst, ◌∙◌, true≢false, arith}
-use Rattle.std.proofs.lemmas.Bool.Decides.{nat_tests}
-use Rattle.std.specs.declared.cmp.Ordering.{Ordering}
-use Rattle.std.specs.declared.cmp.Ordering.TheVariants.{Less, Equal, Greater}
-use Rattle.std.specs.Ordering.{is_eq, ordering_reverse, match_ordering}
-use Rattle.std.specs.Cmp.{IsTotalOrder, eq_by_cmp_equiv}
-use Rattle.std.specs.List.Sorted.{IsStrictlySortedBy}
-use Rattle.std.specs.Map.{remove_entry, keys_of}
-use Rattle.std.specs.BTreeMap.{insert_entry, is_at}
-use Rattle.std.proofs.lemmas.Map.{lookup-remove_entry}
-use Rattle.std.proofs.lemmas.Map.Keys.{IsDistinct-from_sorted}
-use Rattle.fs_base.specs.declared.path.Path.{Path}
-use Rattle.fs_base.specs.declared.prefix.Prefix.{Prefix}
-use Rattle.fs_base.proofs.Orderings.{equal_of_is_eq}
-use Rattle.fs_nlri.specs.Parts.{Ruled}
-use Rattle.fs_nlri.specs.Rule.{shown}
-use Rattle.fs_order.specs.Comparison.{rule_cmp}
-use Rattle.fs_unicast.specs.Unicast.{place_cmp, Route}
-use Rattle.fs_unicast.specs.declared.unicast.Place.{Place}
-use Rattle.fs_unicast.proofs.PlaceOrder.{place_total}
-use Rattle.fs_validate.specs.declared.route.FlowRoute.{FlowRoute}
-use Rattle.fs_rules.specs.Table.{Held, put_route, without_route, without_peer, without_peer_unicast, without_peer_flows}
-use Rattle.fs_desk.specs.Leaves.{unicast_at, flow_at, flow_key, flow_key_cmp, FlowKey, given_of}
-use Rattle.fs_desk.specs.Updates.{is_prefix, is_rule}
-use Rattle.fs_desk.specs.Apply.{Changes, same, nothing, taken_of, given_at, rules_taken, rules_given, given_or}
-use Rattle.fs_rules.proofs.Entries.{lookup-insert_entry, sorted-insert_entry, sorted-remove_entry}
+use Rattle.fs_desk.proofs.Words.{◌≡◌, ◌==◌, ℕ, List, [], ◌∷◌, Bool, true, false, not, ◌&&◌, ◌||◌, cond, Option, Some, None, if◌then◌else◌, map, option_map, refl, ap, sym, subst, ◌∙◌, true≢false, arith, nat_tests, Ordering, Less, Equal, Greater, is_eq, ordering_reverse, match_ordering, IsTotalOrder, eq_by_cmp_equiv, IsStrictlySortedBy, remove_entry, keys_of, insert_entry, is_at, lookup-remove_entry, IsDistinct-from_sorted, Path, Prefix, equal_of_is_eq, Ruled, shown, rule_cmp, place_cmp, Route, Place, place_total, FlowRoute, Held, put_route, without_route, without_peer, without_peer_unicast, without_peer_flows, unicast_at, flow_at, flow_key, flow_key_cmp, FlowKey, given_of, is_prefix, is_rule, Changes, same, nothing, taken_of, given_at, rules_taken, rules_given, given_or, lookup-insert_entry, sorted-insert_entry, sorted-remove_entry}
 use Rattle.fs_desk.proofs.KeyedLists.{at_key, put_by, at_key-put_by, at_key-without, at_key-filter, listed-put_by, listed-filter}
 use Rattle.fs_desk.proofs.Keys.{flow_key_total, place_same, key_same}
 

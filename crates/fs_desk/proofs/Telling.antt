@@ -1,14 +1,6 @@
 -- What changes of the table tell, one after the other.
-use Rattle.std.proofs.Common.{◌≡◌, ℕ, List, false, sym, ap, ap₂, subst, ◌∙◌, Option}
-use Rattle.fs_base.specs.declared.prefix.Family.{Family}
-use Rattle.fs_base.specs.declared.prefix.Prefix.{Prefix}
-use Rattle.fs_base.proofs.Lists.{none_each}
-use Rattle.fs_nlri.specs.Parts.{Ruled}
-use Rattle.fs_validate.specs.declared.route.FlowRoute.{FlowRoute}
-use Rattle.fs_rules.specs.Changes.{AdmitsElsewhere, Covers, Noted, is_to}
-use Rattle.fs_rules.specs.Table.{Held, has_route, is_key, without_route}
+use Rattle.fs_desk.proofs.Words.{◌≡◌, ℕ, List, false, sym, ap, ap₂, subst, ◌∙◌, Option, Family, Prefix, none_each, Ruled, FlowRoute, AdmitsElsewhere, Covers, Noted, is_to, Held, has_route, is_key, without_route, Tells, Watched}
 use Rattle.fs_rules.proofs.Changed.{all_stay}
-use Rattle.fs_desk.specs.Watched.{Tells, Watched}
 
 pub tells_none : (watched : Watched) → Tells watched watched
 tells_none watched base h = h

@@ -1,31 +1,9 @@
 -- The clock at a peer: what was played still stands, unless its session closes by it.
-use Rattle.std.proofs.Common.{◌≡◌, ◌≢◌, ℕ, ◌==◌, List, [], Option, Some, None, if◌then◌else◌, refl, ap, sym, ◌∙◌, subst}
-use Rattle.std.specs.Ordering.{nat_cmp}
-use Rattle.std.specs.Map.{set_value}
-use Rattle.std.specs.BTreeMap.{is_at}
-use Rattle.fs_base.specs.Config.{peer_of}
-use Rattle.fs_base.specs.declared.config.Config.{Config}
-use Rattle.fs_base.specs.declared.config.Peer.{Peer}
-use Rattle.fs_base.proofs.NumberTests.{eq_itself}
-use Rattle.fs_base.proofs.Bools.{if_true, if_false}
-use Rattle.fs_attrs.specs.declared.update.Update.{Update}
-use Rattle.fs_rules.specs.Changes.{Noted}
-use Rattle.fs_rules.specs.Table.{Held}
-use Rattle.fs_speaker.specs.declared.Closed.{Closed}
-use Rattle.fs_speaker.specs.declared.Closed.TheVariants.{Fault}
-use Rattle.fs_speaker.specs.declared.Standing.TheVariants.{Ended, Live as LiveIn}
+use Rattle.fs_desk.proofs.Words.{◌≡◌, ◌≢◌, ℕ, ◌==◌, List, [], Option, Some, None, if◌then◌else◌, refl, ap, sym, ◌∙◌, subst, nat_cmp, set_value, is_at, peer_of, Config, Peer, eq_itself, if_true, if_false, Update, Noted, Held, Closed, Fault, Ended, Times, Last, Live, at_start, still, standing_by, at_moment, tick_at, Item, Desked, ExpiresSo, HasHoldTime, session_at, PeerIs, Played, TicksPeer, standing_at_desk, life, bounded_from, bounded_replies_from, HasReplied, IsFed, IsUp}
+use Rattle.fs_speaker.specs.declared.Standing.TheVariants.{Live as LiveIn}
 use Rattle.fs_session.specs.declared.times.Tick.{Tick}
 use Rattle.fs_session.specs.declared.times.Tick.TheVariants.{Quiet, Keeps, Expires}
-use Rattle.fs_session.specs.declared.times.Times.{Times}
-use Rattle.fs_speaker.specs.Session.{Last, Live, at_start, still}
-use Rattle.fs_speaker.specs.State.{standing_by}
-use Rattle.fs_speaker.specs.Times.{at_moment, tick_at}
-use Rattle.fs_tape.specs.Tape.{Item}
-use Rattle.fs_desk.specs.Desk.{Desked, ExpiresSo, HasHoldTime, session_at, PeerIs, Played, TicksPeer, standing_at_desk}
 use Rattle.fs_desk.specs.HoldTimer.{TickMakes, TicksIn, TicksSession, with_times}
-use Rattle.fs_desk.specs.Life.{life}
-use Rattle.fs_desk.specs.Limit.{bounded_from, bounded_replies_from}
-use Rattle.fs_desk.specs.Receive.{HasReplied, IsFed, IsUp}
 use Rattle.fs_desk.proofs.Follows.{follows_session}
 use Rattle.fs_desk.proofs.Played.{desk_of, session_value, sorted_value, each_peer}
 

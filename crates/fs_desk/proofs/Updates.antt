@@ -1,20 +1,6 @@
+use Rattle.fs_desk.proofs.Words.{◌≡◌, ◌==◌, ℕ, List, [], ◌∷◌, ◌++◌, Bool, true, false, ◌||◌, Option, Some, None, if◌then◌else◌, option_and_then, is_some, refl, ap, sym, ◌∙◌, arith, nat_tests, list_any, Path, Prefix, eq_itself, if_true, if_false, Ruled, shown, Update, takes_prefixes, takes_rules, Held, IsListed, last_such, is_prefix, gives_at, tells_of, unicast_left, is_rule, Given, rule_given, tells_of_rule, given_with, flow_left, Changes, nothing, told, told_of, IsLeft, Spares}
+
 -- What one more update leaves a peer holding, and what a change of the table leaves.
-use Rattle.std.proofs.Common.{◌≡◌, ◌==◌, ℕ, List, [], ◌∷◌, ◌++◌, Bool, true, false, ◌||◌, Option, Some, None, if◌then◌else◌, option_and_then, is_some, refl, ap, sym, ◌∙◌, arith}
-use Rattle.std.proofs.lemmas.Bool.Decides.{nat_tests}
-use Rattle.std.specs.List.{list_any}
-use Rattle.fs_base.specs.declared.path.Path.{Path}
-use Rattle.fs_base.specs.declared.prefix.Prefix.{Prefix}
-use Rattle.fs_base.proofs.NumberTests.{eq_itself}
-use Rattle.fs_base.proofs.Bools.{if_true, if_false}
-use Rattle.fs_nlri.specs.Parts.{Ruled}
-use Rattle.fs_nlri.specs.Rule.{shown}
-use Rattle.fs_attrs.specs.declared.update.Update.{Update}
-use Rattle.fs_attrs.specs.Update.{takes_prefixes, takes_rules}
-use Rattle.fs_rules.specs.Table.{Held}
-use Rattle.fs_desk.specs.Leaves.{IsListed}
-use Rattle.fs_desk.specs.Updates.{last_such, is_prefix, gives_at, tells_of, unicast_left, is_rule, Given, rule_given, tells_of_rule, given_with, flow_left}
-use Rattle.fs_desk.specs.Apply.{Changes, nothing, told, told_of}
-use Rattle.fs_desk.specs.Receive.{IsLeft, Spares}
 
 -- which of two counts, where the later one counts if it is there
 abbrev pub later_of : {A : Type 0} → Option A → Option A → Option A

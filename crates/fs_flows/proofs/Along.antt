@@ -1,21 +1,5 @@
 -- Routes that are taken out of the groups of some destinations.
-use Rattle.std.proofs.Common.{ℕ, ◌≡◌, ◌≤◌, refl, sym, ap, ap₂, subst, ◌∙◌, Bool, true, false, true≢false, not, ◌||◌, ◌==◌, cond, List, [], ◌∷◌, ◌++◌, filter, map, length, Option, Some, None, is_eq, arith}
-use Rattle.std.specs.List.{AllByRecursion}
-use Rattle.std.specs.Map.{keys_of}
-use Rattle.std.specs.Option.{MatchOption}
-use Rattle.std.proofs.lemmas.Bool.{eqb-true}
-use Rattle.std.proofs.lemmas.Map.Keys.{sorted_head, sorted_tail}
-use Rattle.fs_base.specs.declared.config.Config.{Config}
-use Rattle.fs_base.specs.declared.prefix.Prefix.{Prefix}
-use Rattle.fs_base.specs.Prefix.{prefix_cmp}
-use Rattle.fs_base.proofs.Bools.{true_of_not}
-use Rattle.fs_base.proofs.Lists.{each, each_weaker, each_both, filter-append, filter_all, each_filtered}
-use Rattle.fs_nlri.specs.Rule.{destination_prefix}
-use Rattle.fs_unicast.specs.Unicast.{Route}
-use Rattle.fs_flows.specs.Kept.{Kept}
-use Rattle.fs_flows.specs.Group.{mended, retested, is_related_kept, is_of_other}
-use Rattle.fs_flows.specs.Groups.{Entry, kept_in, IsTo, ArePlaced, AreInOrder, IsGrouped, with_group, keep_at}
-use Rattle.fs_flows.specs.Listed.{Listed, lists, is_among, StaysListed, IsAmong, IsListed, keep_along}
+use Rattle.fs_flows.proofs.Words.{ℕ, ◌≡◌, ◌≤◌, refl, sym, ap, ap₂, subst, ◌∙◌, Bool, true, false, true≢false, not, ◌||◌, ◌==◌, cond, List, [], ◌∷◌, ◌++◌, filter, map, length, Option, Some, None, is_eq, arith, AllByRecursion, keys_of, MatchOption, eqb-true, sorted_head, sorted_tail, Config, Prefix, prefix_cmp, true_of_not, each, each_weaker, each_both, filter-append, filter_all, each_filtered, destination_prefix, Route, Kept, mended, retested, is_related_kept, is_of_other, Entry, kept_in, IsTo, ArePlaced, AreInOrder, IsGrouped, with_group, keep_at, Listed, lists, is_among, StaysListed, IsAmong, IsListed, keep_along}
 use Rattle.fs_flows.proofs.Apart.{each_front, each_back}
 use Rattle.fs_flows.proofs.Changed.{each-filtered}
 use Rattle.fs_flows.proofs.TakingFromGroups.{kept_with, placed_at, each_at, sorted_at, other_keys, length-filter}

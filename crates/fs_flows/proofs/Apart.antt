@@ -1,27 +1,7 @@
 -- Rules of different destinations are in the order of these.
-use Rattle.std.proofs.Common.{ℕ, zero, suc, drop, take, ◌≡◌, refl, sym, ap, ap₂, ◌∙◌, true, false, true≢false, List, [], ◌∷◌, ◌++◌, Option, Some, None, option_map, Ordering, Less, Equal, Greater, is_eq, nat_cmp, Result, Ok, Err, OnOk, OnErr, IfOk}
-use Rattle.std.specs.List.{AllByRecursion}
-use Rattle.std.specs.Map.{keys_of}
-use Rattle.std.specs.Ordering.{ordering_then, ordering_reverse}
-use Rattle.std.proofs.lemmas.Map.Keys.{sorted_head}
-use Rattle.fs_base.specs.declared.prefix.Family.{Family}
-use Rattle.fs_base.specs.declared.prefix.Family.TheVariants.{V4, V6}
-use Rattle.fs_base.specs.declared.prefix.Prefix.{Prefix}
-use Rattle.fs_base.specs.Bits.{afi_of}
-use Rattle.fs_base.specs.Prefix.{prefix_cmp}
-use Rattle.fs_base.proofs.Lists.{each_weaker, each_both, each_append}
-use Rattle.fs_nlri.specs.Parts.{Ruled}
-use Rattle.fs_nlri.specs.Rule.{IsRule, shown, destination_prefix}
-use Rattle.fs_nlri.proofs.Destination.{destination_shown}
-use Rattle.fs_order.specs.Comparison.{rule_cmp, parts_cmp}
-use Rattle.fs_order.specs.Ranked.{rule_total}
-use Rattle.fs_order.specs.Laws.{destination_cmp}
+use Rattle.fs_flows.proofs.Words.{ℕ, zero, suc, drop, take, ◌≡◌, refl, sym, ap, ap₂, ◌∙◌, true, false, true≢false, List, [], ◌∷◌, ◌++◌, Option, Some, None, option_map, Ordering, Less, Equal, Greater, is_eq, nat_cmp, Result, Ok, Err, OnOk, OnErr, IfOk, AllByRecursion, keys_of, ordering_then, ordering_reverse, sorted_head, Family, V4, V6, Prefix, afi_of, prefix_cmp, each_weaker, each_both, each_append, Ruled, IsRule, shown, destination_prefix, destination_shown, rule_cmp, parts_cmp, rule_total, destination_cmp, Kept, RuleBefore, AllBefore, key_cmp, is_key, same_rule, Entry, kept_in, IsTo, ArePlaced, AreInOrder, IsSound}
 use Rattle.fs_order.proofs.First.{destinations_first}
 use Rattle.fs_order.proofs.Same.{same_rules}
-use Rattle.fs_flows.specs.Kept.{Kept}
-use Rattle.fs_flows.specs.Blocks.{RuleBefore, AllBefore}
-use Rattle.fs_flows.specs.Table.{key_cmp, is_key, same_rule}
-use Rattle.fs_flows.specs.Groups.{Entry, kept_in, IsTo, ArePlaced, AreInOrder, IsSound}
 
 -- rules without a destination come last
 abbrev pub to_cmp : Option Prefix → Option Prefix → Ordering

@@ -1,18 +1,5 @@
 -- The block in which a rule has its place, found by the rules with which blocks begin; and where a block is cut.
-use Rattle.std.proofs.Common.{ℕ, zero, suc, ◌≡◌, ◌+◌, ◌<◌, ◌≤◌, refl, sym, ap, subst, ◌∙◌, Bool, true, false, true≢false, not, cond, List, [], ◌∷◌, length, get_or, take, drop, Ordering, Less, Equal, Greater, nat_cmp, arith}
-use Rattle.std.specs.List.{AllByRecursion, AllWithin}
-use Rattle.std.specs.List.Sorted.{IsPartitionedBy}
-use Rattle.std.specs.Cmp.{tied_itself}
-use Rattle.std.specs.Ordering.{is_lt, is_gt, match_ordering, ordering_then, ordering_reverse}
-use Rattle.fs_base.proofs.Lists.{each_weaker}
-use Rattle.fs_base.proofs.Bools.{false_of_not}
-use Rattle.fs_nlri.specs.Parts.{Ruled}
-use Rattle.fs_order.specs.Comparison.{rule_cmp}
-use Rattle.fs_order.specs.Ranked.{rule_total}
-use Rattle.fs_flows.specs.Kept.{Kept}
-use Rattle.fs_flows.specs.Table.{key_cmp}
-use Rattle.fs_flows.specs.Group.{AreSorted, routes_of, place_in}
-use Rattle.fs_flows.specs.Blocks.{flat, RuleBefore, AllBefore, AreCut, is_filled, IsCut, begins_by, begun, block_of}
+use Rattle.fs_flows.proofs.Words.{ℕ, zero, suc, ◌≡◌, ◌+◌, ◌<◌, ◌≤◌, refl, sym, ap, subst, ◌∙◌, Bool, true, false, true≢false, not, cond, List, [], ◌∷◌, length, get_or, take, drop, Ordering, Less, Equal, Greater, nat_cmp, arith, AllByRecursion, AllWithin, IsPartitionedBy, tied_itself, is_lt, is_gt, match_ordering, ordering_then, ordering_reverse, each_weaker, false_of_not, Ruled, rule_cmp, rule_total, Kept, key_cmp, AreSorted, routes_of, place_in, flat, RuleBefore, AllBefore, AreCut, is_filled, IsCut, begins_by, begun, block_of}
 use Rattle.fs_flows.proofs.Apart.{each_front, each_back}
 use Rattle.fs_flows.proofs.Cutting.{ahead_of}
 use Rattle.fs_flows.proofs.KeyPlaces.{NotBefore, not_before, least_after}

@@ -1,29 +1,6 @@
 -- The routes of IPv4 stand before those of IPv6.
-use Rattle.std.proofs.Common.{ℕ, ◌≡◌, ◌+◌, sym, ap, ap₂, subst, ◌∙◌, Bool, true, false, not, ◌&&◌, ◌==◌, cond, List, [], ◌∷◌, ◌++◌, filter, map, nat_cmp, is_eq, Result, Ok, Err, OnOk, OnErr, arith}
-use Rattle.std.proofs.lemmas.List.{append-nil, map-append}
-use Rattle.std.specs.List.{list_any, AllByRecursion}
-use Rattle.std.specs.Ordering.{ordering_then}
-use Rattle.fs_base.specs.Bits.{afi_of}
-use Rattle.fs_base.specs.declared.config.Config.{Config}
-use Rattle.fs_base.specs.declared.prefix.Family.{Family}
-use Rattle.fs_base.specs.declared.prefix.Family.TheVariants.{V4, V6}
-use Rattle.fs_base.specs.declared.prefix.Prefix.{Prefix}
-use Rattle.fs_base.proofs.Bools.{and_first}
-use Rattle.fs_base.proofs.Lists.{each_weaker, each_append, filter-append, filter_all, filter_none, each_filtered}
-use Rattle.fs_base.proofs.Covers.{same_family_of}
-use Rattle.fs_nlri.specs.Parts.{Ruled}
-use Rattle.fs_nlri.specs.Rule.{IsRule}
-use Rattle.fs_order.specs.Comparison.{parts_cmp}
-use Rattle.fs_unicast.specs.Unicast.{Route}
-use Rattle.fs_flows.specs.Kept.{Kept}
-use Rattle.fs_flows.specs.Table.{is_key, is_of_family, is_valid, related_count}
-use Rattle.fs_flows.specs.Changes.{Noted}
-use Rattle.fs_flows.specs.Group.{AreSorted, routes_of, put_kept, mended, retested, is_related_kept, is_beaten, is_chosen, chosen, of_family, is_other_key, HaveRules}
-use Rattle.fs_flows.specs.Groups.{Entry, IsSound}
-use Rattle.fs_flows.specs.Lending.{AreLent}
-use Rattle.fs_flows.specs.Search.{MendsKept}
+use Rattle.fs_flows.proofs.Words.{ℕ, ◌≡◌, ◌+◌, sym, ap, ap₂, subst, ◌∙◌, Bool, true, false, not, ◌&&◌, ◌==◌, cond, List, [], ◌∷◌, ◌++◌, filter, map, nat_cmp, is_eq, Result, Ok, Err, OnOk, OnErr, arith, append-nil, map-append, list_any, AllByRecursion, ordering_then, afi_of, Config, Family, V4, V6, Prefix, and_first, each_weaker, each_append, filter-append, filter_all, filter_none, each_filtered, same_family_of, Ruled, IsRule, parts_cmp, Route, Kept, is_key, is_of_family, is_valid, related_count, Noted, AreSorted, routes_of, put_kept, mended, retested, is_related_kept, is_beaten, is_chosen, chosen, of_family, is_other_key, HaveRules, Entry, IsSound, AreLent, MendsKept, AllBefore, RuleBefore}
 use Rattle.fs_flows.specs.Flows.{AreOfFamilies}
-use Rattle.fs_flows.specs.Blocks.{AllBefore, RuleBefore}
 use Rattle.fs_flows.proofs.Apart.{families_before}
 use Rattle.fs_flows.proofs.ChosenParts.{chosen-append}
 use Rattle.fs_flows.proofs.Changed.{any_back, any_front, each-filtered, each-put, left_back, left_front}

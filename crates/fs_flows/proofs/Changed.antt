@@ -1,30 +1,7 @@
 -- What a change does to the routes, to their validities and to the order.
-use Rattle.std.proofs.Common.{◌≡◌, ◌+◌, refl, sym, ap, subst, ◌∙◌, Bool, true, false, true≢false, not, ◌||◌, cond, List, [], ◌∷◌, ◌++◌, filter, map, Option, Some, None, Ordering, Less, Equal, Greater, is_eq, nat_cmp, is_some, length, arith}
-use Rattle.std.specs.List.{list_any, AllByRecursion}
-use Rattle.std.proofs.lemmas.List.Folds.{list_any-append}
-use Rattle.std.specs.Ordering.{match_ordering, ordering_reverse}
-use Rattle.std.specs.Cmp.{IsTotalOrder, on_total, then_total, nat_cmp_total}
-use Rattle.std.specs.BTreeMap.{insert_entry, is_at}
-use Rattle.std.specs.Map.{remove_entry, lookup}
-use Rattle.fs_base.specs.declared.config.Config.{Config}
-use Rattle.fs_base.specs.declared.prefix.Prefix.{Prefix}
-use Rattle.fs_base.specs.declared.path.Path.{Path}
-use Rattle.fs_base.specs.Prefix.{covers, prefix_cmp}
-use Rattle.fs_base.proofs.Bools.{or_false, or_none}
-use Rattle.fs_base.proofs.Lists.{each_none, each_weaker, filter-append, filter-insert_other, filter-remove_other, filter_all, each_filtered}
-use Rattle.fs_base.proofs.Nesting.{alike_covers, covers_alike}
-use Rattle.fs_base.proofs.Orderings.{is_eq_of_first}
-use Rattle.fs_order.specs.Ranked.{rule_total}
-use Rattle.fs_unicast.specs.Unicast.{Route, place_cmp}
+use Rattle.fs_flows.proofs.Words.{◌≡◌, ◌+◌, refl, sym, ap, subst, ◌∙◌, Bool, true, false, true≢false, not, ◌||◌, cond, List, [], ◌∷◌, ◌++◌, filter, map, Option, Some, None, Ordering, Less, Equal, Greater, is_eq, nat_cmp, is_some, length, arith, list_any, AllByRecursion, list_any-append, match_ordering, ordering_reverse, IsTotalOrder, on_total, then_total, nat_cmp_total, insert_entry, is_at, remove_entry, lookup, Config, Prefix, Path, covers, prefix_cmp, or_false, or_none, each_none, each_weaker, filter-append, filter-insert_other, filter-remove_other, filter_all, each_filtered, alike_covers, covers_alike, is_eq_of_first, rule_total, Route, place_cmp, destination_prefix, is_related, related, validity, validity_to, FlowRoute, Kept, key_cmp, put_route, has_related, routes_of, AreRight, AreSorted, Keeps, put_kept, mended, retested, is_related_kept}
 use Rattle.fs_unicast.specs.declared.unicast.Place.{Place}
-use Rattle.fs_nlri.specs.Rule.{destination_prefix}
-use Rattle.fs_validate.specs.Laws.{is_related, related}
-use Rattle.fs_validate.specs.Validity.{validity, validity_to}
-use Rattle.fs_validate.specs.declared.route.FlowRoute.{FlowRoute}
 use Rattle.fs_validate.proofs.Local.{validity_local}
-use Rattle.fs_flows.specs.Kept.{Kept}
-use Rattle.fs_flows.specs.Table.{key_cmp, put_route, has_related}
-use Rattle.fs_flows.specs.Group.{routes_of, AreRight, AreSorted, Keeps, put_kept, mended, retested, is_related_kept}
 
 -- The order of keys is total.
 abbrev pub flow_cmp : FlowRoute → FlowRoute → Ordering

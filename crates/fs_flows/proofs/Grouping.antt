@@ -1,25 +1,5 @@
 -- That routes stay grouped.
-use Rattle.std.proofs.Common.{ℕ, ◌≡◌, ◌+◌, ◌≤◌, ◌<◌, ◌^◌, refl, sym, ap, subst, ◌∙◌, Bool, List, [], ◌∷◌, filter, map, length, Some, None, Ordering, Less, Equal, Greater, arith}
-use Rattle.std.specs.List.{AllByRecursion}
-use Rattle.std.proofs.lemmas.List.{length-map}
-use Rattle.std.specs.Map.{keys_of}
-use Rattle.std.specs.Ordering.{match_ordering, ordering_reverse}
-use Rattle.std.proofs.lemmas.Map.Keys.{sorted_head, sorted_tail}
-use Rattle.fs_base.specs.declared.config.Config.{Config}
-use Rattle.fs_base.specs.declared.prefix.Family.{Family}
-use Rattle.fs_base.specs.declared.prefix.Prefix.{Prefix}
-use Rattle.fs_base.specs.Prefix.{prefix_cmp, prefix_total}
-use Rattle.fs_base.proofs.Lists.{each_weaker, each_filtered}
-use Rattle.fs_unicast.specs.Unicast.{Route}
-use Rattle.fs_nlri.specs.Parts.{Ruled}
-use Rattle.fs_nlri.specs.Rule.{IsRule, destination_prefix}
-use Rattle.fs_validate.specs.Laws.{is_related}
-use Rattle.fs_flows.specs.Kept.{Kept}
-use Rattle.fs_flows.specs.Changes.{Noted}
-use Rattle.fs_flows.specs.Group.{put_kept, mended, chosen, is_other_key, HaveRules}
-use Rattle.fs_flows.specs.Groups.{Entry, kept_in, IsTo, ArePlaced, AreInOrder, IsSound, IsGrouped, put_entry, keep_at, keep_each}
-use Rattle.fs_flows.specs.Search.{Mends, MendsKept, Moment}
-use Rattle.fs_flows.specs.Lending.{chosen_in}
+use Rattle.fs_flows.proofs.Words.{ℕ, ◌≡◌, ◌+◌, ◌≤◌, ◌<◌, ◌^◌, refl, sym, ap, subst, ◌∙◌, Bool, List, [], ◌∷◌, filter, map, length, Some, None, Ordering, Less, Equal, Greater, arith, AllByRecursion, length-map, keys_of, match_ordering, ordering_reverse, sorted_head, sorted_tail, Config, Family, Prefix, prefix_cmp, prefix_total, each_weaker, each_filtered, Route, Ruled, IsRule, destination_prefix, is_related, Kept, Noted, put_kept, mended, chosen, is_other_key, HaveRules, Entry, kept_in, IsTo, ArePlaced, AreInOrder, IsSound, IsGrouped, put_entry, keep_at, keep_each, Mends, MendsKept, Moment, chosen_in}
 use Rattle.fs_flows.proofs.PuttingInGroups.{put_entries, put_rest, put_placed, each_entry, length-put}
 use Rattle.fs_flows.proofs.TakingFromGroups.{kept_each, placed_each, placed_at, sorted_at, parts_sorted, taken_kept, taken_rest, length-filter}
 use Rattle.fs_flows.proofs.Mending.{mended_in, marks_kept, mends_placed, mends_ordered, size_related}

@@ -1,16 +1,6 @@
 -- Where a key stands in the order.
-use Rattle.std.proofs.Common.{ℕ, zero, suc, ◌≡◌, ◌+◌, ◌<◌, ◌≤◌, refl, sym, ap, subst, ◌∙◌, Bool, true, false, true≢false, ◌&&◌, ◌||◌, List, [], ◌∷◌, length, get_or, drop, take, ◌-◌, length-drop, take_all, Ordering, Less, Equal, Greater, nat_cmp, arith}
-use Rattle.std.specs.List.{AllByRecursion, AllWithin}
-use Rattle.std.specs.List.Sorted.{IsPartitionedBy}
-use Rattle.std.specs.Ordering.{match_ordering, ordering_then, ordering_reverse, is_gt}
-use Rattle.std.proofs.lemmas.Bool.Decides.{nat_tests}
-use Rattle.fs_base.proofs.Lists.{each_of_map, each_weaker}
-use Rattle.fs_nlri.specs.Parts.{Ruled}
-use Rattle.fs_validate.specs.declared.route.FlowRoute.{FlowRoute}
-use Rattle.fs_unicast.specs.Preference.{preferred}
-use Rattle.fs_flows.specs.Kept.{Kept}
-use Rattle.fs_flows.specs.Table.{key_cmp, is_valid, same_rule, beats}
-use Rattle.fs_flows.specs.Group.{routes_of, AreSorted, place_in}
+use Rattle.std.proofs.Common.{take_all}
+use Rattle.fs_flows.proofs.Words.{ℕ, zero, suc, ◌≡◌, ◌+◌, ◌<◌, ◌≤◌, refl, sym, ap, subst, ◌∙◌, Bool, true, false, true≢false, ◌&&◌, ◌||◌, List, [], ◌∷◌, length, get_or, drop, take, ◌-◌, length-drop, Ordering, Less, Equal, Greater, nat_cmp, arith, AllByRecursion, AllWithin, IsPartitionedBy, match_ordering, ordering_then, ordering_reverse, is_gt, nat_tests, each_of_map, each_weaker, Ruled, FlowRoute, preferred, Kept, key_cmp, is_valid, same_rule, beats, routes_of, AreSorted, place_in}
 use Rattle.fs_flows.proofs.Placing.{pair_total}
 
 abbrev pub is_after : Ruled → ℕ → Kept → Bool

@@ -1,3 +1,4 @@
+mod Words
 pub mod Along
 pub mod Apart
 pub mod BlockOfRule

@@ -1,27 +1,5 @@
 -- Validating anew the groups whose destination passes a test, and noting those in which a validity changed.
-use Rattle.std.proofs.Common.{ℕ, zero, suc, ◌≡◌, ◌↔◌, ◌⊎◌, inl, inr, ◌+◌, ◌<◌, ◌≤◌, refl, sym, ap, ap₂, subst, ◌∙◌, Bool, true, false, true≢false, ◌&&◌, ◌||◌, cond, List, [], ◌∷◌, ◌++◌, map, length, take, drop, get_or, Option, Some, None, Less, is_eq, arith}
-use Rattle.std.proofs.lemmas.List.{length-map, map-append, take_more}
-use Rattle.std.proofs.lemmas.Option.{same_Some}
-use Rattle.std.specs.List.{AllByRecursion}
-use Rattle.std.specs.List.Sorted.{IsStrictlySortedBy}
-use Rattle.std.specs.BTreeMap.{is_at}
-use Rattle.std.specs.Map.{keys_of, lookup, set_value}
-use Rattle.std.proofs.lemmas.Map.Keys.{sorted_head, sorted_tail}
-use Rattle.fs_base.specs.declared.config.Config.{Config}
-use Rattle.fs_base.specs.declared.prefix.Prefix.{Prefix}
-use Rattle.fs_base.specs.Prefix.{prefix_cmp}
-use Rattle.fs_base.proofs.Bools.{false_from, or_false, or_none}
-use Rattle.fs_base.proofs.SamePrefix.{same_from_cmp}
-use Rattle.fs_base.proofs.Lists.{each_append, each_both, each_mapped, each_of_map, each_weaker}
-use Rattle.fs_unicast.specs.Unicast.{Route}
-use Rattle.fs_validate.specs.Laws.{is_related}
-use Rattle.fs_validate.specs.Validity.{validity_to}
-use Rattle.fs_flows.specs.Kept.{Kept}
-use Rattle.fs_flows.specs.Changes.{Noted, StaysNoted, IsNotedAt, is_noted}
-use Rattle.fs_flows.specs.Group.{AreRight, AreRightTo, IsMarked, IsRightAt, retested, retested_to, mended, routes_of}
-use Rattle.fs_flows.specs.Table.{has_related, related_count}
-use Rattle.fs_flows.specs.Groups.{Entry, kept_in, IsTo, ArePlaced, AreInOrder}
-use Rattle.fs_flows.specs.Search.{touched, size, Marks, Mends, MendsKept, Moment, moment}
+use Rattle.fs_flows.proofs.Words.{ℕ, zero, suc, ◌≡◌, ◌↔◌, ◌⊎◌, inl, inr, ◌+◌, ◌<◌, ◌≤◌, refl, sym, ap, ap₂, subst, ◌∙◌, Bool, true, false, true≢false, ◌&&◌, ◌||◌, cond, List, [], ◌∷◌, ◌++◌, map, length, take, drop, get_or, Option, Some, None, Less, is_eq, arith, length-map, map-append, take_more, same_Some, AllByRecursion, IsStrictlySortedBy, is_at, keys_of, lookup, set_value, sorted_head, sorted_tail, Config, Prefix, prefix_cmp, false_from, or_false, or_none, same_from_cmp, each_append, each_both, each_mapped, each_of_map, each_weaker, Route, is_related, validity_to, Kept, Noted, StaysNoted, IsNotedAt, is_noted, AreRight, AreRightTo, IsMarked, IsRightAt, retested, retested_to, mended, routes_of, has_related, related_count, Entry, kept_in, IsTo, ArePlaced, AreInOrder, touched, size, Marks, Mends, MendsKept, Moment, moment}
 use Rattle.fs_flows.proofs.Apart.{each_front, each_back}
 use Rattle.fs_flows.proofs.Placing.{related-append}
 use Rattle.fs_flows.proofs.TakingFromGroups.{other_keys}

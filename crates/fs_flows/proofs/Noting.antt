@@ -1,26 +1,6 @@
 -- The places that are noted, and what is told with one more.
-use Rattle.std.proofs.Common.{◌≡◌, refl, sym, ap, ap₂, subst, ◌∙◌, Bool, true, false, not, ◌&&◌, ◌||◌, cond, List, [], ◌∷◌, ◌++◌, filter, is_eq, ℕ, Option, Some, None, IfSome, option_map, ◌==◌}
-use Rattle.std.specs.List.{list_any}
-use Rattle.fs_base.specs.Bits.{afi_of}
-use Rattle.fs_base.specs.declared.prefix.Family.{Family}
-use Rattle.fs_base.specs.declared.prefix.Family.TheVariants.{V4, V6}
-use Rattle.fs_base.specs.declared.prefix.Prefix.{Prefix}
-use Rattle.fs_base.specs.Prefix.{prefix_of, prefix_total}
-use Rattle.fs_base.proofs.Bools.{or_first, or_second}
-use Rattle.fs_base.proofs.Lists.{each, filter_on}
-use Rattle.std.specs.Cmp.{tied_itself}
-use Rattle.std.proofs.lemmas.Bool.{eqb-true}
-use Rattle.std.proofs.lemmas.List.Folds.{list_any-append}
-use Rattle.std.proofs.lemmas.Option.{none-some, same_Some}
-use Rattle.fs_base.proofs.Covers.{family_itself}
+use Rattle.fs_flows.proofs.Words.{◌≡◌, refl, sym, ap, ap₂, subst, ◌∙◌, Bool, true, false, not, ◌&&◌, ◌||◌, cond, List, [], ◌∷◌, ◌++◌, filter, is_eq, ℕ, Option, Some, None, IfSome, option_map, ◌==◌, list_any, afi_of, Family, V4, V6, Prefix, prefix_of, prefix_total, or_first, or_second, each, filter_on, tied_itself, eqb-true, list_any-append, none-some, same_Some, family_itself, Body, V4Body, V6Body, ListBody, Part, Ruled, AreNormal, IsNormalAt, IsRule, destination_body, destination_in, destination_of, destination_prefix, shown, destination_first, destination_shown, destination_cmp, FlowRoute, AdmitsElsewhere, Covers, Noted, StaysNoted, is_noted, is_to, touched_by, Held}
 use Rattle.fs_nlri.specs.Forms.{form_of}
-use Rattle.fs_nlri.specs.Parts.{Body, V4Body, V6Body, ListBody, Part, Ruled}
-use Rattle.fs_nlri.specs.Rule.{AreNormal, IsNormalAt, IsRule, destination_body, destination_in, destination_of, destination_prefix, shown}
-use Rattle.fs_nlri.proofs.Destination.{destination_first, destination_shown}
-use Rattle.fs_order.specs.Laws.{destination_cmp}
-use Rattle.fs_validate.specs.declared.route.FlowRoute.{FlowRoute}
-use Rattle.fs_flows.specs.Changes.{AdmitsElsewhere, Covers, Noted, StaysNoted, is_noted, is_to, touched_by}
-use Rattle.fs_flows.specs.Table.{Held}
 use Rattle.fs_flows.specs.declared.noted.Change.{Change}
 use Rattle.fs_flows.proofs.Apart.{to_cmp, to_shown}
 

@@ -1,22 +1,5 @@
 -- What the groups of a family tell, and that the admitted rules with one destination are those of its group.
-use Rattle.std.proofs.Common.{◌≡◌, refl, sym, ap, ap₂, ◌∙◌, subst, Bool, true, false, cond, List, [], ◌∷◌, ◌++◌, filter, Option, Some, None, Ordering, Less, Equal, Greater, is_eq, ℕ, length, ◌≤◌, ◌<◌, ◌^◌, arith}
-use Rattle.std.proofs.lemmas.List.{append-nil}
-use Rattle.std.specs.List.{AllByRecursion}
-use Rattle.std.specs.BTreeMap.{is_at}
-use Rattle.std.specs.Map.{keys_of, lookup}
-use Rattle.std.specs.Option.{unwrap_or}
-use Rattle.std.specs.Ordering.{ordering_reverse}
-use Rattle.std.proofs.lemmas.Map.Keys.{sorted_head, sorted_tail}
-use Rattle.fs_base.specs.declared.prefix.Family.{Family}
-use Rattle.fs_base.specs.declared.prefix.Prefix.{Prefix}
-use Rattle.fs_base.specs.Prefix.{prefix_cmp, prefix_total}
-use Rattle.fs_base.proofs.Lists.{each_both, filter_all, filter_none, filter-append, each_filtered}
-use Rattle.fs_flows.specs.Kept.{Kept}
-use Rattle.fs_flows.specs.Changes.{is_to}
-use Rattle.fs_flows.specs.Group.{AreSorted, chosen, is_chosen, routes_of}
-use Rattle.fs_flows.specs.Groups.{Entry, kept_in, IsTo, ArePlaced, AreInOrder, IsGrouped, IsSound}
-use Rattle.fs_flows.specs.Lending.{AreLent, chosen_in, group_at}
-use Rattle.fs_flows.specs.Table.{admitted}
+use Rattle.fs_flows.proofs.Words.{◌≡◌, refl, sym, ap, ap₂, ◌∙◌, subst, Bool, true, false, cond, List, [], ◌∷◌, ◌++◌, filter, Option, Some, None, Ordering, Less, Equal, Greater, is_eq, ℕ, length, ◌≤◌, ◌<◌, ◌^◌, arith, append-nil, AllByRecursion, is_at, keys_of, lookup, unwrap_or, ordering_reverse, sorted_head, sorted_tail, Family, Prefix, prefix_cmp, prefix_total, each_both, filter_all, filter_none, filter-append, each_filtered, Kept, is_to, AreSorted, chosen, is_chosen, routes_of, Entry, kept_in, IsTo, ArePlaced, AreInOrder, IsGrouped, IsSound, AreLent, chosen_in, group_at, admitted}
 use Rattle.fs_flows.proofs.Apart.{each_front, each_back, to_cmp}
 use Rattle.fs_flows.proofs.Noting.{is_to_by}
 use Rattle.fs_flows.proofs.Grouping.{chosen_now}

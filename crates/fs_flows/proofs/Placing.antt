@@ -1,17 +1,5 @@
 -- A route in its place in the order.
-use Rattle.std.proofs.Common.{ℕ, zero, suc, ◌≡◌, ◌+◌, ◌<◌, refl, sym, ap, ◌∙◌, Bool, true, false, true≢false, not, ◌||◌, cond, List, [], ◌∷◌, ◌++◌, length, insert, remove, set, get_or, slice_get, Ordering, Less, Equal, Greater, is_eq, nat_cmp, filter, arith, zero-add}
-use Rattle.std.specs.Ordering.{match_ordering, ordering_then}
-use Rattle.fs_nlri.specs.Parts.{Ruled}
-use Rattle.fs_flows.specs.Kept.{Kept}
-use Rattle.fs_flows.specs.Table.{key_cmp, is_key, related_count}
-use Rattle.fs_flows.specs.Group.{put_kept, place_in, has_key_at, AreSorted, routes_of, is_other_key}
-use Rattle.fs_base.specs.declared.prefix.Prefix.{Prefix}
-use Rattle.std.proofs.lemmas.List.{get_or_default}
-use Rattle.std.specs.List.{list_any, AllByRecursion}
-use Rattle.std.specs.Cmp.{IsTotalOrder, on_total, then_total, nat_cmp_total}
-use Rattle.fs_base.proofs.Lists.{each_weaker, each_none, each_of_map, none_each}
-use Rattle.fs_order.specs.Comparison.{rule_cmp}
-use Rattle.fs_order.specs.Ranked.{rule_total}
+use Rattle.fs_flows.proofs.Words.{ℕ, zero, suc, ◌≡◌, ◌+◌, ◌<◌, refl, sym, ap, ◌∙◌, Bool, true, false, true≢false, not, ◌||◌, cond, List, [], ◌∷◌, ◌++◌, length, insert, remove, set, get_or, slice_get, Ordering, Less, Equal, Greater, is_eq, nat_cmp, filter, arith, zero-add, match_ordering, ordering_then, Ruled, Kept, key_cmp, is_key, related_count, put_kept, place_in, has_key_at, AreSorted, routes_of, is_other_key, Prefix, get_or_default, list_any, AllByRecursion, IsTotalOrder, on_total, then_total, nat_cmp_total, each_weaker, each_none, each_of_map, none_each, rule_cmp, rule_total}
 use Rattle.fs_flows.proofs.Changed.{all_stay}
 
 -- over the element at the place, where it has the key

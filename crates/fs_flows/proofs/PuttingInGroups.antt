@@ -1,21 +1,5 @@
 -- A route put into the group of its destination stands in its place among all.
-use Rattle.std.proofs.Common.{suc, ◌≡◌, ◌+◌, ◌≤◌, refl, sym, ap, subst, ◌∙◌, Bool, true, false, cond, List, [], ◌∷◌, ◌++◌, length, Option, Some, None, Ordering, Less, Equal, Greater, is_eq, arith}
-use Rattle.std.specs.List.{AllByRecursion}
-use Rattle.std.specs.BTreeMap.{insert_entry, is_at}
-use Rattle.std.specs.Map.{keys_of, lookup, set_value}
-use Rattle.std.specs.Ordering.{match_ordering, ordering_reverse}
-use Rattle.std.proofs.lemmas.Map.Keys.{sorted_head, sorted_tail}
-use Rattle.std.proofs.lemmas.Option.{same_Some}
-use Rattle.fs_base.specs.declared.prefix.Family.{Family}
-use Rattle.fs_base.specs.declared.prefix.Prefix.{Prefix}
-use Rattle.fs_base.specs.Prefix.{prefix_cmp, prefix_total}
-use Rattle.fs_base.proofs.Lists.{each_weaker}
-use Rattle.fs_base.proofs.SamePrefix.{same_from_cmp}
-use Rattle.fs_flows.specs.Kept.{Kept}
-use Rattle.fs_flows.specs.Table.{key_cmp}
-use Rattle.fs_flows.specs.Group.{put_kept, AreSorted, routes_of}
-use Rattle.fs_flows.specs.Groups.{Entry, kept_in, IsTo, ArePlaced, AreInOrder, IsSound, put_entry, HasSortedGroups}
-use Rattle.fs_flows.specs.Blocks.{RuleBefore}
+use Rattle.fs_flows.proofs.Words.{suc, ◌≡◌, ◌+◌, ◌≤◌, refl, sym, ap, subst, ◌∙◌, Bool, true, false, cond, List, [], ◌∷◌, ◌++◌, length, Option, Some, None, Ordering, Less, Equal, Greater, is_eq, arith, AllByRecursion, insert_entry, is_at, keys_of, lookup, set_value, match_ordering, ordering_reverse, sorted_head, sorted_tail, same_Some, Family, Prefix, prefix_cmp, prefix_total, each_weaker, same_from_cmp, Kept, key_cmp, put_kept, AreSorted, routes_of, Entry, kept_in, IsTo, ArePlaced, AreInOrder, IsSound, put_entry, HasSortedGroups, RuleBefore}
 use Rattle.fs_flows.proofs.Apart.{key_less, key_greater, each_front, each_back, behind_each, before_behind, to_cmp, earlier}
 use Rattle.fs_flows.proofs.Changed.{each-put}
 

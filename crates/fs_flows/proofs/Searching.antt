@@ -1,26 +1,9 @@
 -- The walk over the keys that are related to a prefix: first those under it, one after the other, and behind them those
 -- that cover it.
-use Rattle.std.proofs.Common.{ℕ, ◌≡◌, ◌+◌, ◌<◌, ◌≤◌, ◌⊎◌, inl, inr, refl, sym, ap, subst, ◌∙◌, Bool, true, false, true≢false, ◌&&◌, ◌||◌, cond, List, [], ◌∷◌, Option, Some, None, Ordering, Less, Equal, Greater, is_eq, is_lt, is_le, arith}
-use Rattle.std.specs.List.{list_any, AllByRecursion}
-use Rattle.std.specs.BTreeMap.{is_at}
-use Rattle.std.specs.BTreeMap.Range.{range_contains, entries_between}
-use Rattle.std.specs.declared.ops.Bound.TheVariants.{Included, Excluded, Unbounded}
-use Rattle.std.specs.Map.{keys_of}
-use Rattle.std.specs.Option.{MatchOption}
-use Rattle.std.specs.Ordering.{ordering_reverse}
-use Rattle.std.specs.Cmp.{tied_itself}
+use Rattle.std.proofs.Common.{is_lt}
+use Rattle.fs_flows.proofs.Words.{ℕ, ◌≡◌, ◌+◌, ◌<◌, ◌≤◌, ◌⊎◌, inl, inr, refl, sym, ap, subst, ◌∙◌, Bool, true, false, true≢false, ◌&&◌, ◌||◌, cond, List, [], ◌∷◌, Option, Some, None, Ordering, Less, Equal, Greater, is_eq, is_le, arith, list_any, AllByRecursion, is_at, range_contains, entries_between, Included, Excluded, Unbounded, keys_of, MatchOption, ordering_reverse, tied_itself, and_both, and_first, and_second, false_from, or_either, or_first, or_second, same_tests, and_true, Prefix, covers, prefix_cmp, prefix_total, covers_fact, covered_before, between_covered, same_family, covers_self, alike_covers, covers_same_length, same_from_cmp, each, each_weaker, filter_first, filter_empty, IsLeast, is_related, Entry, AreInOrder, AreNoShorter, is_before, IsNextAfter, IsNextRelated}
 use Rattle.fs_unicast.proofs.Fronts.{upto_upto}
-use Rattle.fs_base.proofs.Bools.{and_both, and_first, and_second, false_from, or_either, or_first, or_second, same_tests, and_true}
-use Rattle.fs_base.specs.declared.prefix.Prefix.{Prefix}
-use Rattle.fs_base.specs.Prefix.{covers, prefix_cmp, prefix_total}
 use Rattle.fs_base.specs.Search.{IsFirst, IsFirstFrom}
-use Rattle.fs_base.proofs.Covers.{covers_fact, covered_before, between_covered, same_family}
-use Rattle.fs_base.proofs.Nesting.{covers_self, alike_covers, covers_same_length}
-use Rattle.fs_base.proofs.SamePrefix.{same_from_cmp}
-use Rattle.fs_base.proofs.Lists.{each, each_weaker, filter_first, filter_empty, IsLeast}
-use Rattle.fs_validate.specs.Laws.{is_related}
-use Rattle.fs_flows.specs.Groups.{Entry, AreInOrder, AreNoShorter}
-use Rattle.fs_flows.specs.Search.{is_before, IsNextAfter, IsNextRelated}
 use Rattle.fs_flows.proofs.Mending.{Same}
 
 -- The order of prefixes by its tests.

@@ -1,27 +1,8 @@
 -- What is left of the groups where routes are taken away.
-use Rattle.std.proofs.Common.{ℕ, suc, ◌≡◌, ◌≤◌, refl, sym, ap, ap₂, subst, ◌∙◌, Bool, true, false, true≢false, not, ◌==◌, cond, List, [], ◌∷◌, ◌++◌, filter, length, Option, Some, None, Less, is_eq, arith}
-use Rattle.std.specs.List.{list_any, AllByRecursion}
-use Rattle.std.specs.List.Sorted.{IsStrictlySortedBy}
-use Rattle.std.specs.BTreeMap.{is_at}
-use Rattle.std.specs.Map.{keys_of, lookup, set_value, remove_entry}
+use Rattle.fs_flows.proofs.Words.{ℕ, suc, ◌≡◌, ◌≤◌, refl, sym, ap, ap₂, subst, ◌∙◌, Bool, true, false, true≢false, not, ◌==◌, cond, List, [], ◌∷◌, ◌++◌, filter, length, Option, Some, None, Less, is_eq, arith, list_any, AllByRecursion, IsStrictlySortedBy, is_at, keys_of, lookup, set_value, remove_entry, MatchOption, eqb-true, none-some, same_Some, sorted_head, sorted_tail, Prefix, prefix_cmp, prefix_total, tied_itself, each_weaker, each_both, each_append, filter-append, each_none, each_filtered, same_from_cmp, Ruled, IsRule, destination_prefix, Kept, is_key, Entry, kept_in, IsTo, ArePlaced, AreInOrder, with_group, keep_at, keep_each, HaveRules}
 use Rattle.std.specs.Map.Calls.{RetainsPairs}
-use Rattle.std.specs.Option.{MatchOption}
-use Rattle.std.proofs.lemmas.Bool.{eqb-true}
-use Rattle.std.proofs.lemmas.Option.{none-some, same_Some}
-use Rattle.std.proofs.lemmas.Map.Keys.{sorted_head, sorted_tail}
-use Rattle.fs_base.specs.declared.prefix.Prefix.{Prefix}
-use Rattle.fs_base.specs.Prefix.{prefix_cmp, prefix_total}
-use Rattle.std.specs.Cmp.{tied_itself}
-use Rattle.fs_base.proofs.Lists.{each_weaker, each_both, each_append, filter-append, each_none, each_filtered}
-use Rattle.fs_base.proofs.SamePrefix.{same_from_cmp}
-use Rattle.fs_nlri.specs.Parts.{Ruled}
-use Rattle.fs_nlri.specs.Rule.{IsRule, destination_prefix}
-use Rattle.fs_flows.specs.Kept.{Kept}
-use Rattle.fs_flows.specs.Table.{is_key}
-use Rattle.fs_flows.specs.Groups.{Entry, kept_in, IsTo, ArePlaced, AreInOrder, with_group, keep_at, keep_each}
 use Rattle.fs_flows.proofs.Apart.{key_same, each_front, each_back}
 use Rattle.fs_flows.proofs.Changed.{all_stay, any_back, any_front, left_back, left_front}
-use Rattle.fs_flows.specs.Group.{HaveRules}
 
 -- told the other way round
 pub turned : (b c : Bool) → not b ≡ c → b ≡ not c

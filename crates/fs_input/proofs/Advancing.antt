@@ -1,14 +1,5 @@
 -- Calls that read the next part of an input.
-use Rattle.std.proofs.Common.{◌≡◌, inr, ℕ, List, [], Bool, true, Option, Result, Ok, Err, IsTrue, ◌<◌, ◌≤◌, ◌≢◌, ◌+◌, ◌-◌, length, refl, ap, sym, ◌∙◌, subst, arith}
-use Rattle.fs_base.specs.Parts.{at_limit, window, with_part}
-use Rattle.fs_base.specs.declared.counted.Counted.{Counted}
-use Rattle.fs_input.specs.NextRecord.{Advances}
-use Rattle.fs_input.specs.Records.{End, bad, done, limited}
-use Rattle.fs_input.specs.declared.fault.Fault.{Fault}
-use Rattle.fs_input.specs.declared.fault.Fault.TheVariants.{Read, Limit, Bad}
-use Rattle.fs_input.specs.Coming.{Chain, Takes, part_in, parts_to_come}
-use Rattle.fs_input.specs.Reads.{Calls, Fails, HasMore, IsOver, Reads, Starts, end_of, ends_by, whole}
-use Rattle.fs_input.specs.Scan.{Scanner, and, field}
+use Rattle.fs_input.proofs.Words.{◌≡◌, inr, ℕ, List, [], Bool, true, Option, Result, Ok, Err, IsTrue, ◌<◌, ◌≤◌, ◌≢◌, ◌+◌, ◌-◌, length, refl, ap, sym, ◌∙◌, subst, arith, at_limit, window, with_part, Counted, Advances, End, bad, done, limited, Fault, Read, Limit, Bad, Chain, Takes, part_in, parts_to_come, Calls, Fails, HasMore, IsOver, Reads, Starts, end_of, ends_by, whole, Scanner, and, field}
 use Rattle.fs_input.proofs.Coming.{done_comes, end_comes, field_takes, part_comes}
 use Rattle.fs_input.proofs.Joining.{fails_first}
 use Rattle.fs_input.proofs.Lifting.{reads_as, reads_then, starts_reads}

@@ -1,10 +1,6 @@
+use Rattle.fs_input.proofs.Words.{◌≡◌, ℕ, List, [], Bool, true, false, Ok, Err, None, ◌<◌, ◌+◌, ◌==◌, ◌&&◌, not, arith, if◌then◌else◌, nat_tests, Advances, short_answer, short_fault, End, done, limited, bad, ends_short, Limit, Bad}
+
 -- What an input answers where its octets end before a record is whole.
-use Rattle.std.proofs.Common.{◌≡◌, ℕ, List, [], Bool, true, false, Ok, Err, None, ◌<◌, ◌+◌, ◌==◌, ◌&&◌, not, arith}
-use Rattle.std.specs.Prelude.{if◌then◌else◌}
-use Rattle.std.proofs.lemmas.Bool.Decides.{nat_tests}
-use Rattle.fs_input.specs.NextRecord.{Advances, short_answer, short_fault}
-use Rattle.fs_input.specs.Records.{End, done, limited, bad, ends_short}
-use Rattle.fs_input.specs.declared.fault.Fault.TheVariants.{Limit, Bad}
 
 by_short : {T B R : Type 0} (cut : R) (before : List B × End R) (behind : T → List B × End R) (limit none : Bool) (place count : ℕ)
     → before ≡ ([], (if limit then limited else if none then done else bad cut (place + count)))

@@ -1,16 +1,7 @@
 -- The first octets of a part, of which some were put back.
-use Rattle.std.proofs.Common.{◌≡◌, ◌≢◌, ℕ, List, [], ◌++◌, Bool, true, false, Result, ◌<◌, ◌≤◌, ◌+◌, ◌==◌, ◌&&◌, not, length, refl, ap, sym, ◌∙◌, subst, arith}
-use Rattle.std.specs.Prelude.{Option, if◌then◌else◌}
-use Rattle.std.proofs.lemmas.Bool.Decides.{nat_tests}
+use Rattle.fs_input.proofs.Words.{◌≡◌, ◌≢◌, ℕ, List, [], ◌++◌, Bool, true, false, Result, ◌<◌, ◌≤◌, ◌+◌, ◌==◌, ◌&&◌, not, length, refl, ap, sym, ◌∙◌, subst, arith, if◌then◌else◌, nat_tests, Fills, window, Counted, draws_ahead, short_fault, Fault, Calls, Fails, HasMore, IsOver, Passes, PassesOn, Reads, Took, ahead, ends_by, whole, Scanner, field}
+use Rattle.std.specs.Prelude.{Option}
 use Rattle.fs_base.specs.Draws.{Draws, Passed}
-use Rattle.fs_base.specs.Filling.{Fills}
-use Rattle.fs_base.specs.Parts.{window}
-use Rattle.fs_base.specs.declared.counted.Counted.{Counted}
-use Rattle.fs_base.proofs.Drawing.{draws_ahead}
-use Rattle.fs_input.specs.NextRecord.{short_fault}
-use Rattle.fs_input.specs.declared.fault.Fault.{Fault}
-use Rattle.fs_input.specs.Reads.{Calls, Fails, HasMore, IsOver, Passes, PassesOn, Reads, Took, ahead, ends_by, whole}
-use Rattle.fs_input.specs.Scan.{Scanner, field}
 use Rattle.fs_input.proofs.CutShort.{field_fails, more_is, over_is}
 use Rattle.fs_input.proofs.Taking.{field_took}
 

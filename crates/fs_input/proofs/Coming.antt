@@ -1,15 +1,6 @@
 -- The parts of an input, read one by one.
-use Rattle.std.proofs.Common.{◌≡◌, ◌⊎◌, inl, inr, ℕ, List, [], Some, None, Bool, true, false, ◌<◌, ◌≤◌, ◌+◌, ◌==◌, ◌&&◌, not, length, take, drop, refl, ap, sym, ◌∙◌, arith}
-use Rattle.std.specs.Prelude.{if◌then◌else◌, nat_le, unwrap_or}
-use Rattle.std.proofs.lemmas.List.{length-drop}
-use Rattle.std.proofs.lemmas.Bool.Decides.{nat_tests}
-use Rattle.fs_base.specs.Parts.{at_limit, window, with_part}
-use Rattle.fs_input.specs.Parts.{At, Shrinks, at, judged, to_come}
-use Rattle.fs_input.specs.Records.{End, done}
+use Rattle.fs_input.proofs.Words.{◌≡◌, ◌⊎◌, inl, inr, ℕ, List, [], Some, None, Bool, true, false, ◌<◌, ◌≤◌, ◌+◌, ◌==◌, ◌&&◌, not, length, take, drop, refl, ap, sym, ◌∙◌, arith, if◌then◌else◌, nat_le, unwrap_or, length-drop, nat_tests, at_limit, window, with_part, At, Shrinks, at, judged, to_come, End, done, Chain, Placed, Takes, first_part, part_of, parts_to_come, placed, stop, Took, end_of, ends_by, Scan, behind, field, got, partial, wrong}
 use Rattle.fs_input.proofs.PartsOfRecords.{to_come_end, to_come_step}
-use Rattle.fs_input.specs.Coming.{Chain, Placed, Takes, first_part, part_of, parts_to_come, placed, stop}
-use Rattle.fs_input.specs.Reads.{Took, end_of, ends_by}
-use Rattle.fs_input.specs.Scan.{Scan, behind, field, got, partial, wrong}
 
 -- how many octets the parts of a chain take
 

@@ -1,15 +1,6 @@
+use Rattle.fs_input.proofs.Words.{◌≡◌, ◌≢◌, ℕ, List, Bool, true, false, Some, ◌≤◌, ◌<◌, ◌+◌, ◌-◌, ◌==◌, ◌&&◌, not, min, inl, inr, length, refl, ap, sym, ◌∙◌, subst, arith, if◌then◌else◌, nat_le, length-take, nat_tests, Fills, at_limit, window, short_fault, bad, limited, Bad, Limit, Read, Scanner, field, partial, Fails, HasMore, IsOver, end_of, ends_by, whole}
+
 -- What an input answers where its octets end before a field is whole.
-use Rattle.std.proofs.Common.{◌≡◌, ◌≢◌, ℕ, List, Bool, true, false, Some, ◌≤◌, ◌<◌, ◌+◌, ◌-◌, ◌==◌, ◌&&◌, not, min, inl, inr, length, refl, ap, sym, ◌∙◌, subst, arith}
-use Rattle.std.specs.Prelude.{if◌then◌else◌, nat_le}
-use Rattle.std.proofs.lemmas.List.{length-take}
-use Rattle.std.proofs.lemmas.Bool.Decides.{nat_tests}
-use Rattle.fs_base.specs.Filling.{Fills}
-use Rattle.fs_base.specs.Parts.{at_limit, window}
-use Rattle.fs_input.specs.NextRecord.{short_fault}
-use Rattle.fs_input.specs.Records.{bad, limited}
-use Rattle.fs_input.specs.declared.fault.Fault.TheVariants.{Bad, Limit, Read}
-use Rattle.fs_input.specs.Scan.{Scanner, field, partial}
-use Rattle.fs_input.specs.Reads.{Fails, HasMore, IsOver, end_of, ends_by, whole}
 
 same_limit : (limit taken taken' count size : ℕ) → taken ≤ limit → count ≡ min (limit - taken) size → taken' ≡ taken + count
     → nat_le (limit - taken) size ≡ (taken' == limit)

@@ -1,15 +1,5 @@
 -- An input of records is done exactly where it is below the limit and is the text of its records.
-use Rattle.std.proofs.Common.{◌≡◌, ℕ, List, [], ◌++◌, Bool, true, false, None, ◌<◌, ◌≤◌, ◌+◌, ◌-◌, ◌==◌, length, take, refl, ap, sym, ◌∙◌, subst, arith, eqb-true, append-nil}
-use Rattle.std.specs.Prelude.{if◌then◌else◌}
-use Rattle.std.proofs.lemmas.Bool.Decides.{nat_tests}
-use Rattle.std.proofs.lemmas.Grind.{common_steps}
-use Rattle.fs_base.specs.Language.{IsOctets}
-use Rattle.fs_base.specs.Parts.{at_limit, window}
-use Rattle.fs_base.proofs.Octets.{take_of_none}
-use Rattle.fs_input.specs.Parts.{AllFrom, ReadsText, SpellsText, at, parts_from, text_from, to_come}
-use Rattle.fs_input.specs.Records.{End, Format, bad, done, end_by, ends_short, first_record, head_at, records_to_come}
-use Rattle.fs_input.specs.declared.head.Head.{Head}
-use Rattle.fs_input.specs.declared.head.Head.TheVariants.{Whole, Wrong, Partial}
+use Rattle.fs_input.proofs.Words.{◌≡◌, ℕ, List, [], ◌++◌, Bool, true, false, None, ◌<◌, ◌≤◌, ◌+◌, ◌-◌, ◌==◌, length, take, refl, ap, sym, ◌∙◌, subst, arith, eqb-true, append-nil, if◌then◌else◌, nat_tests, common_steps, IsOctets, at_limit, window, take_of_none, AllFrom, ReadsText, SpellsText, at, parts_from, text_from, to_come, End, Format, bad, done, end_by, ends_short, first_record, head_at, records_to_come, Head, Whole, Wrong, Partial}
 use Rattle.fs_input.proofs.PartsOfRecords.{parts_read, parts_spelled, state_behind}
 use Rattle.fs_input.proofs.Records.{HasHead, records_shrink}
 

@@ -1,14 +1,6 @@
 -- Chains of fields that have so many octets, whatever they say: what is said of the octets in hand stays said.
-use Rattle.std.proofs.Common.{◌≡◌, ℕ, List, ◌++◌, Bool, true, false, ◌≤◌, ◌<◌, ◌+◌, length, take, drop, refl, ap, sym, ◌∙◌, subst, arith, length-append}
-use Rattle.std.specs.Prelude.{if◌then◌else◌, nat_le, ⊤}
-use Rattle.std.proofs.lemmas.List.{length-drop, length-take, take-append-le}
-use Rattle.std.proofs.lemmas.Grind.{common_steps}
-use Rattle.std.proofs.lemmas.Bool.Decides.{nat_tests}
-use Rattle.fs_base.specs.Filling.{Fills}
-use Rattle.fs_base.specs.Parts.{at_limit, window}
+use Rattle.fs_input.proofs.Words.{◌≡◌, ℕ, List, ◌++◌, Bool, true, false, ◌≤◌, ◌<◌, ◌+◌, length, take, drop, refl, ap, sym, ◌∙◌, subst, arith, length-append, if◌then◌else◌, nat_le, ⊤, length-drop, length-take, take-append-le, common_steps, nat_tests, Fills, at_limit, window, Scan, Scanner, and, and_then, behind, fails, field, gives, got, needs, partial, wrong, Scanned, end_of}
 use Rattle.fs_input.specs.Judging.{scan_of, settled}
-use Rattle.fs_input.specs.Scan.{Scan, Scanner, and, and_then, behind, fails, field, gives, got, needs, partial, wrong}
-use Rattle.fs_input.specs.Reads.{Scanned, end_of}
 use Rattle.fs_input.specs.declared.judging.Judged.{Judged}
 use Rattle.fs_input.specs.declared.judging.Judged.TheVariants.{Whole, Wrong, Partial}
 use Rattle.fs_input.proofs.Coming.{behind_takes}

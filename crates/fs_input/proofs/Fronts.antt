@@ -1,17 +1,6 @@
 -- What stands before the records, filled as far as the octets and the limit reach, says what the input opens.
-use Rattle.std.proofs.Common.{◌≡◌, ℕ, List, [], ◌++◌, Bool, true, false, Result, Ok, Err, subst, ◌≤◌, ◌+◌, ◌-◌, ◌==◌, min, length, take, drop, refl, ap, sym, ◌∙◌, arith}
-use Rattle.std.specs.Prelude.{if◌then◌else◌, nat_le}
-use Rattle.std.proofs.lemmas.List.{drop_all, length-take}
-use Rattle.std.proofs.lemmas.Bool.Decides.{nat_tests}
-use Rattle.fs_base.specs.Filling.{Fills}
-use Rattle.fs_base.specs.Parts.{window}
-use Rattle.fs_base.specs.declared.counted.Counted.{Counted}
+use Rattle.fs_input.proofs.Words.{◌≡◌, ℕ, List, [], ◌++◌, Bool, true, false, Result, Ok, Err, subst, ◌≤◌, ◌+◌, ◌-◌, ◌==◌, min, length, take, drop, refl, ap, sym, ◌∙◌, arith, if◌then◌else◌, nat_le, drop_all, length-take, nat_tests, Fills, window, Counted, Fault, End, limited, bad, Read, Limit, Bad, Head, Whole, Wrong, Partial}
 use Rattle.fs_input.specs.Opening.{IsFrontWithin, Opens, opened_answer, opened_by, opening}
-use Rattle.fs_input.specs.declared.fault.Fault.{Fault}
-use Rattle.fs_input.specs.Records.{End, limited, bad}
-use Rattle.fs_input.specs.declared.fault.Fault.TheVariants.{Read, Limit, Bad}
-use Rattle.fs_input.specs.declared.head.Head.{Head}
-use Rattle.fs_input.specs.declared.head.Head.TheVariants.{Whole, Wrong, Partial}
 use Rattle.fs_input.proofs.Records.{head_filled}
 
 module _ {V R : Type 0} (size : ℕ) (front_of : List ℕ → Head V R) (cut : R) where

@@ -1,14 +1,6 @@
+use Rattle.fs_input.proofs.Words.{◌≡◌, ℕ, List, Bool, true, false, Some, ◌≤◌, ◌+◌, ◌-◌, length, drop, refl, ap, sym, ◌∙◌, arith, if◌then◌else◌, length-drop, length-take, at_limit, window, limit_behind, window_behind, End, bad, limited, Fault, Read, Limit, Bad, Scan, Scanner, and, and_then, behind, fails, got, needs, partial, wrong, Fails, Took, end_of}
+
 -- A chain of fields that is read one by one: what the first gives and what the next gives join.
-use Rattle.std.proofs.Common.{◌≡◌, ℕ, List, Bool, true, false, Some, ◌≤◌, ◌+◌, ◌-◌, length, drop, refl, ap, sym, ◌∙◌, arith}
-use Rattle.std.specs.Prelude.{if◌then◌else◌}
-use Rattle.std.proofs.lemmas.List.{length-drop, length-take}
-use Rattle.fs_base.specs.Parts.{at_limit, window}
-use Rattle.fs_base.proofs.Parts.{limit_behind, window_behind}
-use Rattle.fs_input.specs.Records.{End, bad, limited}
-use Rattle.fs_input.specs.declared.fault.Fault.{Fault}
-use Rattle.fs_input.specs.declared.fault.Fault.TheVariants.{Read, Limit, Bad}
-use Rattle.fs_input.specs.Scan.{Scan, Scanner, and, and_then, behind, fails, got, needs, partial, wrong}
-use Rattle.fs_input.specs.Reads.{Fails, Took, end_of}
 
 -- what is judged behind so many octets
 pub record IsBehind (limit taken taken' n : ℕ) (left left' : List ℕ) : Type 0 where

@@ -1,3 +1,4 @@
+mod Words
 pub mod PartsOfRecords
 pub mod Records
 pub mod AdvancingRecords

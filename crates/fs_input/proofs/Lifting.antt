@@ -1,14 +1,6 @@
 -- Calls that read fields one behind the other read the chain.
-use Rattle.std.proofs.Common.{◌≡◌, ℕ, List, Bool, true, Option, Result, Ok, Err, length, refl, ap, sym, subst, arith}
-use Rattle.fs_base.specs.Outside.{Rose}
-use Rattle.fs_base.specs.Parts.{at_limit, window}
-use Rattle.fs_base.specs.declared.counted.Counted.{Counted}
-use Rattle.fs_input.specs.declared.fault.Fault.{Fault}
-use Rattle.fs_input.specs.declared.fault.Fault.TheVariants.{Read, Bad}
-use Rattle.fs_input.specs.Scan.{Scanner, and, fails, field, gives}
-use Rattle.fs_input.specs.Reads.{Calls, Fails, Reads, Scanned, Starts, Took, end_of, whole}
+use Rattle.fs_input.proofs.Words.{◌≡◌, ℕ, List, Bool, true, Option, Result, Ok, Err, length, refl, ap, sym, subst, arith, Rose, at_limit, window, Counted, Fault, Read, Bad, Scanner, and, fails, field, gives, Calls, Fails, Reads, Scanned, Starts, Took, end_of, whole, passes_none}
 use Rattle.fs_input.proofs.Joining.{fails_first}
-use Rattle.fs_base.proofs.Passing.{passes_none}
 use Rattle.fs_input.proofs.Stages.{going_more, going_start, going_then}
 
 -- where the first field was read, and then the next

@@ -1,12 +1,6 @@
 -- Laws of the parts that a reader reads.
-use Rattle.std.proofs.Common.{◌≡◌, ℕ, Bool, List, [], ◌∷◌, ◌++◌, Some, None, ◌≤◌, ◌+◌, ◌-◌, length, take, drop, refl, ap, sym, ◌∙◌, arith, append_assoc, length-drop, subst}
-use Rattle.std.specs.Prelude.{nat_le}
-use Rattle.std.proofs.lemmas.List.{length-take}
-use Rattle.fs_base.specs.Language.{IsOctets}
-use Rattle.fs_base.specs.Parts.{at_limit, window, with_part}
-use Rattle.fs_base.proofs.Octets.{octets_right}
-use Rattle.fs_base.proofs.Parts.{all_end, all_parts, all_step, limit_behind, window_behind}
-use Rattle.fs_input.specs.Parts.{AllFrom, At, Fitting, ReadsText, Reader, Shrinks, SpellsText, at, judged, octets_before, parts_from, text_from, to_come}
+use Rattle.std.proofs.Common.{length-drop}
+use Rattle.fs_input.proofs.Words.{◌≡◌, ℕ, Bool, List, [], ◌∷◌, ◌++◌, Some, None, ◌≤◌, ◌+◌, ◌-◌, length, take, drop, refl, ap, sym, ◌∙◌, arith, append_assoc, subst, nat_le, length-take, IsOctets, at_limit, window, with_part, octets_right, all_end, all_parts, all_step, limit_behind, window_behind, AllFrom, At, Fitting, ReadsText, Reader, Shrinks, SpellsText, at, judged, octets_before, parts_from, text_from, to_come}
 
 -- where no part stands there are none, and the reader stays
 pub parts_end : {S A : Type 0} (next : Reader S A) (now : At S) → next now ≡ None → parts_from next now ≡ ([], now)

@@ -1,15 +1,6 @@
 -- Reading the records of an input one by one: the head is filled, and then the payload.
-use Rattle.std.proofs.Common.{◌≡◌, ℕ, List, [], Some, None, Bool, true, false, ◌<◌, ◌≤◌, ◌+◌, ◌==◌, min, length, take, drop, refl, ap, sym, ◌∙◌, arith}
-use Rattle.std.specs.Prelude.{nat_le, if◌then◌else◌}
-use Rattle.std.proofs.lemmas.List.{drop-drop, length-drop}
-use Rattle.std.proofs.lemmas.Bool.Decides.{nat_tests}
-use Rattle.std.proofs.lemmas.Grind.{common_steps}
-use Rattle.fs_base.specs.Filling.{Fills}
-use Rattle.fs_base.specs.Parts.{window, with_part}
-use Rattle.fs_input.specs.Parts.{At, Shrinks, at}
-use Rattle.fs_input.specs.Records.{Format, bad, ends_short, first_record, head_at, record_in, records_to_come, stop}
-use Rattle.fs_input.specs.declared.head.Head.{Head}
-use Rattle.fs_input.specs.declared.head.Head.TheVariants.{Whole, Wrong, Partial}
+use Rattle.fs_input.proofs.Words.{◌≡◌, ℕ, List, [], Some, None, Bool, true, false, ◌<◌, ◌≤◌, ◌+◌, ◌==◌, min, length, take, drop, refl, ap, sym, ◌∙◌, arith, nat_le, if◌then◌else◌, drop-drop, length-drop, nat_tests, common_steps, Fills, window, with_part, At, Shrinks, at, Format, bad, ends_short, first_record, head_at, record_in, records_to_come, Head, Whole, Wrong, Partial}
+use Rattle.fs_input.specs.Records.{stop}
 use Rattle.fs_input.proofs.CutShort.{limit_is}
 use Rattle.fs_input.proofs.Joining.{IsBehind, behind_took}
 use Rattle.fs_input.proofs.PartsOfRecords.{to_come_end, to_come_step}

@@ -1,12 +1,6 @@
 -- Chains of fields and the octets that they take: what a chain gives is spelled by these octets, and octets that spell a
 -- value give it.
-use Rattle.std.proofs.Common.{◌≡◌, ℕ, List, [], ◌++◌, Bool, true, false, ◌≤◌, ◌+◌, ◌-◌, length, take, drop, refl, ap, sym, subst, ◌∙◌, arith, append-nil, append_assoc, length-append}
-use Rattle.std.specs.Prelude.{if◌then◌else◌, nat_le}
-use Rattle.std.proofs.lemmas.List.{drop-take, drop_at, length-drop, length-take, take-append-drop, take_at}
-use Rattle.std.proofs.lemmas.Bool.Decides.{nat_tests}
-use Rattle.fs_base.proofs.Octets.{take_longer}
-use Rattle.fs_input.specs.Reads.{whole}
-use Rattle.fs_input.specs.Scan.{Scan, Scanner, and, and_then, behind, fails, field, gives, got, needs, partial, skips, wrong}
+use Rattle.fs_input.proofs.Words.{◌≡◌, ℕ, List, [], ◌++◌, Bool, true, false, ◌≤◌, ◌+◌, ◌-◌, length, take, drop, refl, ap, sym, subst, ◌∙◌, arith, append-nil, append_assoc, length-append, if◌then◌else◌, nat_le, drop-take, drop_at, length-drop, length-take, take-append-drop, take_at, nat_tests, take_longer, whole, Scan, Scanner, and, and_then, behind, fails, field, gives, got, needs, partial, skips, wrong}
 use Rattle.fs_input.proofs.Coming.{behind_takes}
 
 -- what is so of each value that a chain gives, and of the octets that it took

@@ -1,17 +1,6 @@
 -- Chains of fields that are read one by one: what of a chain is still to be read, behind the fields that were.
-use Rattle.std.proofs.Common.{◌≡◌, ℕ, List, Bool, Option, Result, Ok, Err, IsTrue, ◌≤◌, ◌+◌, length, drop, refl, ap, sym, ◌∙◌, subst, arith}
-use Rattle.std.proofs.lemmas.List.{drop-drop}
-use Rattle.fs_base.specs.Parts.{at_limit, window}
-use Rattle.fs_base.specs.declared.counted.Counted.{Counted}
-use Rattle.std.specs.Prelude.{IfErr}
-use Rattle.fs_base.specs.Outside.{Rose}
-use Rattle.fs_input.specs.declared.fault.Fault.{Fault}
-use Rattle.fs_input.specs.declared.fault.Fault.TheVariants.{Read}
-use Rattle.fs_input.specs.Scan.{Scan, Scanner, and, behind, got, partial, wrong}
-use Rattle.fs_input.specs.Reads.{Calls, Fails, PassesOn, Reads, Scanned, Took, end_of, ends_by}
+use Rattle.fs_input.proofs.Words.{◌≡◌, ℕ, List, Bool, Option, Result, Ok, Err, IsTrue, ◌≤◌, ◌+◌, length, drop, refl, ap, sym, ◌∙◌, subst, arith, drop-drop, at_limit, window, Counted, IfErr, Rose, Fault, Read, Scan, Scanner, and, behind, got, partial, wrong, Calls, Fails, PassesOn, Reads, Scanned, Took, end_of, ends_by, rose_earlier, passes_none, passes_then}
 use Rattle.fs_input.proofs.Joining.{behind_took, chain_is, end_behind}
-use Rattle.fs_base.proofs.Drawing.{rose_earlier}
-use Rattle.fs_base.proofs.Passing.{passes_none, passes_then}
 
 -- so many octets of the chain were taken, and this rest of it is to be read
 pub record Stage {A R : Type 0} (chain rest : Scanner A R) (limit taken taken' : ℕ) (left left' : List ℕ) : Type 0 where

@@ -1,12 +1,6 @@
+use Rattle.fs_input.proofs.Words.{◌≡◌, ℕ, List, true, ◌≤◌, ◌+◌, min, length, take, drop, ap, sym, ◌∙◌, arith, nat_le, take_all, nat_tests, Fills, window, Scan, field, got, Took}
+
 -- A field whose octets were all filled.
-use Rattle.std.proofs.Common.{◌≡◌, ℕ, List, true, ◌≤◌, ◌+◌, min, length, take, drop, ap, sym, ◌∙◌, arith}
-use Rattle.std.specs.Prelude.{nat_le}
-use Rattle.std.proofs.lemmas.List.{take_all}
-use Rattle.std.proofs.lemmas.Bool.Decides.{nat_tests}
-use Rattle.fs_base.specs.Filling.{Fills}
-use Rattle.fs_base.specs.Parts.{window}
-use Rattle.fs_input.specs.Scan.{Scan, field, got}
-use Rattle.fs_input.specs.Reads.{Took}
 
 pub field_took : {R : Type 0} (limit taken taken' : ℕ) (left left' into : List ℕ) (count : ℕ)
     → Fills (window limit taken left) left left' into count → length into ≤ count → taken' ≡ taken + count

@@ -1,14 +1,5 @@
 -- An input of parts is done exactly where it is the text of written parts and lies below the limit.
-use Rattle.std.proofs.Common.{◌≡◌, ◌≢◌, ◌⊎◌, inl, inr, Option, ℕ, suc, zero, List, [], ◌∷◌, ◌++◌, Some, Bool, true, false, ◌<◌, ◌≤◌, ◌+◌, ◌-◌, length, take, drop, refl, ap, sym, subst, ◌∙◌, ◌↔◌, arith, length-append}
-use Rattle.std.specs.Prelude.{flat_map}
-use Rattle.std.proofs.lemmas.List.{drop_at, length-drop, length-take, take-append-drop, take-take}
-use Rattle.std.proofs.lemmas.Bool.Decides.{nat_tests}
-use Rattle.fs_base.specs.Parts.{at_limit, window, with_part}
-use Rattle.fs_input.specs.Parts.{AllFrom}
-use Rattle.fs_input.specs.Records.{End, bad, done, limited}
-use Rattle.fs_input.specs.Coming.{Chain, IsTextOf, Takes, all_given, all_told, only_told, parts_to_come, told_to_come}
-use Rattle.fs_input.specs.Reads.{Took, end_of, ends_by}
-use Rattle.fs_input.specs.Scan.{Scan, got, partial, wrong}
+use Rattle.fs_input.proofs.Words.{◌≡◌, ◌≢◌, ◌⊎◌, inl, inr, Option, ℕ, suc, zero, List, [], ◌∷◌, ◌++◌, Some, Bool, true, false, ◌<◌, ◌≤◌, ◌+◌, ◌-◌, length, take, drop, refl, ap, sym, subst, ◌∙◌, ◌↔◌, arith, length-append, flat_map, drop_at, length-drop, length-take, take-append-drop, take-take, nat_tests, at_limit, window, with_part, AllFrom, End, bad, done, limited, Chain, IsTextOf, Takes, all_given, all_told, only_told, parts_to_come, told_to_come, Took, end_of, ends_by, Scan, got, partial, wrong}
 use Rattle.fs_input.proofs.Coming.{done_comes, end_comes, part_comes}
 use Rattle.fs_input.proofs.Done.{all_taken, below_limit, nothing}
 use Rattle.fs_input.proofs.Spelling.{Reads, Spells}

@@ -1,14 +1,5 @@
 -- What is printed of actions that discard and say no more.
-use Rattle.std.proofs.Common.{◌≡◌, ℕ, ◌==◌, Bool, true, false, List, [], ◌∷◌, ◌++◌, length, get_or, Option, Some, None, refl, sym, ◌∙◌, ap, subst, arith, append-nil, append_assoc, IsTrue, not, true≢false, ◌<◌, ◌||◌}
-use Rattle.std.specs.Prelude.{codes, decimal, if◌then◌else◌}
-use Rattle.std.specs.List.{AllByRecursion, list_any}
-use Rattle.std.specs.Option.{option_map_or}
-use Rattle.std.proofs.lemmas.Grind.{common_steps}
-use Rattle.fs_actions.specs.Actions.{first_of}
-use Rattle.fs_actions.specs.Community.{has_flag, is_discard, limit_of, mark_of, redirect_of}
-use Rattle.fs_line.specs.declared.walked.Walked.{Walked}
-use Rattle.fs_line.specs.Line.{SaysDiscard, discarded_line, effects_text, line_of, mark_text, rates_text, redirect_text, sample_text, verdict_text}
-use Rattle.fs_line.specs.Walked.{entries}
+use Rattle.fs_line.proofs.Words.{◌≡◌, ℕ, ◌==◌, Bool, true, false, List, [], ◌∷◌, ◌++◌, length, get_or, Option, Some, None, refl, sym, ◌∙◌, ap, subst, arith, append-nil, append_assoc, IsTrue, not, true≢false, ◌<◌, ◌||◌, codes, decimal, if◌then◌else◌, AllByRecursion, list_any, option_map_or, common_steps, first_of, has_flag, is_discard, limit_of, mark_of, redirect_of, Walked, SaysDiscard, discarded_line, effects_text, line_of, mark_text, rates_text, redirect_text, sample_text, verdict_text, entries}
 use Rattle.fs_line.proofs.Walks.{rates_text-append, rates_text-none}
 
 abbrev pub AllDiscard : List (List ℕ) → Type 0

@@ -1,3 +1,4 @@
+mod Words
 pub mod Discarding
 pub mod Outputs
 pub mod Parts

@@ -1,11 +1,6 @@
+use Rattle.fs_line.proofs.Words.{◌≡◌, ℕ, List, [], ◌++◌, refl, ◌∙◌, ap, append_assoc, codes, decimal, option_map_or, first_of, mark_of, redirect_of, line_of, mark_text, numbers_text, rates_text, redirect_text, sample_text, verdict_text, actions_walked, numbers_walked}
+
 -- The parts of a line, one behind the other.
-use Rattle.std.proofs.Common.{◌≡◌, ℕ, List, [], ◌++◌, refl, ◌∙◌, ap, append_assoc}
-use Rattle.std.specs.Prelude.{codes, decimal}
-use Rattle.std.specs.Option.{option_map_or}
-use Rattle.fs_actions.specs.Actions.{first_of}
-use Rattle.fs_actions.specs.Community.{mark_of, redirect_of}
-use Rattle.fs_line.specs.Line.{line_of, mark_text, numbers_text, rates_text, redirect_text, sample_text, verdict_text}
-use Rattle.fs_line.specs.Walked.{actions_walked, numbers_walked}
 
 -- what some actions say beside the verdict, without their rates
 abbrev pub said_text : List (List ℕ) → List ℕ

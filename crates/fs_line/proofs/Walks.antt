@@ -1,15 +1,8 @@
 -- What the actions of a walk say, rule by rule.
-use Rattle.std.proofs.Common.{◌≡◌, ℕ, ◌+◌, ◌-◌, ◌<◌, ◌≤◌, List, [], ◌∷◌, ◌++◌, length, take, drop, get_or, Option, Some, None, refl, sym, ◌∙◌, ap, arith, append_assoc, add-one, drop-cons}
-use Rattle.std.specs.Prelude.{flat_map, filter_map, codes}
+use Rattle.fs_line.proofs.Words.{◌≡◌, ℕ, ◌+◌, ◌-◌, ◌<◌, ◌≤◌, List, [], ◌∷◌, ◌++◌, length, take, drop, get_or, Option, Some, None, refl, sym, ◌∙◌, ap, arith, append_assoc, add-one, drop-cons, flat_map, filter_map, codes, common_steps, flat_map-append, first_of, limit_of, Walked, numbered, numbers_text, others_text, rate_text, rates_text, actions_walked, entries, numbers_walked}
 use Rattle.std.proofs.lemmas.List.{append-nil, length-append}
 use Rattle.std.proofs.lemmas.List.Elements.{filter_map-append}
-use Rattle.std.proofs.lemmas.Grind.{common_steps, flat_map-append}
 use Rattle.fs_actions.specs.declared.community.Rate.{Rate}
-use Rattle.fs_actions.specs.Actions.{first_of}
-use Rattle.fs_actions.specs.Community.{limit_of}
-use Rattle.fs_line.specs.declared.walked.Walked.{Walked}
-use Rattle.fs_line.specs.Line.{numbered, numbers_text, others_text, rate_text, rates_text}
-use Rattle.fs_line.specs.Walked.{actions_walked, entries, numbers_walked}
 
 -- the actions of the rules walked
 abbrev pub acting : List Walked → List (List ℕ)

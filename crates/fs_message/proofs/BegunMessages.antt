@@ -1,15 +1,6 @@
 -- How the octets of a message begun and a piece behind them join.
-use Rattle.std.proofs.Common.{◌≡◌, ℕ, ◌+◌, ◌-◌, ◌<◌, ◌≤◌, min, Bool, true, false, not, ◌&&◌, nat_le, nat_lt, get_or, List, ◌++◌, length, take, drop, Option, Some, None, Ok, refl, sym, ap, ◌∙◌, subst, inl, inr, arith, if◌then◌else◌, IsTrue}
+use Rattle.fs_message.proofs.Words.{◌≡◌, ℕ, ◌+◌, ◌-◌, ◌<◌, ◌≤◌, min, Bool, true, false, not, ◌&&◌, nat_le, nat_lt, get_or, List, ◌++◌, length, take, drop, Option, Some, None, Ok, refl, sym, ap, ◌∙◌, subst, inl, inr, arith, if◌then◌else◌, IsTrue, length-take, length-drop, length-append, take-append-le, take-take, take_all, take_min, take_rest, append_assoc, drop-take, get_or-take, cases_lt, leb-true, nat_tests, take-add, take-append-add, drop-append-add, big_number, big_from-take, MessageFault, Message, message_of, wrong_at, size_of, has_message, first_message, fault, marker_wrong, size_wrong, kind_wrong, kind_at, allows, header_fault, size_at}
 use Rattle.std.specs.Option.{is_none}
-use Rattle.std.proofs.lemmas.List.{length-take, length-drop, length-append, take-append-le, take-take, take_all, take_min, take_rest, append_assoc, drop-take, get_or-take}
-use Rattle.std.proofs.lemmas.Bool.{cases_lt, leb-true}
-use Rattle.std.proofs.lemmas.Bool.Decides.{nat_tests}
-use Rattle.std.proofs.Math.Seq.{take-add, take-append-add, drop-append-add}
-use Rattle.byteorder.specs.Endian.{big_number}
-use Rattle.byteorder.specs.Numbers.{big_from-take}
-use Rattle.fs_message.specs.declared.fault.MessageFault.{MessageFault}
-use Rattle.fs_message.specs.Stream.{Message, message_of, wrong_at, size_of, has_message, first_message}
-use Rattle.fs_message.specs.Header.{fault, marker_wrong, size_wrong, kind_wrong, kind_at, allows, header_fault, size_at}
 use Rattle.fs_message.specs.Deframer.{IsBegun, IsWhole, IsFraming, Feeds}
 
 -- the test for a whole message, over its three parts

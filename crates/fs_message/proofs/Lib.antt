@@ -1,3 +1,4 @@
+mod Words
 mod Markers
 mod BegunMessages
 mod CapabilityLists

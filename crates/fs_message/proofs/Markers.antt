@@ -1,11 +1,6 @@
 -- A number of so many octets is the greatest exactly where each of them is 255.
-use Rattle.std.proofs.Common.{◌≡◌, ℕ, zero, suc, ◌+◌, ◌-◌, ◌*◌, ◌^◌, ◌<◌, ◌≤◌, ◌==◌, Bool, false, not, ◌||◌, List, [], ◌∷◌, length, take, refl, ap, ap₂, sym, ◌∙◌, arith, inl, inr, slice_index}
-use Rattle.std.specs.List.{list_any}
+use Rattle.fs_message.proofs.Words.{◌≡◌, ℕ, zero, suc, ◌+◌, ◌-◌, ◌*◌, ◌^◌, ◌<◌, ◌≤◌, ◌==◌, Bool, false, not, ◌||◌, List, [], ◌∷◌, length, take, refl, ap, ap₂, sym, ◌∙◌, arith, inl, inr, slice_index, list_any, cases_eq, ne_eqb, nat_tests, big_from, big_from-cons, big_from-lt}
 use Rattle.std.proofs.Math.Nat.{pow-succ', mul-le-mul_right}
-use Rattle.std.proofs.lemmas.Bool.{cases_eq, ne_eqb}
-use Rattle.std.proofs.lemmas.Bool.Decides.{nat_tests}
-use Rattle.byteorder.specs.Endian.{big_from}
-use Rattle.byteorder.specs.Numbers.{big_from-cons, big_from-lt}
 
 abbrev wrong : ℕ → Bool
 wrong octet = not (octet == 255)

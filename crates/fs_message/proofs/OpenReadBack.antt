@@ -1,20 +1,6 @@
 -- Our own OPEN is read as what it says.
-use Rattle.std.proofs.Common.{◌≡◌, ◌≢◌, ℕ, ◌^◌, ◌<◌, ◌==◌, ◌||◌, ◌&&◌, Bool, true, false, not, nat_lt, List, [], ◌∷◌, ◌++◌, drop, get_or, length, ◌-◌, Option, Some, None, Result, Ok, Err, refl, ap, ◌∙◌, arith, if◌then◌else◌}
-use Rattle.std.specs.Prelude.{flat_map}
-use Rattle.std.specs.List.{list_all}
-use Rattle.std.specs.Int.{byte_at}
-use Rattle.std.proofs.lemmas.Bool.Decides.{nat_tests}
-use Rattle.byteorder.specs.Endian.{big_number, big_bytes}
-use Rattle.byteorder.specs.Numbers.{big_number-reads_back}
-use Rattle.fs_base.specs.Parts.{with_part, parts_of}
-use Rattle.fs_base.proofs.Parts.{parts_step, parts_end}
+use Rattle.fs_message.proofs.Words.{◌≡◌, ◌≢◌, ℕ, ◌^◌, ◌<◌, ◌==◌, ◌||◌, ◌&&◌, Bool, true, false, not, nat_lt, List, [], ◌∷◌, ◌++◌, drop, get_or, length, ◌-◌, Option, Some, None, Result, Ok, Err, refl, ap, ◌∙◌, arith, if◌then◌else◌, flat_map, list_all, byte_at, nat_tests, big_number, big_bytes, big_number-reads_back, with_part, parts_of, parts_step, parts_end, MessageFault, Open, fault, Field, field, first_field, fields_of, is_capability, is_parameter, are_parameters, capabilities_of, fields_fault, opened, open_of, as_field, family_text, open_body}
 use Rattle.fs_base.proofs.NumberTests.{eq_itself, not_zero}
-use Rattle.fs_message.specs.declared.fault.MessageFault.{MessageFault}
-use Rattle.fs_message.specs.declared.open_.Open.{Open}
-use Rattle.fs_message.specs.Header.{fault}
-use Rattle.fs_message.specs.Capabilities.{Field, field, first_field, fields_of, is_capability, is_parameter, are_parameters, capabilities_of}
-use Rattle.fs_message.specs.Open.{fields_fault, opened, open_of}
-use Rattle.fs_message.specs.Write.{as_field, family_text, open_body}
 use Rattle.fs_message.specs.Laws.{own_open}
 use Rattle.fs_message.proofs.CapabilityLists.{field_shrinks, fields_chain, fields_right, tail}
 

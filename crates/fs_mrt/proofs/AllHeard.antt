@@ -1,26 +1,14 @@
 -- What is known of all that is heard in a dump of octets.
-use Rattle.std.proofs.Common.{◌≡◌, ℕ, List, [], ◌∷◌, ◌++◌, Option, Some, None, Bool, true, false, ◌<◌, ◌≤◌, ◌+◌, ◌-◌, ◌*◌, ◌^◌, ◌==◌, max, min, length, take, drop, refl, ap, sym, subst, ◌∙◌, arith, length-append, append_assoc, ◌⊎◌, inl, inr}
-use Rattle.std.specs.Prelude.{if◌then◌else◌, IsSome, find, ⊤}
+use Rattle.fs_mrt.proofs.Words.{◌≡◌, ℕ, List, [], ◌∷◌, ◌++◌, Option, Some, None, Bool, true, false, ◌<◌, ◌≤◌, ◌+◌, ◌-◌, ◌*◌, ◌^◌, ◌==◌, max, min, length, take, drop, refl, ap, sym, subst, ◌∙◌, arith, length-append, append_assoc, ◌⊎◌, inl, inr, if◌then◌else◌, IsSome, find, ⊤, nat_tests, big_number, Address, Peer, Placed, all_told, first_part, placed, got, AreHeard, HeardFits, IsHeard, IsSaid, is_same, lesser, lowest, number_at, Spoken, moment_behind, record_in, time_of, address_of, Entry, IsEntry, body_text, entry_text, entry_told, header_text, heard_as, peer_in, said_of, told, unread}
 use Rattle.std.proofs.lemmas.Bool.{cases_lt}
-use Rattle.std.proofs.lemmas.Bool.Decides.{nat_tests}
-use Rattle.byteorder.specs.Endian.{big_number}
 use Rattle.fs_base.specs.Config.{peer_of}
 use Rattle.fs_base.specs.Language.{IsOctets}
 use Rattle.fs_base.specs.Parts.{window}
-use Rattle.fs_base.specs.declared.config.Address.{Address}
-use Rattle.fs_base.specs.declared.config.Peer.{Peer}
 use Rattle.fs_base.proofs.Digits.{big_below}
 use Rattle.fs_base.proofs.Octets.{octets_drop, octets_left, octets_right, octets_take}
 use Rattle.fs_input.specs.Parts.{At, at, parts_from, to_come}
-use Rattle.fs_input.specs.Coming.{Placed, all_told, first_part, placed}
-use Rattle.fs_input.specs.Scan.{got}
 use Rattle.fs_input.proofs.Coming.{part_found, shrinks}
 use Rattle.fs_input.proofs.PartsOfRecords.{parts_all}
-use Rattle.fs_mrt.specs.Laws.{AreHeard, HeardFits, IsHeard, IsSaid}
-use Rattle.fs_mrt.specs.Peers.{is_same, lesser, lowest, number_at}
-use Rattle.fs_mrt.specs.Record.{Spoken, moment_behind, record_in, time_of}
-use Rattle.fs_mrt.specs.Shape.{address_of}
-use Rattle.fs_mrt.specs.Written.{Entry, IsEntry, body_text, entry_text, entry_told, header_text, heard_as, peer_in, said_of, told, unread}
 use Rattle.fs_mrt.specs.declared.shape.Shape.{Shape as RecordShape}
 use Rattle.fs_mrt.proofs.Written.{record_spells, record_takes}
 

@@ -1,23 +1,5 @@
 -- What the parts of a body say.
-use Rattle.std.proofs.Common.{◌≡◌, ℕ, List, Bool, true, Option, Some, Result, Ok, ◌≤◌, ◌+◌, ◌-◌, ◌*◌, max, take, drop, refl, ap, sym, ◌∙◌, arith}
-use Rattle.std.specs.Prelude.{nat_le, if◌then◌else◌}
-use Rattle.std.proofs.lemmas.List.{drop-take}
-use Rattle.std.proofs.lemmas.Bool.Decides.{nat_tests}
-use Rattle.byteorder.specs.Endian.{big_number}
-use Rattle.byteorder.specs.Numbers.{big_from-take}
-use Rattle.fs_base.specs.declared.config.Peer.{Peer}
-use Rattle.fs_base.specs.declared.counted.Counted.{Counted}
-use Rattle.fs_input.specs.declared.fault.Fault.{Fault}
-use Rattle.fs_input.specs.Reads.{Calls, Reads, whole}
-use Rattle.fs_input.specs.Scan.{and, field, gives}
-use Rattle.fs_input.proofs.Lifting.{reads_as, reads_gives, reads_then}
-use Rattle.fs_mrt.specs.Record.{Spoken, addressed_in, body_in, ends_in, ends_size, front_behind, front_in, time_of}
-use Rattle.fs_mrt.specs.Shape.{family_of, front_size, states_size}
-use Rattle.fs_mrt.specs.declared.fault.DumpReason.{DumpReason}
-use Rattle.fs_mrt.specs.declared.fault.DumpReason.TheVariants.{Cut}
-use Rattle.fs_mrt.specs.declared.record.Front.{Front}
-use Rattle.fs_mrt.specs.declared.record.Head.{Head}
-use Rattle.fs_base.specs.declared.prefix.Family.{Family}
+use Rattle.fs_mrt.proofs.Words.{◌≡◌, ℕ, List, Bool, true, Option, Some, Result, Ok, ◌≤◌, ◌+◌, ◌-◌, ◌*◌, max, take, drop, refl, ap, sym, ◌∙◌, arith, nat_le, if◌then◌else◌, drop-take, nat_tests, big_number, big_from-take, Peer, Counted, Fault, Calls, Reads, whole, and, field, gives, reads_as, reads_gives, reads_then, Spoken, addressed_in, body_in, ends_in, ends_size, front_behind, front_in, time_of, family_of, front_size, states_size, DumpReason, Cut, Front, Head, Family}
 use Rattle.fs_mrt.specs.declared.shape.Shape.{Shape as RecordShape}
 
 time_same : (timed : Bool) (seconds n : ℕ) (octets : List ℕ) → 4 ≤ n

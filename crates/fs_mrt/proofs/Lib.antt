@@ -1,3 +1,4 @@
+mod Words
 pub mod Messages
 pub mod Bodies
 mod Written

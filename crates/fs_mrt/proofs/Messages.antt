@@ -1,21 +1,8 @@
 -- A message whose header and rest were taken is one.
-use Rattle.std.proofs.Common.{◌≡◌, ℕ, List, ◌++◌, Bool, true, Option, Result, Ok, Err, ◌≤◌, ◌+◌, ◌-◌, ◌==◌, length, take, drop, refl, ap, sym, ◌∙◌, arith}
-use Rattle.std.specs.Prelude.{nat_le}
+use Rattle.fs_mrt.proofs.Words.{◌≡◌, ℕ, List, ◌++◌, Bool, true, Option, Result, Ok, Err, ◌≤◌, ◌+◌, ◌-◌, ◌==◌, length, take, drop, refl, ap, sym, ◌∙◌, arith, nat_le, drop-take, length-drop, take_all, nat_tests, big_number, big_from-take, Counted, Fault, Calls, Reads, whole, Scanner, and, field, gives, needs, gives_for, reads_as, reads_ends, reads_then, said_from, Said, message, message_behind, message_in, DumpReason, Cut}
 use Rattle.std.proofs.Math.Seq.{take-add}
-use Rattle.std.proofs.lemmas.List.{drop-take, length-drop, take_all}
-use Rattle.std.proofs.lemmas.Bool.Decides.{nat_tests}
-use Rattle.byteorder.specs.Endian.{big_number}
-use Rattle.byteorder.specs.Numbers.{big_from-take}
-use Rattle.fs_base.specs.declared.counted.Counted.{Counted}
-use Rattle.fs_input.specs.declared.fault.Fault.{Fault}
-use Rattle.fs_input.specs.Reads.{Calls, Reads, whole}
-use Rattle.fs_input.specs.Scan.{Scanner, and, field, gives, needs}
 use Rattle.fs_input.proofs.Joining.{needs_true}
-use Rattle.fs_input.proofs.Lifting.{gives_for, reads_as, reads_ends, reads_then}
-use Rattle.fs_mrt.specs.Dump.{said_from}
-use Rattle.fs_mrt.specs.Record.{Said, message, message_behind, message_in}
-use Rattle.fs_mrt.specs.declared.fault.DumpReason.{DumpReason}
-use Rattle.fs_mrt.specs.declared.fault.DumpReason.TheVariants.{Cut, Message as WrongMessage}
+use Rattle.fs_mrt.specs.declared.fault.DumpReason.TheVariants.{Message as WrongMessage}
 use Rattle.fs_mrt.specs.declared.heard.What.{What}
 use Rattle.fs_mrt.specs.declared.heard.What.TheVariants.{Message}
 

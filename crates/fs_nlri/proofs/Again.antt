@@ -1,24 +1,5 @@
 -- The canonical octets of what is in normal form spell it.
-use Rattle.std.proofs.Common.{◌≡◌, ℕ, suc, ◌+◌, ◌-◌, ◌*◌, ◌/◌, ◌%◌, ◌^◌, ◌<◌, ◌≤◌, ◌==◌, ◌↔◌, Bool, true, false, List, [], ◌∷◌, ◌++◌, Option, Some, None, Contains, length, nat_lt, if◌then◌else◌, refl, ap, sym, subst, ◌∙◌, arith, inl, inr}
-use Rattle.std.specs.List.{list_any}
-use Rattle.std.proofs.Math.Nat.{mod-eq_of_lt, mul_assoc}
-use Rattle.std.proofs.lemmas.Nat.{pow-add, shl-shr}
-use Rattle.std.proofs.lemmas.List.{append-nil}
-use Rattle.std.proofs.lemmas.Bool.{false≢true, and_parts, eqb-true, ltb-true, or_cases}
-use Rattle.byteorder.specs.Endian.{big_number}
-use Rattle.byteorder.specs.Numbers.{length-bytes_high_first, big_number-reads_back}
-use Rattle.fs_base.specs.declared.prefix.Family.{Family}
-use Rattle.fs_base.specs.declared.prefix.Family.TheVariants.{V4}
-use Rattle.fs_base.specs.Bits.{cleared}
-use Rattle.fs_base.specs.Language.{IsOctets}
-use Rattle.fs_base.proofs.Blocks.{block_of, block_below}
-use Rattle.fs_base.proofs.Octets.{octets_right}
-use Rattle.fs_ops.specs.Operator.{width_code}
-use Rattle.fs_ops.proofs.Canonical.{AreAllowed, canonical_spells}
-use Rattle.fs_nlri.specs.Forms.{Form, V4Form, V6Form, ListForm, form_of, all_allowed}
-use Rattle.fs_nlri.specs.Parts.{Body, V4Body, V6Body, ListBody, Part, Ruled}
-use Rattle.fs_nlri.specs.Spelling.{octets_for, first_bits, SpellsBody, SpellsAt, Spells, IsLength, IsFrame}
-use Rattle.fs_nlri.specs.Rule.{IsNormalBody, IsNormalAt, AreNormal, IsRule, first_octets, canonical_body, canonical_value, canonical_length, canonical_frame}
+use Rattle.fs_nlri.proofs.Words.{◌≡◌, ℕ, suc, ◌+◌, ◌-◌, ◌*◌, ◌/◌, ◌%◌, ◌^◌, ◌<◌, ◌≤◌, ◌==◌, ◌↔◌, Bool, true, false, List, [], ◌∷◌, ◌++◌, Option, Some, None, Contains, length, nat_lt, if◌then◌else◌, refl, ap, sym, subst, ◌∙◌, arith, inl, inr, list_any, mod-eq_of_lt, mul_assoc, pow-add, shl-shr, append-nil, false≢true, and_parts, eqb-true, ltb-true, or_cases, big_number, length-bytes_high_first, big_number-reads_back, Family, V4, cleared, IsOctets, block_of, block_below, octets_right, width_code, AreAllowed, canonical_spells, Form, V4Form, V6Form, ListForm, form_of, all_allowed, Body, V4Body, V6Body, ListBody, Part, Ruled, octets_for, first_bits, SpellsBody, SpellsAt, Spells, IsLength, IsFrame, IsNormalBody, IsNormalAt, AreNormal, IsRule, first_octets, canonical_body, canonical_value, canonical_length, canonical_frame}
 use Rattle.fs_nlri.proofs.Writable.{high_octets_fit}
 use Rattle.fs_nlri.proofs.NormalForm.{kept_value}
 use Rattle.fs_nlri.proofs.Frames.{one_rule, length_small}

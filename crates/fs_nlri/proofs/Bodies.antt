@@ -1,17 +1,6 @@
+use Rattle.fs_nlri.proofs.Words.{◌≡◌, ℕ, zero, suc, ◌+◌, ◌-◌, ◌<◌, ◌≤◌, inl, inr, List, [], ◌∷◌, ◌++◌, Option, length, take, drop, replicate, refl, ap, sym, subst, ◌∙◌, arith, length-append, append-nil, length-replicate, take_all, take-append-drop, All-replicate, V4, IsOctets, Begins, NoFront, IsCut, IsFirstFault, append_same, octets_cons, Kind, text, no_list, same_list, Form, V4Form, V6Form, ListForm, kept_bits, Body, V4Body, V6Body, ListBody, SpellsV4, SpellsV6, SpellsList, SpellsBody, IsRange, octets_for, first_bits, IsBody}
+
 -- What stands behind a type: of each form one body at most stands at the front, and what reading finds says what is wrong.
-use Rattle.std.proofs.Common.{◌≡◌, ℕ, zero, suc, ◌+◌, ◌-◌, ◌<◌, ◌≤◌, inl, inr, List, [], ◌∷◌, ◌++◌, Option, length, take, drop, replicate, refl, ap, sym, subst, ◌∙◌, arith, length-append}
-use Rattle.std.proofs.lemmas.List.{append-nil, length-replicate, take_all, take-append-drop}
-use Rattle.std.proofs.lemmas.List.Elements.{All-replicate}
-use Rattle.fs_base.specs.declared.prefix.Family.TheVariants.{V4}
-use Rattle.fs_base.specs.Language.{IsOctets, Begins, NoFront, IsCut, IsFirstFault}
-use Rattle.fs_base.proofs.Octets.{append_same, octets_cons}
-use Rattle.fs_ops.specs.declared.kind.Kind.{Kind}
-use Rattle.fs_ops.specs.OperatorList.{text}
-use Rattle.fs_ops.proofs.Grammar.{no_list, same_list}
-use Rattle.fs_nlri.specs.Forms.{Form, V4Form, V6Form, ListForm, kept_bits}
-use Rattle.fs_nlri.specs.Parts.{Body, V4Body, V6Body, ListBody}
-use Rattle.fs_nlri.specs.Spelling.{SpellsV4, SpellsV6, SpellsList, SpellsBody, IsRange, octets_for, first_bits}
-use Rattle.fs_nlri.specs.Body.{IsBody}
 
 -- two bodies at the front of one list are one
 pub record SameBody (a b : List ℕ) (p q : Body) (s t : List ℕ) : Type 0 where

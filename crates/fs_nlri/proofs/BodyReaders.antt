@@ -1,23 +1,9 @@
 -- What the readers of bodies have found, at each of their ends.
-use Rattle.std.proofs.Common.{◌≡◌, ℕ, zero, suc, ◌+◌, ◌-◌, ◌*◌, ◌%◌, ◌^◌, ◌<◌, ◌≤◌, List, [], ◌∷◌, Option, Some, length, get_or, take, drop, refl, ap, sym, subst, ◌∙◌, arith}
-use Rattle.std.proofs.lemmas.List.{take_all, length-take-le}
-use Rattle.std.proofs.lemmas.Nat.{pow-add, pow_pos}
-use Rattle.std.proofs.Math.Nat.{mul-lt-mul_of_pos_right, mod-eq_of_lt, pow-le-pow_right, pow-succ'}
-use Rattle.byteorder.specs.Endian.{big_number}
-use Rattle.byteorder.specs.Numbers.{big_from-lt}
-use Rattle.fs_base.specs.Language.{NoFront, IsCut, IsFirstFault}
-use Rattle.fs_base.specs.Bits.{cleared}
-use Rattle.fs_base.proofs.Languages.{cut_as, fault_as}
-use Rattle.fs_ops.specs.declared.kind.Kind.{Kind}
-use Rattle.fs_ops.specs.OperatorList.{Spells as SpellsPairs, IsText, all_said}
+use Rattle.fs_nlri.proofs.Words.{◌≡◌, ℕ, zero, suc, ◌+◌, ◌-◌, ◌*◌, ◌%◌, ◌^◌, ◌<◌, ◌≤◌, List, [], ◌∷◌, Option, Some, length, get_or, take, drop, refl, ap, sym, subst, ◌∙◌, arith, take_all, length-take-le, pow-add, pow_pos, mul-lt-mul_of_pos_right, mod-eq_of_lt, pow-le-pow_right, pow-succ', big_number, big_from-lt, NoFront, IsCut, IsFirstFault, cleared, cut_as, fault_as, Kind, IsText, all_said, V4Form, V6Form, ListForm, kept_bits, V6Body, ListBody, SpellsV6, SpellsList, IsRange, octets_for, IsBody, IsBodyFault, list_fault}
+use Rattle.fs_ops.specs.OperatorList.{Spells as SpellsPairs}
 use Rattle.fs_ops.specs.Fault.{CanBeWide, IsFault}
 use Rattle.fs_ops.specs.declared.fault.OpsFault.{OpsFault}
 use Rattle.fs_ops.specs.declared.fault.OpsFault.TheVariants.{Cut, Width, Memory}
-use Rattle.fs_nlri.specs.Forms.{V4Form, V6Form, ListForm, kept_bits}
-use Rattle.fs_nlri.specs.Parts.{V6Body, ListBody}
-use Rattle.fs_nlri.specs.Spelling.{SpellsV6, SpellsList, IsRange, octets_for}
-use Rattle.fs_nlri.specs.Body.{IsBody, IsBodyFault}
-use Rattle.fs_nlri.specs.Fault.{list_fault}
 use Rattle.fs_nlri.proofs.Bodies.{v4_empty, v4_length, v4_cut, v6_empty, v6_length, v6_one, v6_offset, v6_cut}
 
 pub v4_none : (octets : List ℕ) → length octets < 1 → NoFront (IsBody V4Form) octets × IsCut (IsBody V4Form) octets 0

@@ -1,16 +1,9 @@
 -- Rules are compared by their components.
-use Rattle.std.proofs.Common.{◌≡◌, Bool, true, ◌==◌, ◌&&◌, List, refl, sym, ap, ap₂, ◌∙◌}
+use Rattle.fs_nlri.proofs.Words.{◌≡◌, Bool, true, ◌==◌, ◌&&◌, List, refl, sym, ap, ap₂, ◌∙◌, Family, V4, V6, afi_of, Component, part_of, parts_of, Ruled, ruled, same_part, same_rule}
 use Rattle.std.specs.Ordering.{on}
 use Rattle.std.specs.Cmp.Lexicographic.{pointwise}
 use Rattle.std.specs.Cmp.Derive.Mapped.{pointwise-map}
-use Rattle.fs_base.specs.declared.prefix.Family.{Family}
-use Rattle.fs_base.specs.declared.prefix.Family.TheVariants.{V4, V6}
 use Rattle.fs_base.specs.contracts.prefix.FamilyPartialEq.TheImpl.{ghosts}
-use Rattle.fs_base.specs.Bits.{afi_of}
-use Rattle.fs_nlri.specs.declared.component.Component.{Component}
-use Rattle.fs_nlri.specs.Component.{part_of, parts_of}
-use Rattle.fs_nlri.specs.Parts.{Ruled, ruled}
-use Rattle.fs_nlri.specs.Same.{same_part, same_rule}
 
 pub same_families : (f g : Family) → ghosts.eq f g ≡ (afi_of f == afi_of g)
 same_families V4 V4 = refl

@@ -1,21 +1,7 @@
 -- Each octet list has an outcome: as a value, as a frame, and as a field of frames.
-use Rattle.std.proofs.Common.{◌≡◌, ℕ, zero, suc, ◌+◌, ◌-◌, ◌*◌, ◌<◌, ◌≤◌, List, [], ◌∷◌, ◌++◌, Option, Some, None, IsSome, Result, false, Ok, Err, Any, get_or, length, take, drop, refl, ap, sym, subst, ◌∙◌, arith, ◌⊎◌, inl, inr, append_assoc, length-append, length-drop}
-use Rattle.std.proofs.lemmas.List.{take-append-drop, take_rest, length-take-le}
-use Rattle.std.proofs.lemmas.Bool.{cases_lt, cases_eq, both_ways}
-use Rattle.fs_base.specs.declared.prefix.Family.{Family}
-use Rattle.fs_base.specs.declared.prefix.Family.TheVariants.{V4, V6}
-use Rattle.fs_ops.specs.declared.kind.Kind.{Kind}
+use Rattle.fs_nlri.proofs.Words.{◌≡◌, ℕ, zero, suc, ◌+◌, ◌-◌, ◌*◌, ◌<◌, ◌≤◌, List, [], ◌∷◌, ◌++◌, Option, Some, None, IsSome, Result, false, Ok, Err, Any, get_or, length, take, drop, refl, ap, sym, subst, ◌∙◌, arith, ◌⊎◌, inl, inr, append_assoc, length-append, length-drop, take-append-drop, take_rest, length-take-le, cases_lt, cases_eq, both_ways, Family, V4, V6, Kind, Reason, Cut, NoType, Order, PrefixLength, Offset, Width, Length, Bad, Form, V4Form, V6Form, ListForm, form_of, forms, kept_bits, Body, V4Body, V6Body, ListBody, Part, part, Ruled, ruled, SpellsV4, SpellsV6, SpellsBody, SpellsAt, Spells, IsRange, IsLength, IsFrame, octets_for, first_bits, IsValueBad, IsOpen, IsBodyBad, IsFrameOutcome, IsFieldOutcome}
 use Rattle.fs_ops.specs.declared.fault.OpsFault.TheVariants.{Cut as ListCut, Width as ListWidth, Memory as ListMemory}
 use Rattle.fs_ops.proofs.Every.{every, IsOutcome}
-use Rattle.fs_nlri.specs.declared.fault.Reason.{Reason}
-use Rattle.fs_nlri.specs.declared.fault.Reason.TheVariants.{Cut, NoType, Order, PrefixLength, Offset, Width, Length}
-use Rattle.fs_nlri.specs.declared.fault.NlriFault.TheVariants.{Bad}
-use Rattle.fs_nlri.specs.Forms.{Form, V4Form, V6Form, ListForm, form_of, forms, kept_bits}
-use Rattle.fs_nlri.specs.Parts.{Body, V4Body, V6Body, ListBody, Part, part, Ruled, ruled}
-use Rattle.fs_nlri.specs.Spelling.{SpellsV4, SpellsV6, SpellsBody, SpellsAt, Spells, IsRange, IsLength, IsFrame, octets_for, first_bits}
-use Rattle.fs_nlri.specs.Fault.{IsValueBad, IsOpen}
-use Rattle.fs_nlri.specs.Body.{IsBodyBad}
-use Rattle.fs_nlri.specs.Outcome.{IsFrameOutcome, IsFieldOutcome}
 use Rattle.fs_nlri.proofs.Bodies.{v4_empty, v4_length, v4_cut, v6_empty, v6_length, v6_one, v6_offset, v6_cut}
 use Rattle.fs_nlri.proofs.BodyReaders.{list_bad}
 use Rattle.fs_nlri.proofs.Fronts.{front_more}

@@ -1,11 +1,6 @@
+use Rattle.fs_nlri.proofs.Words.{◌≡◌, ℕ, ◌-◌, List, [], ◌∷◌, ◌++◌, length, take, drop, refl, ap, sym, subst, ◌∙◌, append_assoc, append-nil, take-append-drop, take_rest, Family, Memory, Ruled, IsFrame, Frames, Appends, Stops}
+
 -- Frames one after the other, as a feed takes them.
-use Rattle.std.proofs.Common.{◌≡◌, ℕ, ◌-◌, List, [], ◌∷◌, ◌++◌, length, take, drop, refl, ap, sym, subst, ◌∙◌, append_assoc}
-use Rattle.std.proofs.lemmas.List.{append-nil, take-append-drop, take_rest}
-use Rattle.fs_base.specs.declared.prefix.Family.{Family}
-use Rattle.fs_nlri.specs.declared.fault.NlriFault.TheVariants.{Memory}
-use Rattle.fs_nlri.specs.Parts.{Ruled}
-use Rattle.fs_nlri.specs.Spelling.{IsFrame}
-use Rattle.fs_nlri.specs.Feed.{Frames, Appends, Stops}
 
 pub none_taken : (family : Family) (octets : List ℕ) (old : List Ruled) → Appends family octets octets old old
 none_taken family octets old = record { front = []; rules = []; frames = refl; parts = refl; added = sym (append-nil old) }

@@ -1,19 +1,6 @@
 -- Frames: one at most stands at the front of octets, and what its reader has found says what it answers.
-use Rattle.std.proofs.Common.{◌≡◌, ℕ, ◌+◌, ◌-◌, ◌*◌, ◌<◌, ◌≤◌, List, [], ◌∷◌, ◌++◌, Result, Ok, Err, IfOk, IfErr, length, take, drop, refl, ap, sym, subst, ◌∙◌, arith, append_assoc}
+use Rattle.fs_nlri.proofs.Words.{◌≡◌, ℕ, ◌+◌, ◌-◌, ◌*◌, ◌<◌, ◌≤◌, List, [], ◌∷◌, ◌++◌, Result, Ok, Err, IfOk, IfErr, length, take, drop, refl, ap, sym, subst, ◌∙◌, arith, append_assoc, append-nil, take-append-drop, take_rest, length-take-le, Family, IsOctets, fault_whole, append_same, octets_left, octets_right, octets_take, octets_drop, Reason, Cut, NoType, Order, PrefixLength, Offset, Width, Length, NlriFault, Bad, Memory, Part, Ruled, ruled, Spells, IsValue, IsLength, IsFrame, IsValueBad, IsValueFault, IsBadFrame, IsFrameBad, IsFrameFault, ReadsAs, IsRule, canonical_value}
 use Rattle.std.proofs.Math.Seq.{take-add}
-use Rattle.std.proofs.lemmas.List.{append-nil, take-append-drop, take_rest, length-take-le}
-use Rattle.fs_base.specs.declared.prefix.Family.{Family}
-use Rattle.fs_base.specs.Language.{IsOctets}
-use Rattle.fs_base.proofs.Languages.{fault_whole}
-use Rattle.fs_base.proofs.Octets.{append_same, octets_left, octets_right, octets_take, octets_drop}
-use Rattle.fs_nlri.specs.declared.fault.Reason.{Reason}
-use Rattle.fs_nlri.specs.declared.fault.Reason.TheVariants.{Cut, NoType, Order, PrefixLength, Offset, Width, Length}
-use Rattle.fs_nlri.specs.declared.fault.NlriFault.{NlriFault}
-use Rattle.fs_nlri.specs.declared.fault.NlriFault.TheVariants.{Bad, Memory}
-use Rattle.fs_nlri.specs.Parts.{Part, Ruled, ruled}
-use Rattle.fs_nlri.specs.Spelling.{Spells, IsValue, IsLength, IsFrame}
-use Rattle.fs_nlri.specs.Fault.{IsValueBad, IsValueFault, IsBadFrame, IsFrameBad, IsFrameFault, ReadsAs}
-use Rattle.fs_nlri.specs.Rule.{IsRule, canonical_value}
 use Rattle.fs_nlri.proofs.Fronts.{whole_front, front_behind}
 use Rattle.fs_nlri.proofs.NormalForm.{kept_value}
 

@@ -1,11 +1,5 @@
 -- Whole components at the front of a value, and how a value goes on behind them.
-use Rattle.std.proofs.Common.{◌≡◌, ℕ, ◌<◌, List, [], ◌∷◌, ◌++◌, Option, Some, None, refl, ap, sym, subst, ◌∙◌, append_assoc}
-use Rattle.std.proofs.lemmas.List.{append-nil}
-use Rattle.fs_base.specs.declared.prefix.Family.{Family}
-use Rattle.fs_base.proofs.Languages.{Leads}
-use Rattle.fs_nlri.specs.Forms.{Form, form_of}
-use Rattle.fs_nlri.specs.Parts.{Body, Part, part}
-use Rattle.fs_nlri.specs.Spelling.{SpellsAt, Spells, IsValue}
+use Rattle.fs_nlri.proofs.Words.{◌≡◌, ℕ, ◌<◌, List, [], ◌∷◌, ◌++◌, Option, Some, None, refl, ap, sym, subst, ◌∙◌, append_assoc, append-nil, Family, Leads, Form, form_of, Body, Part, part, SpellsAt, Spells, IsValue}
 use Rattle.fs_nlri.proofs.Bodies.{SameBody, same_body}
 
 -- the octets spell these components, whose types rise from above `last` to `end`

@@ -1,15 +1,6 @@
+use Rattle.fs_nlri.proofs.Words.{◌≡◌, ℕ, ◌==◌, Bool, true, false, if◌then◌else◌, ◌&&◌, ◌||◌, List, [], ◌∷◌, Option, Some, None, Ok, Err, refl, ap, sym, ◌∙◌, inl, inr, ◌⊎◌, length, nat_le, nat_lt, and_from, lt-ltb, le-leb, eq-eqb, or_first, or_second, Family, V4, V6, TooLong, Form, V4Form, V6Form, ListForm, form_of, Body, V4Body, V6Body, ListBody, Part, part, ruled, IsRange, IsNormalBody, IsNormalAt, AreNormal, canonical_value, is_range, body_given, given_at, part_given, all_given, rises, cleared_body, cleared_at, cleared_part, cleared_parts, rule_of}
+
 -- Components that are in normal form are the family's, by rising types, and clearing changes nothing in them.
-use Rattle.std.proofs.Common.{◌≡◌, ℕ, ◌==◌, Bool, true, false, if◌then◌else◌, ◌&&◌, ◌||◌, List, [], ◌∷◌, Option, Some, None, Ok, Err, refl, ap, sym, ◌∙◌, inl, inr, ◌⊎◌, length, nat_le, nat_lt}
-use Rattle.std.proofs.lemmas.Bool.{and_from, lt-ltb, le-leb, eq-eqb}
-use Rattle.fs_base.proofs.Bools.{or_first, or_second}
-use Rattle.fs_base.specs.declared.prefix.Family.{Family}
-use Rattle.fs_base.specs.declared.prefix.Family.TheVariants.{V4, V6}
-use Rattle.fs_nlri.specs.declared.fault.RuleFault.TheVariants.{TooLong}
-use Rattle.fs_nlri.specs.Forms.{Form, V4Form, V6Form, ListForm, form_of}
-use Rattle.fs_nlri.specs.Parts.{Body, V4Body, V6Body, ListBody, Part, part, ruled}
-use Rattle.fs_nlri.specs.Spelling.{IsRange}
-use Rattle.fs_nlri.specs.Rule.{IsNormalBody, IsNormalAt, AreNormal, canonical_value}
-use Rattle.fs_nlri.specs.Making.{is_range, body_given, given_at, part_given, all_given, rises, cleared_body, cleared_at, cleared_part, cleared_parts, rule_of}
 
 pub range_is : (len offset : ℕ) → IsRange len offset → is_range len offset ≡ true
 range_is len offset range =

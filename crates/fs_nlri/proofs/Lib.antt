@@ -1,3 +1,4 @@
+mod Words
 pub mod Bodies
 pub mod BodyReaders
 pub mod Fronts

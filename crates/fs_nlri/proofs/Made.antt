@@ -1,20 +1,6 @@
 -- That components which are the family's, by rising types, are in normal form once the bits that it clears are cleared.
-use Rattle.std.proofs.Common.{◌≡◌, ℕ, ◌-◌, ◌≤◌, ◌==◌, Bool, true, false, if◌then◌else◌, ◌&&◌, ◌||◌, List, [], ◌∷◌, Option, Some, None, map, bit_and, refl, ap, sym, subst, ◌∙◌, arith, inl, inr, length, nat_le, nat_lt}
-use Rattle.std.specs.List.{AllByRecursion, list_any}
-use Rattle.std.specs.Int.Bits.{and_self}
-use Rattle.std.proofs.lemmas.Nat.{and_assoc}
-use Rattle.std.proofs.lemmas.Bool.{false≢true, and_parts, or_cases, ltb-true, leb-true, eqb-true}
-use Rattle.fs_base.specs.declared.prefix.Family.{Family}
-use Rattle.fs_base.specs.declared.prefix.Family.TheVariants.{V4, V6}
-use Rattle.fs_base.proofs.Blocks.{cleared_again}
-use Rattle.fs_ops.specs.Operator.{width_code}
-use Rattle.fs_ops.proofs.Normal.{with_bits, kept_is_normal}
-use Rattle.fs_nlri.specs.declared.fault.RuleFault.TheVariants.{NotOfFamily, Order}
-use Rattle.fs_nlri.specs.Forms.{Form, V4Form, V6Form, ListForm, form_of, all_allowed}
-use Rattle.fs_nlri.specs.Parts.{Body, V4Body, V6Body, ListBody, Part, ruled}
-use Rattle.fs_nlri.specs.Spelling.{IsRange}
-use Rattle.fs_nlri.specs.Rule.{IsNormalBody, IsNormalAt, AreNormal, IsRule, canonical_value}
-use Rattle.fs_nlri.specs.Making.{is_range, body_given, given_at, part_given, all_given, rises, cleared_body, cleared_at, cleared_parts, IsTypedBody, IsTypedAt, IsTyped, fault_in}
+use Rattle.fs_nlri.proofs.Words.{◌≡◌, ℕ, ◌-◌, ◌≤◌, ◌==◌, Bool, true, false, if◌then◌else◌, ◌&&◌, ◌||◌, List, [], ◌∷◌, Option, Some, None, map, bit_and, refl, ap, sym, subst, ◌∙◌, arith, inl, inr, length, nat_le, nat_lt, AllByRecursion, list_any, and_self, and_assoc, false≢true, and_parts, or_cases, ltb-true, leb-true, eqb-true, Family, V4, V6, cleared_again, width_code, with_bits, kept_is_normal, NotOfFamily, Form, V4Form, V6Form, ListForm, form_of, all_allowed, Body, V4Body, V6Body, ListBody, Part, ruled, IsRange, IsNormalBody, IsNormalAt, AreNormal, IsRule, canonical_value, is_range, body_given, given_at, part_given, all_given, rises, cleared_body, cleared_at, cleared_parts, IsTypedBody, IsTypedAt, IsTyped, fault_in}
+use Rattle.fs_nlri.specs.declared.fault.RuleFault.TheVariants.{Order}
 use Rattle.fs_nlri.proofs.NormalForm.{kept_again}
 
 range_of : (len offset : ℕ) → is_range len offset ≡ true → IsRange len offset

@@ -1,25 +1,6 @@
 -- What octets spell is in normal form, and its canonical octets are as many as those.
-use Rattle.std.proofs.Common.{◌≡◌, ℕ, zero, suc, ◌+◌, ◌-◌, ◌*◌, ◌/◌, ◌^◌, ◌≤◌, ◌==◌, ◌||◌, Bool, true, false, List, [], ◌∷◌, ◌++◌, Option, Some, None, length, Contains, bit_and, refl, ap, sym, subst, ◌∙◌, arith, length-append}
-use Rattle.std.specs.List.{list_any}
-use Rattle.std.specs.Int.Bits.{and_self}
-use Rattle.std.proofs.lemmas.Nat.{and_assoc}
-use Rattle.std.proofs.lemmas.Bool.{eq-eqb, and_from}
-use Rattle.byteorder.specs.Endian.{big_number}
-use Rattle.byteorder.specs.Numbers.{length-bytes_high_first}
-use Rattle.fs_base.proofs.Bools.{or_second}
-use Rattle.fs_base.specs.declared.prefix.Family.{Family}
-use Rattle.fs_base.specs.Language.{IsOctets}
-use Rattle.fs_base.proofs.Blocks.{cleared_again}
-use Rattle.fs_base.proofs.Octets.{octets_left, octets_right, octets_tail}
-use Rattle.fs_ops.specs.declared.kind.Kind.{Kind}
-use Rattle.fs_ops.specs.Operator.{width_code}
-use Rattle.fs_ops.specs.OperatorList.{IsNormal, canonical as canonical_pairs}
-use Rattle.fs_ops.proofs.Normal.{kept_is_normal, spelled_normal}
-use Rattle.fs_ops.proofs.Canonical.{AreAllowed, spelled_allowed, canonical_size, kept_allowed, kept_size}
-use Rattle.fs_nlri.specs.Forms.{Form, V4Form, V6Form, ListForm, form_of, kept_bits, all_allowed}
-use Rattle.fs_nlri.specs.Parts.{Body, Part}
-use Rattle.fs_nlri.specs.Spelling.{SpellsV4, SpellsV6, SpellsList, SpellsBody, SpellsAt, Spells, octets_for, first_bits}
-use Rattle.fs_nlri.specs.Rule.{IsNormalBody, IsNormalAt, AreNormal, first_octets, canonical_body, canonical_value}
+use Rattle.fs_nlri.proofs.Words.{◌≡◌, ℕ, zero, suc, ◌+◌, ◌-◌, ◌*◌, ◌/◌, ◌^◌, ◌≤◌, ◌==◌, ◌||◌, Bool, true, false, List, [], ◌∷◌, ◌++◌, Option, Some, None, length, Contains, bit_and, refl, ap, sym, subst, ◌∙◌, arith, length-append, list_any, and_self, and_assoc, eq-eqb, and_from, big_number, length-bytes_high_first, or_second, Family, IsOctets, cleared_again, octets_left, octets_right, octets_tail, Kind, width_code, IsNormal, kept_is_normal, spelled_normal, AreAllowed, spelled_allowed, canonical_size, kept_allowed, kept_size, Form, V4Form, V6Form, ListForm, form_of, kept_bits, all_allowed, Body, Part, SpellsV4, SpellsV6, SpellsList, SpellsBody, SpellsAt, Spells, octets_for, first_bits, IsNormalBody, IsNormalAt, AreNormal, first_octets, canonical_body, canonical_value}
+use Rattle.fs_ops.specs.OperatorList.{canonical as canonical_pairs}
 
 -- a width that the list contains passes the test
 has_width : (widths : List ℕ) (code : ℕ) → Contains widths code → list_any (λ width. width == code) widths ≡ true

@@ -1,23 +1,5 @@
 -- No octet list has two outcomes.
-use Rattle.std.proofs.Common.{◌≡◌, ℕ, suc, ◌+◌, ◌<◌, ◌≤◌, List, [], ◌∷◌, ◌++◌, Option, Some, None, IsSome, IsNone, Result, Ok, Err, length, take, drop, refl, ap, sym, subst, ◌∙◌, arith, ◌⊎◌, inl, inr, append_assoc, length-append, length-take, true, false, ◌==◌, if◌then◌else◌}
-use Rattle.std.proofs.lemmas.List.{append-nil, take-append-drop, take_at, take_all, take-take, length-take-le}
-use Rattle.std.proofs.lemmas.Bool.{cases_order, both_ways}
-use Rattle.fs_base.specs.declared.prefix.Family.{Family}
-use Rattle.fs_base.specs.Language.{IsOctets, NoFront, IsCut, IsFirstFault}
-use Rattle.fs_base.proofs.Languages.{one_fault, cut_or_fault}
-use Rattle.fs_base.proofs.Octets.{append_same, overlap, octets_left, octets_right}
-use Rattle.fs_ops.specs.declared.kind.Kind.{Kind}
-use Rattle.fs_ops.specs.OperatorList.{text}
-use Rattle.fs_ops.proofs.Grammar.{behind, no_list}
-use Rattle.fs_nlri.specs.declared.fault.Reason.{Reason}
-use Rattle.fs_nlri.specs.declared.fault.Reason.TheVariants.{Cut, NoType, Order, PrefixLength, Offset, Width, Length}
-use Rattle.fs_nlri.specs.Forms.{Form, V4Form, V6Form, ListForm, form_of}
-use Rattle.fs_nlri.specs.Parts.{Part, Ruled}
-use Rattle.fs_nlri.specs.Spelling.{Spells, IsValue, IsFrame}
-use Rattle.fs_nlri.specs.Fault.{IsTypePlace, IsBodyPlace, IsRole, HasRole, IsValueBad, IsOpen, IsBadFrame, IsFrameBad}
-use Rattle.fs_nlri.specs.Body.{IsBody}
-use Rattle.fs_nlri.specs.Feed.{Frames}
-use Rattle.fs_nlri.specs.Outcome.{IsFrameOutcome, IsFieldOutcome}
+use Rattle.fs_nlri.proofs.Words.{◌≡◌, ℕ, suc, ◌+◌, ◌<◌, ◌≤◌, List, [], ◌∷◌, ◌++◌, Option, Some, None, IsSome, IsNone, Result, Ok, Err, length, take, drop, refl, ap, sym, subst, ◌∙◌, arith, ◌⊎◌, inl, inr, append_assoc, length-append, length-take, true, false, ◌==◌, if◌then◌else◌, append-nil, take-append-drop, take_at, take_all, take-take, length-take-le, cases_order, both_ways, Family, IsOctets, NoFront, IsCut, IsFirstFault, one_fault, cut_or_fault, append_same, overlap, octets_left, octets_right, Kind, text, behind, no_list, Reason, Cut, NoType, Order, PrefixLength, Offset, Width, Length, Form, V4Form, V6Form, ListForm, form_of, Part, Ruled, Spells, IsValue, IsFrame, IsTypePlace, IsBodyPlace, IsRole, HasRole, IsValueBad, IsOpen, IsBadFrame, IsFrameBad, IsBody, Frames, IsFrameOutcome, IsFieldOutcome}
 use Rattle.fs_nlri.proofs.Bodies.{no_empty_body}
 use Rattle.fs_nlri.proofs.Fronts.{whole_front, front_behind}
 use Rattle.fs_nlri.proofs.ValueFaults.{opening}

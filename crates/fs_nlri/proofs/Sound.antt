@@ -1,10 +1,6 @@
+use Rattle.fs_nlri.proofs.Words.{ℕ, List, [], ◌∷◌, Option, Some, None, Family, Form, V4Form, V6Form, ListForm, form_of, Body, V4Body, V6Body, ListBody, Part, Ruled, AreNormal, IsNormalAt, IsNormalBody, IsRule, AreSound, IsSoundBody}
+
 -- The components of a rule are in normal form.
-use Rattle.std.proofs.Common.{ℕ, List, [], ◌∷◌, Option, Some, None}
-use Rattle.fs_base.specs.declared.prefix.Family.{Family}
-use Rattle.fs_nlri.specs.Forms.{Form, V4Form, V6Form, ListForm, form_of}
-use Rattle.fs_nlri.specs.Parts.{Body, V4Body, V6Body, ListBody, Part, Ruled}
-use Rattle.fs_nlri.specs.Rule.{AreNormal, IsNormalAt, IsNormalBody, IsRule}
-use Rattle.fs_nlri.specs.Sound.{AreSound, IsSoundBody}
 
 pub sound_body : (form : Form) (body : Body) → IsNormalBody form body → IsSoundBody body
 sound_body V4Form (V4Body family len bits) h = h

@@ -1,14 +1,6 @@
+use Rattle.fs_nlri.proofs.Words.{◌≡◌, ℕ, suc, ◌+◌, ◌<◌, ◌≤◌, inl, inr, List, [], ◌∷◌, ◌++◌, Option, Some, None, length, take, refl, ap, sym, subst, ◌∙◌, arith, length-take, append-nil, take_all, take-take, take_at, cases_lt, Family, IsOctets, Begins, NoFront, IsCut, IsFirstFault, octets_nil, octets_left, overlap, Form, form_of, Part, part, SpellsAt, Spells, IsValue, IsBody}
+
 -- The first fault of a value whose next component is wrong.
-use Rattle.std.proofs.Common.{◌≡◌, ℕ, suc, ◌+◌, ◌<◌, ◌≤◌, inl, inr, List, [], ◌∷◌, ◌++◌, Option, Some, None, length, take, refl, ap, sym, subst, ◌∙◌, arith, length-take}
-use Rattle.std.proofs.lemmas.List.{append-nil, take_all, take-take, take_at}
-use Rattle.std.proofs.lemmas.Bool.{cases_lt}
-use Rattle.fs_base.specs.declared.prefix.Family.{Family}
-use Rattle.fs_base.specs.Language.{IsOctets, Begins, NoFront, IsCut, IsFirstFault}
-use Rattle.fs_base.proofs.Octets.{octets_nil, octets_left, overlap}
-use Rattle.fs_nlri.specs.Forms.{Form, form_of}
-use Rattle.fs_nlri.specs.Parts.{Part, part}
-use Rattle.fs_nlri.specs.Spelling.{SpellsAt, Spells, IsValue}
-use Rattle.fs_nlri.specs.Body.{IsBody}
 
 -- no octets at all are a value
 empty_begins : (family : Family) (last : ℕ) → Begins (IsValue family last) []

@@ -1,20 +1,5 @@
 -- What the reader of a value has found when it stands before a type, and what follows from it at each of its ends.
-use Rattle.std.proofs.Common.{◌≡◌, ℕ, suc, ◌+◌, ◌-◌, ◌<◌, ◌≤◌, List, [], ◌∷◌, ◌++◌, Option, Some, None, IsSome, IsNone, length, get_or, take, drop, refl, ap, sym, subst, ◌∙◌, arith, append_assoc, length-append}
-use Rattle.std.proofs.lemmas.List.{append-nil, take-append-drop, take_all, take_rest, map-append}
-use Rattle.fs_base.specs.declared.prefix.Family.{Family}
-use Rattle.fs_base.specs.Language.{NoFront, IsCut, IsFirstFault}
-use Rattle.fs_base.proofs.Languages.{fault_after, cut_after}
-use Rattle.fs_nlri.specs.declared.component.Component.{Component}
-use Rattle.fs_nlri.specs.declared.fault.Reason.{Reason}
-use Rattle.fs_nlri.specs.declared.fault.Reason.TheVariants.{Cut, NoType, Order, PrefixLength, Offset, Width, Length}
-use Rattle.fs_nlri.specs.declared.fault.NlriFault.{NlriFault}
-use Rattle.fs_nlri.specs.declared.fault.NlriFault.TheVariants.{Bad, Memory}
-use Rattle.fs_nlri.specs.Forms.{Form, form_of}
-use Rattle.fs_nlri.specs.Parts.{Part}
-use Rattle.fs_nlri.specs.Component.{part_of, parts_of}
-use Rattle.fs_nlri.specs.Spelling.{SpellsAt, Spells, IsValue}
-use Rattle.fs_nlri.specs.Fault.{IsTypePlace, IsBodyPlace, IsRole, IsValueBad, IsValueFault, moved}
-use Rattle.fs_nlri.specs.Body.{IsBody, IsFaultAt}
+use Rattle.fs_nlri.proofs.Words.{◌≡◌, ℕ, suc, ◌+◌, ◌-◌, ◌<◌, ◌≤◌, List, [], ◌∷◌, ◌++◌, Option, Some, None, IsSome, IsNone, length, get_or, take, drop, refl, ap, sym, subst, ◌∙◌, arith, append_assoc, length-append, append-nil, take-append-drop, take_all, take_rest, map-append, Family, NoFront, IsCut, IsFirstFault, fault_after, cut_after, Component, Reason, Cut, NoType, Order, PrefixLength, Offset, Width, Length, NlriFault, Bad, Memory, Form, form_of, Part, part_of, parts_of, SpellsAt, Spells, IsValue, IsTypePlace, IsBodyPlace, IsRole, IsValueBad, IsValueFault, moved, IsBody, IsFaultAt}
 use Rattle.fs_nlri.proofs.Fronts.{SpellsFront, front_whole, front_more, front_behind, front_leads}
 use Rattle.fs_nlri.proofs.ValueFaults.{kind_fault, body_fault, body_cut, no_value}
 

@@ -1,17 +1,6 @@
+use Rattle.fs_nlri.proofs.Words.{◌≡◌, ℕ, zero, suc, ◌+◌, ◌-◌, ◌*◌, ◌/◌, ◌^◌, ◌<◌, ◌≤◌, List, [], ◌∷◌, ◌++◌, Option, Some, None, All, length, take, refl, ap, sym, subst, ◌∙◌, arith, length-append, div-lt_iff_lt-mul, pow-suc, pow-add, pow_pos, take_at, take-take, All-nil, All-cons, Family, block_of, block_below, Component, Form, V4Form, V6Form, ListForm, form_of, Body, V4Body, V6Body, ListBody, part_of, parts_of, IsNormalBody, IsNormalAt, AreNormal, IsWritable}
+
 -- That the components of a rule can be written, and what stays in front while they are.
-use Rattle.std.proofs.Common.{◌≡◌, ℕ, zero, suc, ◌+◌, ◌-◌, ◌*◌, ◌/◌, ◌^◌, ◌<◌, ◌≤◌, List, [], ◌∷◌, ◌++◌, Option, Some, None, All, length, take, refl, ap, sym, subst, ◌∙◌, arith, length-append}
-use Rattle.std.proofs.Math.Nat.{div-lt_iff_lt-mul, pow-suc}
-use Rattle.std.proofs.lemmas.Nat.{pow-add, pow_pos}
-use Rattle.std.proofs.lemmas.List.{take_at, take-take}
-use Rattle.std.proofs.lemmas.List.Elements.{All-nil, All-cons}
-use Rattle.fs_base.specs.declared.prefix.Family.{Family}
-use Rattle.fs_base.proofs.Blocks.{block_of, block_below}
-use Rattle.fs_nlri.specs.declared.component.Component.{Component}
-use Rattle.fs_nlri.specs.Forms.{Form, V4Form, V6Form, ListForm, form_of}
-use Rattle.fs_nlri.specs.Parts.{Body, V4Body, V6Body, ListBody}
-use Rattle.fs_nlri.specs.Component.{part_of, parts_of}
-use Rattle.fs_nlri.specs.Rule.{IsNormalBody, IsNormalAt, AreNormal}
-use Rattle.fs_nlri.specs.Writing.{IsWritable}
 
 writable_body : (form : Form) (body : Body) → IsNormalBody form body → IsWritable body
 writable_body form (ListBody pairs) normal = tt

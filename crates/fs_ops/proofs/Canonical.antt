@@ -1,13 +1,5 @@
 -- The octets that are written for a list in normal form: they say the list, and are as many as any that say it.
-use Rattle.std.proofs.Common.{◌≡◌, ℕ, suc, ◌+◌, ◌^◌, ◌<◌, ◌≤◌, ◌==◌, false, List, [], ◌∷◌, ◌++◌, length, map, bit_and, refl, ap, sym, subst, ◌∙◌, arith, Contains, length-append}
-use Rattle.std.specs.List.{AllByRecursion}
-use Rattle.std.proofs.lemmas.List.{append-nil}
-use Rattle.std.proofs.lemmas.Nat.{and_le_r, and_comm, and_assoc, and-not}
-use Rattle.std.proofs.lemmas.Bool.{eqb-true, not-false}
-use Rattle.byteorder.specs.Endian.{big_number, big_bytes}
-use Rattle.byteorder.specs.Numbers.{length-bytes_high_first, big_number-reads_back}
-use Rattle.fs_ops.specs.Operator.{Kind, Numeric, Bitmask, meant_bits, first_bits, width_code, width_of, joins}
-use Rattle.fs_ops.specs.OperatorList.{Written, octets_of, text, IsPair, IsList, said, all_said, Spells, pair_octets, canonical, IsNormalPair, AreNormal, IsNormal, first_joins}
+use Rattle.fs_ops.proofs.Words.{◌≡◌, ℕ, suc, ◌+◌, ◌^◌, ◌<◌, ◌≤◌, ◌==◌, false, List, [], ◌∷◌, ◌++◌, length, map, bit_and, refl, ap, sym, subst, ◌∙◌, arith, Contains, length-append, AllByRecursion, append-nil, and_le_r, and_comm, and_assoc, and-not, eqb-true, not-false, big_number, big_bytes, length-bytes_high_first, big_number-reads_back, Kind, Numeric, Bitmask, meant_bits, first_bits, width_code, width_of, joins, Written, octets_of, text, IsPair, IsList, said, all_said, Spells, pair_octets, canonical, IsNormalPair, AreNormal, IsNormal, first_joins}
 use Rattle.fs_ops.proofs.Normal.{first_normal, IsMask, meant_mask, first_mask, masked_width, masked_code}
 
 -- each value has one of these widths

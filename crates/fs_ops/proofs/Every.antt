@@ -1,16 +1,9 @@
 -- Each octet list has exactly one outcome as the front of an operator list: a list of so many octets, or a cut, or an operator of a bad width.
-use Rattle.std.proofs.Common.{◌≡◌, ℕ, zero, suc, ◌-◌, ◌<◌, ◌≤◌, ◌==◌, List, [], ◌∷◌, ◌++◌, length, get_or, take, drop, refl, ap, sym, ◌∙◌, arith, ◌⊎◌, inl, inr, Any, Contains, Result, Ok, Err, bit_and}
-use Rattle.std.proofs.lemmas.List.{take-append-drop, length-drop, length-take}
-use Rattle.std.proofs.lemmas.Bool.{both_ways, cases_lt, cases_Bool}
+use Rattle.fs_ops.proofs.Words.{◌≡◌, ℕ, zero, suc, ◌-◌, ◌<◌, ◌≤◌, ◌==◌, List, [], ◌∷◌, ◌++◌, length, get_or, take, drop, refl, ap, sym, ◌∙◌, arith, ◌⊎◌, inl, inr, Any, Contains, Result, Ok, Err, bit_and, take-append-drop, length-drop, length-take, both_ways, cases_lt, cases_Bool, big_number, IsOctets, Kind, counted_bits, ends, width_code, width_of, IsText, Spells, IsFault}
 use Rattle.std.proofs.lemmas.Map.Made.{is_member-Decides}
 use Rattle.std.specs.Cmp.{unsigned_Decides}
 use Rattle.std.specs.Set.{is_member}
-use Rattle.byteorder.specs.Endian.{big_number}
-use Rattle.fs_base.specs.Language.{IsOctets}
 use Rattle.fs_base.proofs.Languages.{one_fault, cut_or_fault}
-use Rattle.fs_ops.specs.Operator.{Kind, counted_bits, ends, width_code, width_of}
-use Rattle.fs_ops.specs.OperatorList.{IsText, Spells}
-use Rattle.fs_ops.specs.Fault.{IsFault}
 use Rattle.fs_ops.specs.declared.fault.OpsFault.{OpsFault}
 use Rattle.fs_ops.specs.declared.fault.OpsFault.TheVariants.{Cut, Width, Memory}
 use Rattle.fs_ops.proofs.Grammar.{same_list}

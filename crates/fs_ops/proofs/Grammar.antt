@@ -1,9 +1,6 @@
+use Rattle.fs_ops.proofs.Words.{◌≡◌, ℕ, ◌+◌, ◌≤◌, Bool, true, false, List, [], ◌∷◌, ◌++◌, length, map, refl, ap, sym, subst, ◌∙◌, arith, append_assoc, length-append, Contains, both_ways, append_same, Kind, meant_bits, first_bits, counted_bits, ends, width_code, width_of, Written, octets_of, text, IsPair, AreMiddle, IsList, said, all_said, Spells}
+
 -- Operator lists as octets: one list at most stands at the front of octets, and what reading has found so far decides the rest.
-use Rattle.std.proofs.Common.{◌≡◌, ℕ, ◌+◌, ◌≤◌, Bool, true, false, List, [], ◌∷◌, ◌++◌, length, map, refl, ap, sym, subst, ◌∙◌, arith, append_assoc, length-append, Contains}
-use Rattle.std.proofs.lemmas.Bool.{both_ways}
-use Rattle.fs_base.proofs.Octets.{append_same}
-use Rattle.fs_ops.specs.Operator.{Kind, meant_bits, first_bits, counted_bits, ends, width_code, width_of}
-use Rattle.fs_ops.specs.OperatorList.{Written, octets_of, text, IsPair, AreMiddle, IsList, said, all_said, Spells}
 
 same_pair : (a b : Written) → a.operator ≡ b.operator → a.value ≡ b.value → a ≡ b
 same_pair a b operators values =

@@ -1,9 +1,6 @@
+use Rattle.fs_ops.proofs.Words.{◌≡◌, ℕ, Bool, true, false, ◌&&◌, ◌||◌, if◌then◌else◌, List, [], ◌∷◌, refl, ap, sym, ◌∙◌, list_any, list_all, joins, first_joins, onto_group, groups_of, holds}
+
 -- That going through a list with one truth value answers whether some of its groups holds.
-use Rattle.std.proofs.Common.{◌≡◌, ℕ, Bool, true, false, ◌&&◌, ◌||◌, if◌then◌else◌, List, [], ◌∷◌, refl, ap, sym, ◌∙◌}
-use Rattle.std.specs.List.{list_any, list_all}
-use Rattle.fs_ops.specs.Operator.{joins}
-use Rattle.fs_ops.specs.OperatorList.{first_joins}
-use Rattle.fs_ops.specs.Evaluation.{onto_group, groups_of, holds}
 
 -- the answer where `all` says whether the pairs of the last group so far hold, and these pairs follow
 abbrev pub answers : (ℕ × ℕ → Bool) → Bool → List (ℕ × ℕ) → Bool

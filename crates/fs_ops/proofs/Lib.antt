@@ -1,3 +1,4 @@
+mod Words
 pub mod Canonical
 pub mod Every
 pub mod Found

@@ -1,13 +1,6 @@
+use Rattle.fs_ops.proofs.Words.{◌≡◌, ℕ, ◌/◌, ◌^◌, ◌<◌, ◌==◌, false, not, List, [], ◌∷◌, length, map, bit_and, All, refl, ap, sym, subst, ◌∙◌, arith, and_le_l, and_comm, and_shr, and_assoc, All-cons, All-nil, big_number, big_from-lt, IsOctets, octets_at, octets_left, octets_right, octets_tail, Kind, Numeric, Bitmask, meant_bits, first_bits, width_code, width_of, ends, Written, octets_of, text, IsPair, IsList, said, all_said, Spells, IsNormalPair, AreNormal, IsNormal, first_joins}
+
 -- Lists in normal form: what octets say is in it, and the octets that are written for it say it.
-use Rattle.std.proofs.Common.{◌≡◌, ℕ, ◌/◌, ◌^◌, ◌<◌, ◌==◌, false, not, List, [], ◌∷◌, length, map, bit_and, All, refl, ap, sym, subst, ◌∙◌, arith}
-use Rattle.std.proofs.lemmas.Nat.{and_le_l, and_comm, and_shr, and_assoc}
-use Rattle.std.proofs.lemmas.List.Elements.{All-cons, All-nil}
-use Rattle.byteorder.specs.Endian.{big_number}
-use Rattle.byteorder.specs.Numbers.{big_from-lt}
-use Rattle.fs_base.specs.Language.{IsOctets}
-use Rattle.fs_base.proofs.Octets.{octets_at, octets_left, octets_right, octets_tail}
-use Rattle.fs_ops.specs.Operator.{Kind, Numeric, Bitmask, meant_bits, first_bits, width_code, width_of, ends}
-use Rattle.fs_ops.specs.OperatorList.{Written, octets_of, text, IsPair, IsList, said, all_said, Spells, IsNormalPair, AreNormal, IsNormal, first_joins}
 
 abbrev pub with_bits : ℕ → ℕ × ℕ → ℕ × ℕ
 with_bits bits pair = (pair.0, bit_and pair.1 bits)

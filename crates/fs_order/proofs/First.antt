@@ -1,18 +1,6 @@
 -- The destinations decide, unless they are equal.
-use Rattle.std.proofs.Common.{◌≡◌, ℕ, ◌+◌, ◌-◌, ◌^◌, ◌<◌, List, [], ◌∷◌, refl, sym, ap, ap₂, ◌∙◌, subst, arith, Ordering, Option, Some, None, Bool, true, false, ◌==◌, if◌then◌else◌}
-use Rattle.std.specs.declared.cmp.Ordering.TheVariants.{Less, Equal, Greater}
-use Rattle.std.specs.Ordering.{nat_cmp, ordering_then}
-use Rattle.std.proofs.lemmas.Bool.Decides.{nat_tests}
-use Rattle.std.proofs.lemmas.Bool.{eqb-true}
-use Rattle.fs_base.specs.declared.prefix.Family.{Family}
-use Rattle.fs_base.specs.declared.prefix.Family.TheVariants.{V4, V6}
-use Rattle.fs_base.specs.Bits.{afi_of}
-use Rattle.fs_nlri.specs.Forms.{form_of}
-use Rattle.fs_nlri.specs.Parts.{Body, V4Body, V6Body, ListBody, Part}
-use Rattle.fs_nlri.specs.Rule.{AreNormal, IsNormalAt, destination_body, destination_in, destination_of}
+use Rattle.fs_order.proofs.Words.{◌≡◌, ℕ, ◌+◌, ◌-◌, ◌^◌, ◌<◌, List, [], ◌∷◌, refl, sym, ap, ap₂, ◌∙◌, subst, arith, Ordering, Option, Some, None, Bool, true, false, ◌==◌, if◌then◌else◌, Less, Equal, Greater, nat_cmp, ordering_then, nat_tests, eqb-true, Family, V4, V6, afi_of, form_of, Body, V4Body, V6Body, ListBody, Part, AreNormal, IsNormalAt, destination_body, destination_in, destination_of, body_cmp, part_cmp, parts_cmp, rule_cmp}
 use Rattle.fs_nlri.proofs.Destination.{destination_first}
-use Rattle.fs_order.specs.Component.{body_cmp, part_cmp}
-use Rattle.fs_order.specs.Comparison.{parts_cmp, rule_cmp}
 use Rattle.fs_order.specs.Laws.{destination_cmp, DestinationsFirst}
 
 lower : (a b : ℕ) → a < b → nat_cmp a b ≡ Less

@@ -1,3 +1,4 @@
+mod Words
 pub mod First
 pub mod Pairs
 pub mod Precede

@@ -1,20 +1,12 @@
 -- The canonical octets of two lists of pairs compare as the pairs do.
-use Rattle.std.proofs.Common.{◌≡◌, ℕ, zero, suc, ◌+◌, ◌*◌, ◌/◌, ◌%◌, ◌^◌, ◌<◌, ◌≤◌, List, [], ◌∷◌, ◌++◌, true, false, true≢false, refl, sym, ap, ap₂, ◌∙◌, subst, arith, Ordering}
-use Rattle.std.specs.declared.cmp.Ordering.TheVariants.{Less, Equal, Greater}
-use Rattle.std.specs.Ordering.{nat_cmp, ordering_then}
-use Rattle.std.specs.Cmp.Lexicographic.{slice_cmp}
-use Rattle.std.proofs.lemmas.Cmp.{ranked}
+use Rattle.fs_order.proofs.Words.{◌≡◌, ℕ, zero, suc, ◌+◌, ◌*◌, ◌/◌, ◌%◌, ◌^◌, ◌<◌, ◌≤◌, List, [], ◌∷◌, ◌++◌, true, false, true≢false, refl, sym, ap, ap₂, ◌∙◌, subst, arith, Ordering, Less, Equal, Greater, nat_cmp, ordering_then, slice_cmp, ranked, nat_tests, IsNormal, canonical, pair_octets, Body, ListBody, IsSoundBody, ended_cmp, body_cmp}
 use Rattle.std.specs.Int.{byte_at, bytes_high_first}
 use Rattle.std.proofs.Math.Nat.{mod-one, div-one, mod-eq_of_lt, pow-succ', one-le-pow, mod-lt}
 use Rattle.std.proofs.Math.Arith.{mod-mul}
-use Rattle.std.proofs.lemmas.Bool.Decides.{nat_tests}
 use Rattle.fs_base.proofs.NumberTests.{next_row}
 use Rattle.fs_ops.specs.declared.kind.Kind.{Kind}
 use Rattle.fs_ops.specs.Operator.{ends, meant_bits, width_of}
-use Rattle.fs_ops.specs.OperatorList.{AreNormal, IsNormal, canonical, pair_octets}
-use Rattle.fs_nlri.specs.Parts.{Body, ListBody}
-use Rattle.fs_nlri.specs.Sound.{IsSoundBody}
-use Rattle.fs_order.specs.Component.{ended_cmp, body_cmp}
+use Rattle.fs_ops.specs.OperatorList.{AreNormal}
 
 abbrev pub octets_cmp : List ℕ → List ℕ → Ordering
 octets_cmp = ended_cmp nat_cmp

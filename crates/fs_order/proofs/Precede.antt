@@ -1,25 +1,7 @@
 -- The order is that of the standards' words.
-use Rattle.std.proofs.Common.{◌≡◌, ℕ, ◌+◌, ◌-◌, ◌^◌, ◌<◌, ◌≤◌, ◌⊎◌, List, [], ◌∷◌, refl, sym, ap, ◌∙◌, subst, arith, inl, inr, Ordering, Option, Some, None, Bool, true}
-use Rattle.std.specs.declared.cmp.Ordering.TheVariants.{Less, Equal, Greater}
-use Rattle.std.specs.Ordering.{is_lt, nat_cmp, ordering_then}
-use Rattle.std.proofs.lemmas.Bool.{cases_lt}
-use Rattle.std.proofs.lemmas.Bool.Decides.{nat_tests}
-use Rattle.std.proofs.lemmas.Cmp.{ranked, tied_itself}
-use Rattle.std.proofs.lemmas.Nat.{pow_pos}
-use Rattle.fs_base.specs.declared.prefix.Family.{Family}
-use Rattle.fs_base.specs.declared.prefix.Family.TheVariants.{V4, V6}
-use Rattle.fs_base.specs.Bits.{afi_of, cleared}
+use Rattle.fs_order.proofs.Words.{◌≡◌, ℕ, ◌+◌, ◌-◌, ◌^◌, ◌<◌, ◌≤◌, ◌⊎◌, List, [], ◌∷◌, refl, sym, ap, ◌∙◌, subst, arith, inl, inr, Ordering, Option, Some, None, Bool, true, Less, Equal, Greater, is_lt, nat_cmp, ordering_then, cases_lt, nat_tests, ranked, tied_itself, pow_pos, Family, V4, V6, afi_of, cleared, same_family, canonical, Form, V4Form, V6Form, ListForm, form_of, Body, V4Body, V6Body, ListBody, Part, Ruled, AreNormal, IsNormalAt, IsNormalBody, IsRule, body_cmp, part_cmp, parts_cmp, rule_cmp, Before, BodyBefore, IsWithin, OctetsBefore, PartsBefore, PrefixBefore, body_total, sound_part}
 use Rattle.fs_base.proofs.Blocks.{IsBlock, block_again, block_inside, block_meeting, block_of}
-use Rattle.fs_base.proofs.Covers.{same_family}
 use Rattle.fs_base.proofs.Orderings.{less_of_is_lt}
-use Rattle.fs_ops.specs.OperatorList.{canonical}
-use Rattle.fs_nlri.specs.Forms.{Form, V4Form, V6Form, ListForm, form_of}
-use Rattle.fs_nlri.specs.Parts.{Body, V4Body, V6Body, ListBody, Part, Ruled}
-use Rattle.fs_nlri.specs.Rule.{AreNormal, IsNormalAt, IsNormalBody, IsRule}
-use Rattle.fs_order.specs.Component.{body_cmp, part_cmp}
-use Rattle.fs_order.specs.Comparison.{parts_cmp, rule_cmp, Before, BodyBefore, IsWithin, OctetsBefore, PartsBefore, PrefixBefore}
-use Rattle.fs_order.specs.Ranked.{body_total}
-use Rattle.fs_nlri.proofs.Sound.{sound_part}
 use Rattle.fs_order.proofs.Pairs.{equal_numbers, octets_cmp}
 use Rattle.fs_order.proofs.Same.{first_equal, same_body, second_equal}
 

@@ -1,20 +1,6 @@
 -- Only the same rule is equal in the order.
-use Rattle.std.proofs.Common.{◌≡◌, ℕ, ◌+◌, ◌-◌, ◌^◌, ◌<◌, ◌⊎◌, List, [], ◌∷◌, refl, sym, ap, ◌∙◌, subst, arith, inl, inr, Ordering}
-use Rattle.std.specs.declared.cmp.Ordering.TheVariants.{Less, Equal, Greater}
-use Rattle.std.specs.Ordering.{nat_cmp, ordering_then}
-use Rattle.std.specs.Cmp.Lexicographic.{slice_cmp}
-use Rattle.std.proofs.lemmas.Cmp.{tied_itself}
-use Rattle.std.proofs.lemmas.Nat.{pow_pos}
-use Rattle.fs_base.specs.Bits.{afi_of}
-use Rattle.fs_base.proofs.Covers.{same_family}
-use Rattle.fs_nlri.specs.Parts.{Body, V4Body, V6Body, ListBody, Part, Ruled}
-use Rattle.fs_nlri.specs.Rule.{IsRule}
+use Rattle.fs_order.proofs.Words.{◌≡◌, ℕ, ◌+◌, ◌-◌, ◌^◌, ◌<◌, ◌⊎◌, List, [], ◌∷◌, refl, sym, ap, ◌∙◌, subst, arith, inl, inr, Ordering, Less, Equal, Greater, nat_cmp, ordering_then, slice_cmp, tied_itself, pow_pos, afi_of, same_family, Body, V4Body, V6Body, ListBody, Part, Ruled, IsRule, body_cmp, part_cmp, parts_cmp, rule_cmp, AreSound, IsSoundBody, rule_total, rule_sound}
 use Rattle.fs_nlri.specs.Spelling.{IsRange}
-use Rattle.fs_order.specs.Component.{body_cmp, part_cmp}
-use Rattle.fs_order.specs.Comparison.{parts_cmp, rule_cmp}
-use Rattle.fs_nlri.specs.Sound.{AreSound, IsSoundBody}
-use Rattle.fs_order.specs.Ranked.{rule_total}
-use Rattle.fs_nlri.proofs.Sound.{rule_sound}
 use Rattle.fs_nlri.proofs.Fronts.{same_part}
 use Rattle.fs_order.proofs.Pairs.{equal_numbers, pair_cmp, pairs_compared}
 

@@ -1,11 +1,7 @@
 -- Components are compared one by one.
-use Rattle.std.proofs.Common.{◌≡◌, ℕ, ◌≤◌, List, [], ◌∷◌, length, drop, sym, ap, ◌∙◌, ◌==◌, false, true≢false}
-use Rattle.std.specs.declared.cmp.Ordering.TheVariants.{Greater}
+use Rattle.fs_order.proofs.Words.{◌≡◌, ℕ, ◌≤◌, List, [], ◌∷◌, length, drop, sym, ap, ◌∙◌, ◌==◌, false, true≢false, Greater, parts_of, parts_cmp, AreSound}
 use Rattle.std.proofs.Math.ListN.{drop_of_length-le}
 use Rattle.fs_nlri.specs.declared.component.Component.{Component}
-use Rattle.fs_nlri.specs.Component.{parts_of}
-use Rattle.fs_order.specs.Comparison.{parts_cmp}
-use Rattle.fs_nlri.specs.Sound.{AreSound}
 
 -- the components before the index are equal to those before the rest
 pub record Comparing (a b : List Component) (index : ℕ) (rest : List Component) : Type 0 where

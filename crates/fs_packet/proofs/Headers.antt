@@ -1,14 +1,6 @@
 -- The tests of a network header, one by one.
-use Rattle.std.proofs.Common.{◌≡◌, ℕ, ◌/◌, ◌<◌, ◌≤◌, List, length, drop, slice_index, Option, Some, Ok, Err, sym, subst, ◌∙◌, arith, false, not, ◌==◌, ◌&&◌, if◌then◌else◌}
-use Rattle.std.proofs.lemmas.Bool.Decides.{nat_tests}
-use Rattle.std.proofs.lemmas.Bool.{le-ltb}
-use Rattle.fs_base.specs.declared.prefix.Family.TheVariants.{V4, V6}
+use Rattle.fs_packet.proofs.Words.{◌≡◌, ℕ, ◌/◌, ◌<◌, ◌≤◌, List, length, drop, slice_index, Option, Some, Ok, Err, sym, subst, ◌∙◌, arith, false, not, ◌==◌, ◌&&◌, if◌then◌else◌, nat_tests, le-ltb, V4, V6, number_at, last_field, protocol_at, viewed, v4_fragment, v4_size, v4_transport, v4_view, v6_chain, v6_fragment, v6_length, v6_view, Short, Version, Header, Length}
 use Rattle.fs_base.proofs.NumberTests.{not_zero}
-use Rattle.fs_packet.specs.Fields.{number_at}
-use Rattle.fs_packet.specs.Chain.{last_field, protocol_at}
-use Rattle.fs_packet.specs.Fields.{viewed}
-use Rattle.fs_packet.specs.Reading.{v4_fragment, v4_size, v4_transport, v4_view, v6_chain, v6_fragment, v6_length, v6_view}
-use Rattle.fs_packet.specs.declared.fields.Unread.TheVariants.{Short, Version, Header, Length}
 
 same_number : (a b : ℕ) → a ≡ b → not (a == b) ≡ false
 same_number a b h = grind (arith, nat_tests)

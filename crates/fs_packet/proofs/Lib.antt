@@ -1,3 +1,4 @@
+mod Words
 pub mod Flags
 pub mod Matched
 pub mod Tags

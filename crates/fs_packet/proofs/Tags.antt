@@ -1,9 +1,6 @@
+use Rattle.fs_packet.proofs.Words.{◌≡◌, ℕ, zero, suc, ◌+◌, ◌-◌, ◌*◌, ◌<◌, ◌≤◌, List, length, Err, sym, ◌∙◌, arith, true, false, Bool, nat_lt, if◌then◌else◌, le-ltb, number_at, behind_tags, behind_type, is_tag, Short}
+
 -- One tag more of an Ethernet header.
-use Rattle.std.proofs.Common.{◌≡◌, ℕ, zero, suc, ◌+◌, ◌-◌, ◌*◌, ◌<◌, ◌≤◌, List, length, Err, sym, ◌∙◌, arith, true, false, Bool, nat_lt, if◌then◌else◌}
-use Rattle.std.proofs.lemmas.Bool.{le-ltb}
-use Rattle.fs_packet.specs.Fields.{number_at}
-use Rattle.fs_packet.specs.Reading.{behind_tags, behind_type, is_tag}
-use Rattle.fs_packet.specs.declared.fields.Unread.TheVariants.{Short}
 
 -- what is left gives what the whole gives
 pub record Tagged (octets : List ℕ) (tags place : ℕ) : Type 0 where

@@ -1,3 +1,4 @@
+mod Words
 pub mod Headings
 pub mod Packets
 pub mod ReadsBack

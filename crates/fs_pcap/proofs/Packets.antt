@@ -1,23 +1,8 @@
 -- What a record says, exactly where its octets are its packet's text.
-use Rattle.std.proofs.Common.{◌≡◌, ℕ, List, [], ◌∷◌, ◌++◌, Bool, true, false, ◌<◌, ◌≤◌, ◌+◌, ◌^◌, length, take, drop, refl, ap, sym, subst, ◌∙◌, arith, append-nil, append_assoc, length-append, take-append-drop}
-use Rattle.std.specs.Prelude.{flat_map, max, nat_le, nat_lt, if◌then◌else◌}
-use Rattle.std.proofs.lemmas.List.{drop-drop, drop_at, length-drop, length-take, take_at}
-use Rattle.std.proofs.lemmas.Bool.Decides.{nat_tests}
-use Rattle.std.proofs.lemmas.Grind.{common_steps}
-use Rattle.fs_base.specs.Language.{IsOctets}
-use Rattle.fs_base.proofs.Octets.{octets_drop, octets_take}
+use Rattle.fs_pcap.proofs.Words.{◌≡◌, ℕ, List, [], ◌∷◌, ◌++◌, Bool, true, false, ◌<◌, ◌≤◌, ◌+◌, ◌^◌, length, take, drop, refl, ap, sym, subst, ◌∙◌, arith, append-nil, append_assoc, length-append, take-append-drop, flat_map, max, nat_le, nat_lt, if◌then◌else◌, drop-drop, drop_at, length-drop, length-take, take_at, nat_tests, common_steps, IsOctets, octets_drop, octets_take, first_record, Whole, Wrong, Partial, record_found, Captured, packet_of, records, Fits, after, octets_of, packet_text, stands, number, time_of, RecordTooLong, Context, Endian}
 use Rattle.fs_input.specs.Parts.{At, ReadsText, SpellsText, text_from}
-use Rattle.fs_input.specs.Records.{first_record}
-use Rattle.fs_input.specs.declared.head.Head.TheVariants.{Whole, Wrong, Partial}
-use Rattle.fs_input.proofs.Records.{record_found}
-use Rattle.fs_pcap.specs.Capture.{Captured, packet_of, records}
 use Rattle.fs_pcap.specs.Head.{head_of, said_in}
-use Rattle.fs_pcap.specs.Laws.{Fits, after, octets_of, packet_text, stands}
-use Rattle.fs_pcap.specs.Order.{number, time_of}
-use Rattle.fs_pcap.specs.declared.fault.CaptureReason.TheVariants.{RecordTooLong}
 use Rattle.fs_pcap.specs.declared.head.Said.{Said}
-use Rattle.fs_pcap.specs.declared.head.Context.{Context}
-use Rattle.fs_pcap.specs.declared.order.Endian.{Endian}
 use Rattle.fs_pcap.specs.declared.order.Unit.{Unit as FractionUnit}
 use Rattle.fs_pcap.proofs.Headings.{number_below, number_read, number_written, octets_count}
 

@@ -1,25 +1,6 @@
 -- A capture is done exactly where it is the text of its packets, behind a header.
-use Rattle.std.proofs.Common.{◌≡◌, ℕ, List, [], ◌++◌, Some, None, Result, Ok, Err, Bool, ◌<◌, ◌≤◌, length, take, drop, refl, ap, sym, subst, ◌∙◌, arith, length-append, take-append-drop}
-use Rattle.std.specs.Prelude.{nat_le, flat_map}
-use Rattle.std.proofs.lemmas.List.{drop_at, length-drop, length-take, take-take, take_at}
-use Rattle.fs_base.specs.Language.{IsOctets}
-use Rattle.fs_base.proofs.Octets.{octets_drop, octets_take}
-use Rattle.fs_input.specs.Opening.{opened_by}
-use Rattle.fs_input.specs.Records.{End, done}
-use Rattle.fs_input.specs.declared.head.Head.TheVariants.{Partial}
-use Rattle.fs_input.proofs.Fronts.{opened_whole}
+use Rattle.fs_pcap.proofs.Words.{◌≡◌, ℕ, List, [], ◌++◌, Some, None, Result, Ok, Err, Bool, ◌<◌, ◌≤◌, length, take, drop, refl, ap, sym, subst, ◌∙◌, arith, length-append, take-append-drop, nat_le, flat_map, drop_at, length-drop, length-take, take-take, take_at, IsOctets, octets_drop, octets_take, opened_by, End, done, Partial, opened_whole, HasHead, Captured, Recorded, capture_of, heading_of, packets_to_come, recorded, records, header_of, Fits, HeaderWords, IsCaptureOf, IsHeaderOf, ReadsBack, after, header_text, packet_text, stands, CaptureReason, Cut, Context, Heading, Link, Endian, Big, Little}
 use Rattle.fs_input.proofs.Done.{all_taken, done_text, text_done}
-use Rattle.fs_input.proofs.Records.{HasHead}
-use Rattle.fs_pcap.specs.Capture.{Captured, Recorded, capture_of, heading_of, packets_to_come, recorded, records}
-use Rattle.fs_pcap.specs.Header.{header_of}
-use Rattle.fs_pcap.specs.Laws.{Fits, HeaderWords, IsCaptureOf, IsHeaderOf, ReadsBack, after, header_text, packet_text, stands}
-use Rattle.fs_pcap.specs.declared.fault.CaptureReason.{CaptureReason}
-use Rattle.fs_pcap.specs.declared.fault.CaptureReason.TheVariants.{Cut}
-use Rattle.fs_pcap.specs.declared.head.Context.{Context}
-use Rattle.fs_pcap.specs.declared.header.Heading.{Heading}
-use Rattle.fs_base.specs.declared.link.Link.{Link}
-use Rattle.fs_pcap.specs.declared.order.Endian.{Endian}
-use Rattle.fs_pcap.specs.declared.order.Endian.TheVariants.{Big, Little}
 use Rattle.fs_pcap.specs.declared.order.Unit.{Unit as FractionUnit}
 use Rattle.fs_pcap.proofs.Headings.{IsHeading, header_read, header_size, heading_known, heading_told, heading_written}
 use Rattle.fs_pcap.proofs.Packets.{packet_read, packet_spelled, texts}

@@ -1,27 +1,7 @@
 -- The body of a block, and what it gives.
-use Rattle.std.proofs.Common.{◌≡◌, ◌≢◌, ℕ, List, Bool, true, false, Option, Some, None, Result, Ok, Err, ◌≤◌, ◌+◌, ◌==◌, drop, length, ap, sym, ◌∙◌, arith}
-use Rattle.std.specs.Prelude.{if◌then◌else◌, nat_lt, slice_get}
+use Rattle.fs_pcapng.proofs.Words.{◌≡◌, ◌≢◌, ℕ, List, Bool, true, false, Option, Some, None, Result, Ok, Err, ◌≤◌, ◌+◌, ◌==◌, drop, length, ap, sym, ◌∙◌, arith, if◌then◌else◌, nat_lt, slice_get, nat_tests, big_number, Counted, number, Endian, Calls, Reads, Scanner, and, field, gives, gives_for, reads_as, reads_ends, reads_then, Packet, Stands, behind_packet, body_in, cut_to, described_in, fitting, kind_behind, octets_in, opened, packet, plain_in, section_in, simple_behind, simple_by, simple_in, with_interface, padded, Fault, seen_from, Kind, Described, NgReason, Cut, TooMany, Frame, needs_true, Interface}
 use Rattle.std.specs.Option.{option_map}
-use Rattle.std.proofs.lemmas.Bool.Decides.{nat_tests}
-use Rattle.byteorder.specs.Endian.{big_number}
-use Rattle.fs_base.specs.declared.counted.Counted.{Counted}
-use Rattle.fs_pcap.specs.Order.{number}
-use Rattle.fs_pcap.specs.declared.order.Endian.{Endian}
-use Rattle.fs_input.specs.Reads.{Calls, Reads}
-use Rattle.fs_input.specs.Scan.{Scanner, and, field, gives}
-use Rattle.fs_input.proofs.Lifting.{gives_for, reads_as, reads_ends, reads_then}
-use Rattle.fs_pcapng.specs.Block.{Packet, Stands, behind_packet, body_in, cut_to, described_in, fitting, kind_behind, octets_in, opened, packet, plain_in, section_in, simple_behind, simple_by, simple_in, with_interface}
-use Rattle.fs_pcapng.specs.Options.{padded}
-use Rattle.fs_input.specs.declared.fault.Fault.{Fault}
-use Rattle.fs_pcapng.specs.Pcapng.{seen_from}
-use Rattle.fs_pcapng.specs.declared.block.Kind.{Kind}
-use Rattle.fs_pcapng.specs.declared.block.Kind.TheVariants.{Described}
 use Rattle.fs_pcapng.specs.declared.caught.Seen.{Seen}
-use Rattle.fs_pcapng.specs.declared.fault.NgReason.{NgReason}
-use Rattle.fs_pcapng.specs.declared.fault.NgReason.TheVariants.{Cut, TooMany}
-use Rattle.fs_pcapng.specs.declared.fields.Frame.{Frame}
-use Rattle.fs_input.proofs.Joining.{needs_true}
-use Rattle.fs_pcapng.specs.declared.section.Interface.{Interface}
 use Rattle.fs_pcapng.proofs.Fitting.{fits}
 
 -- a section header, or a block that is none

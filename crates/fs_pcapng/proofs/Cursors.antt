@@ -1,17 +1,6 @@
+use Rattle.fs_pcapng.proofs.Words.{◌≡◌, ℕ, suc, zero, List, Bool, true, false, Option, Ok, Err, ◌<◌, ◌≤◌, ◌+◌, ◌==◌, refl, subst, arith, nat_tests, Counted, Endian, Fault, Calls, Reads, and, gives, reads_ends, reads_gives, Going, going_more, going_start, going_then, option_in, options_in, cursor, NgReason, Cut, Cursor}
+
 -- The options of an interface, walked one by one.
-use Rattle.std.proofs.Common.{◌≡◌, ℕ, suc, zero, List, Bool, true, false, Option, Ok, Err, ◌<◌, ◌≤◌, ◌+◌, ◌==◌, refl, subst, arith}
-use Rattle.std.proofs.lemmas.Bool.Decides.{nat_tests}
-use Rattle.fs_base.specs.declared.counted.Counted.{Counted}
-use Rattle.fs_pcap.specs.declared.order.Endian.{Endian}
-use Rattle.fs_input.specs.declared.fault.Fault.{Fault}
-use Rattle.fs_input.specs.Reads.{Calls, Reads}
-use Rattle.fs_input.specs.Scan.{and, gives}
-use Rattle.fs_input.proofs.Lifting.{reads_ends, reads_gives}
-use Rattle.fs_input.proofs.Stages.{Going, going_more, going_start, going_then}
-use Rattle.fs_pcapng.specs.Options.{option_in, options_in, cursor}
-use Rattle.fs_pcapng.specs.declared.fault.NgReason.{NgReason}
-use Rattle.fs_pcapng.specs.declared.fault.NgReason.TheVariants.{Cut}
-use Rattle.fs_pcapng.specs.declared.options.Cursor.{Cursor}
 
 record Step (order : Endian) (fuel : ℕ) (now : Cursor) : Type 0 where
   pub later : ℕ

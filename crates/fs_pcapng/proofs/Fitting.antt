@@ -1,16 +1,6 @@
+use Rattle.fs_pcapng.proofs.Words.{◌≡◌, ℕ, List, ◌≤◌, ◌<◌, ◌+◌, take, drop, length, refl, subst, arith, length-drop, take_all, le_true, number, Endian, Scanner, fails, fitting, option_behind, padded, value_in, NgReason, Length, Frame, Cursor}
+
 -- What a packet's block tells, passed field by field.
-use Rattle.std.proofs.Common.{◌≡◌, ℕ, List, ◌≤◌, ◌<◌, ◌+◌, take, drop, length, refl, subst, arith}
-use Rattle.std.proofs.lemmas.List.{length-drop, take_all}
-use Rattle.fs_base.proofs.NumberTests.{le_true}
-use Rattle.fs_pcap.specs.Order.{number}
-use Rattle.fs_pcap.specs.declared.order.Endian.{Endian}
-use Rattle.fs_input.specs.Scan.{Scanner, fails}
-use Rattle.fs_pcapng.specs.Block.{fitting}
-use Rattle.fs_pcapng.specs.Options.{option_behind, padded, value_in}
-use Rattle.fs_pcapng.specs.declared.fault.NgReason.{NgReason}
-use Rattle.fs_pcapng.specs.declared.fault.NgReason.TheVariants.{Length}
-use Rattle.fs_pcapng.specs.declared.fields.Frame.{Frame}
-use Rattle.fs_pcapng.specs.declared.options.Cursor.{Cursor}
 
 -- a number that is read of what stands behind the first octets, all that is left
 pub behind_all : (n m : ℕ) (octets : List ℕ) → length octets ≤ n + m → take m (drop n octets) ≡ drop n octets

@@ -1,3 +1,4 @@
+mod Words
 pub mod Dividing
 pub mod Cursors
 pub mod Fitting

@@ -1,16 +1,6 @@
 -- A packet's octets, what else its block holds and the total length again, taken as one field.
-use Rattle.std.proofs.Common.{◌≡◌, ◌≢◌, ◌+◌, ◌-◌, ◌==◌, ℕ, List, Bool, true, false, length, take, drop, refl, ap, sym, ◌∙◌, arith}
-use Rattle.std.specs.Prelude.{nat_le}
-use Rattle.std.proofs.lemmas.Bool.Decides.{nat_tests}
-use Rattle.std.proofs.lemmas.List.{drop-take, length-drop, take-take}
+use Rattle.fs_pcapng.proofs.Words.{◌≡◌, ◌≢◌, ◌+◌, ◌-◌, ◌==◌, ℕ, List, Bool, true, false, length, take, drop, refl, ap, sym, ◌∙◌, arith, nat_le, nat_tests, drop-take, length-drop, take-take, number, whole, Scanner, and, and_then, behind, field, gives, got, needs, partial, end_in, NgReason, Length, Frame}
 use Rattle.std.proofs.lemmas.Grind.{common_steps}
-use Rattle.fs_pcap.specs.Order.{number}
-use Rattle.fs_input.specs.Reads.{whole}
-use Rattle.fs_input.specs.Scan.{Scanner, and, and_then, behind, field, gives, got, needs, partial}
-use Rattle.fs_pcapng.specs.Block.{end_in}
-use Rattle.fs_pcapng.specs.declared.fault.NgReason.{NgReason}
-use Rattle.fs_pcapng.specs.declared.fault.NgReason.TheVariants.{Length}
-use Rattle.fs_pcapng.specs.declared.fields.Frame.{Frame}
 
 -- what the octets of all three say
 abbrev pub closing : Frame → (captured rest : ℕ) → List ℕ → Scanner (List ℕ) NgReason

@@ -1,28 +1,11 @@
 -- The first block of a capture, octets of which may have been put back.
-use Rattle.std.proofs.Common.{◌≡◌, ◌≢◌, inl, inr, ℕ, List, [], ◌++◌, Bool, true, false, Option, Some, None, Result, Ok, Err, IsTrue, ◌<◌, ◌≤◌, ◌==◌, ◌&&◌, not, length, take, refl, ap, sym, ◌∙◌, subst, arith}
-use Rattle.std.specs.Prelude.{if◌then◌else◌, nat_le, unwrap_or}
-use Rattle.std.proofs.lemmas.Bool.Decides.{nat_tests}
+use Rattle.fs_pcapng.proofs.Words.{◌≡◌, ◌≢◌, inl, inr, ℕ, List, [], ◌++◌, Bool, true, false, Option, Some, None, Result, Ok, Err, IsTrue, ◌<◌, ◌≤◌, ◌==◌, ◌&&◌, not, length, take, refl, ap, sym, ◌∙◌, subst, arith, if◌then◌else◌, nat_le, unwrap_or, nat_tests, at_limit, window, Counted, End, bad, done, limited, Fault, Read, Limit, Bad, only_told, Calls, Fails, HasMore, Reads, ahead, end_of, ends_by, whole, and, and_then, field, gives, got, partial, gives_for, reads_as, reads_ends, reads_then, big_number, Endian, Packet, Stands, block_in, kind_behind, opened, section_in, nothing, packets_to_come, pcapng_of, NgReason, Cut}
 use Rattle.fs_base.specs.Files.{LeavesOthers}
-use Rattle.fs_base.specs.Parts.{at_limit, window}
-use Rattle.fs_base.specs.declared.counted.Counted.{Counted}
-use Rattle.fs_input.specs.Records.{End, bad, done, limited}
-use Rattle.fs_input.specs.declared.fault.Fault.{Fault}
-use Rattle.fs_input.specs.declared.fault.Fault.TheVariants.{Read, Limit, Bad}
-use Rattle.fs_input.specs.Coming.{only_told}
-use Rattle.fs_input.specs.Reads.{Calls, Fails, HasMore, Reads, ahead, end_of, ends_by, whole}
-use Rattle.fs_input.specs.Scan.{and, and_then, field, gives, got, partial}
-use Rattle.fs_input.proofs.Lifting.{gives_for, reads_as, reads_ends, reads_then}
-use Rattle.byteorder.specs.Endian.{big_number}
-use Rattle.fs_pcap.specs.declared.order.Endian.{Endian}
 use Rattle.fs_pcapng.proofs.Bodies.{header_kind}
 use Rattle.fs_input.proofs.Advancing.{part_advances}
 use Rattle.fs_input.proofs.Again.{ahead_here, ahead_other, nothing_ahead, reads_ahead}
 use Rattle.fs_input.proofs.Coming.{end_comes}
-use Rattle.fs_pcapng.specs.Block.{Packet, Stands, block_in, kind_behind, opened, section_in}
 use Rattle.fs_input.specs.Opening.{Begins}
-use Rattle.fs_pcapng.specs.Pcapng.{nothing, packets_to_come, pcapng_of}
-use Rattle.fs_pcapng.specs.declared.fault.NgReason.{NgReason}
-use Rattle.fs_pcapng.specs.declared.fault.NgReason.TheVariants.{Cut}
 use Rattle.fs_pcapng.proofs.Spelled.{block_takes}
 
 module _ (limit : ℕ) (content : List ℕ) where

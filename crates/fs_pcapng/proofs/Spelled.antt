@@ -1,32 +1,10 @@
 -- Blocks as they stand in a capture: what is read is spelled so.
-use Rattle.std.proofs.Common.{◌≡◌, ℕ, zero, suc, List, [], ◌∷◌, ◌++◌, Option, Some, None, Bool, true, false, ◌<◌, ◌≤◌, ◌+◌, ◌-◌, ◌*◌, ◌%◌, ◌==◌, ◌&&◌, max, length, drop, refl, ap, sym, subst, ◌∙◌, arith, append-nil, append_assoc, length-append}
-use Rattle.std.specs.Prelude.{if◌then◌else◌, flat_map, nat_le, nat_lt, slice_get, slice_index}
-use Rattle.std.specs.List.{AllByRecursion}
-use Rattle.std.proofs.lemmas.List.{drop_at}
-use Rattle.std.proofs.lemmas.Bool.Decides.{nat_tests}
+use Rattle.fs_pcapng.proofs.Words.{◌≡◌, ℕ, zero, suc, List, [], ◌∷◌, ◌++◌, Option, Some, None, Bool, true, false, ◌<◌, ◌≤◌, ◌+◌, ◌-◌, ◌*◌, ◌%◌, ◌==◌, ◌&&◌, max, length, drop, refl, ap, sym, subst, ◌∙◌, arith, append-nil, append_assoc, length-append, if◌then◌else◌, flat_map, nat_le, nat_lt, slice_get, slice_index, AllByRecursion, drop_at, nat_tests, big_number, longest_record, number, Endian, Takes, whole, Scanner, and, field, gives, needs, skips, Part, Spells, and_spells, cut_at, fails_spells, field_reads, field_spells, gives_spells, map_reads, map_spells, needs_spells, part_spells, skips_reads, skips_spells, weaker_spells, IsSpelled, spelled_takes, Packet, Stands, allows, behind_packet, block_in, body_in, close_in, cut_to, described_behind, described_in, end_in, enhanced_in, fitting, frame_of, kind_behind, kind_of, least_of, magic_behind, octets_in, opened, order_of, ordered_in, original_in, packet, plain_in, section_header, section_in, simple_behind, simple_by, simple_in, timed_behind, timed_in, total_behind, version_in, with_interface, cursor, option_behind, option_in, options_in, padded, unit_in, value_in, time_of, Block, Choice, Description, Fits, IsBlock, IsChoice, IsPlain, Outer, Record, Section, Short, Written, block_gives, block_text, body_text, choice_text, described, enhanced, gives_by, packet_of, section, short_of, simple, skipped, unit_behind, unit_of, Kind, Described, Enhanced, Simple, Other, NgReason, Length, Magic, RecordTooLong, TooMany, Version, Frame, Cursor, Interface}
 use Rattle.fs_base.proofs.Bools.{and_parts}
-use Rattle.byteorder.specs.Endian.{big_number}
 use Rattle.byteorder.specs.Numbers.{big_from-append, little_from-append}
-use Rattle.fs_pcap.specs.Head.{longest_record}
-use Rattle.fs_pcap.specs.Order.{number}
-use Rattle.fs_pcap.specs.declared.order.Endian.{Endian}
 use Rattle.fs_pcap.specs.declared.order.Endian.TheVariants.{Big, Little}
-use Rattle.fs_input.specs.Coming.{Takes}
-use Rattle.fs_input.specs.Reads.{whole}
-use Rattle.fs_input.specs.Scan.{Scanner, and, field, gives, needs, skips}
-use Rattle.fs_input.proofs.Spelling.{Part, Reads, Spells, and_spells, cut_at, fails_spells, field_reads, field_spells, gives_spells, map_reads, map_spells, needs_spells, part_spells, skips_reads, skips_spells, weaker_spells}
-use Rattle.fs_input.proofs.Written.{IsSpelled, spelled_takes}
-use Rattle.fs_pcapng.specs.Block.{Packet, Stands, allows, behind_packet, block_in, body_in, close_in, cut_to, described_behind, described_in, end_in, enhanced_in, fitting, frame_of, kind_behind, kind_of, least_of, magic_behind, octets_in, opened, order_of, ordered_in, original_in, packet, plain_in, section_header, section_in, simple_behind, simple_by, simple_in, timed_behind, timed_in, total_behind, version_in, with_interface}
-use Rattle.fs_pcapng.specs.Options.{cursor, option_behind, option_in, options_in, padded, unit_in, value_in}
-use Rattle.fs_pcapng.specs.Time.{time_of}
-use Rattle.fs_pcapng.specs.Written.{Block, Choice, Description, Fits, IsBlock, IsChoice, IsPlain, Outer, Record, Section, Short, Written, block_gives, block_text, body_text, choice_text, described, enhanced, gives_by, packet_of, section, short_of, simple, skipped, unit_behind, unit_of}
-use Rattle.fs_pcapng.specs.declared.block.Kind.{Kind}
-use Rattle.fs_pcapng.specs.declared.block.Kind.TheVariants.{Described, Enhanced, Simple, Other}
-use Rattle.fs_pcapng.specs.declared.fault.NgReason.{NgReason}
-use Rattle.fs_pcapng.specs.declared.fault.NgReason.TheVariants.{Length, Magic, RecordTooLong, TooMany, Version, Interface as WrongInterface}
-use Rattle.fs_pcapng.specs.declared.fields.Frame.{Frame}
-use Rattle.fs_pcapng.specs.declared.options.Cursor.{Cursor}
-use Rattle.fs_pcapng.specs.declared.section.Interface.{Interface}
+use Rattle.fs_input.proofs.Spelling.{Reads}
+use Rattle.fs_pcapng.specs.declared.fault.NgReason.TheVariants.{Interface as WrongInterface}
 
 -- octets in three parts
 record CutTwice (n m : ℕ) (octets : List ℕ) : Type 0 where

@@ -1,29 +1,12 @@
 -- What stands before an enhanced packet's octets, judged as a chain of its own.
-use Rattle.std.proofs.Common.{◌≡◌, ℕ, List, Bool, true, false, Option, Some, None, ◌≤◌, ◌+◌, ◌*◌, max, length, take, drop, refl, ap, sym, ◌∙◌, subst, arith}
-use Rattle.std.specs.Prelude.{IfErr, nat_le, slice_get}
-use Rattle.std.proofs.lemmas.List.{drop-drop}
-use Rattle.fs_pcap.specs.Order.{number}
+use Rattle.fs_pcapng.proofs.Words.{◌≡◌, ℕ, List, Bool, true, false, Option, Some, None, ◌≤◌, ◌+◌, ◌*◌, max, length, take, drop, refl, ap, sym, ◌∙◌, subst, arith, IfErr, nat_le, slice_get, drop-drop, number, window, le_true, Read, scan_of, settled, Scanned, whole, Scan, Scanner, and, and_then, behind, field, gives, got, needs, partial, wrong, behind_more, behind_none, Packet, Stands, enhanced_in, fitting, octets_in, original_in, packet, timed_behind, timed_in, told_behind, told_by, told_in, told_of, told_timed, padded, time_of, NgReason, Cut, Length, RecordTooLong, Frame, Interface}
 use Rattle.fs_base.specs.Filling.{Fills}
-use Rattle.fs_base.specs.Parts.{window}
-use Rattle.fs_base.proofs.NumberTests.{le_true}
-use Rattle.fs_input.specs.declared.fault.Fault.TheVariants.{Read}
-use Rattle.fs_input.specs.Judging.{scan_of, settled}
-use Rattle.fs_input.specs.Reads.{Scanned, whole}
-use Rattle.fs_input.specs.Scan.{Scan, Scanner, and, and_then, behind, field, gives, got, needs, partial, wrong}
 use Rattle.fs_input.specs.declared.judging.Judged.{Judged}
 use Rattle.fs_input.specs.declared.judging.Judged.TheVariants.{Whole, Wrong, Partial}
 use Rattle.fs_input.proofs.Fixed.{IsFixed, and_fixed, fails_fixed, field_fixed, gives_fixed, judged_reads, needs_fixed}
-use Rattle.fs_input.proofs.Stages.{behind_more, behind_none}
 use Rattle.fs_input.proofs.CutShort.{short_reads}
-use Rattle.fs_pcapng.specs.Block.{Packet, Stands, enhanced_in, fitting, octets_in, original_in, packet, timed_behind, timed_in}
-use Rattle.fs_pcapng.specs.Packets.{told_behind, told_by, told_in, told_of, told_timed}
-use Rattle.fs_pcapng.specs.Options.{padded}
-use Rattle.fs_pcapng.specs.Time.{time_of}
-use Rattle.fs_pcapng.specs.declared.fault.NgReason.{NgReason}
-use Rattle.fs_pcapng.specs.declared.fault.NgReason.TheVariants.{Cut, Length, RecordTooLong, Interface as WrongInterface}
-use Rattle.fs_pcapng.specs.declared.fields.Frame.{Frame}
+use Rattle.fs_pcapng.specs.declared.fault.NgReason.TheVariants.{Interface as WrongInterface}
 use Rattle.fs_pcapng.specs.declared.packets.Told.{Told}
-use Rattle.fs_pcapng.specs.declared.section.Interface.{Interface}
 
 -- chains in chains
 

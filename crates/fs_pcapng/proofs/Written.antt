@@ -1,33 +1,7 @@
 -- Blocks as they stand in a capture: what was written is read, and no other octets are.
-use Rattle.std.proofs.Common.{◌≡◌, ℕ, zero, suc, List, [], ◌∷◌, ◌++◌, Option, Some, None, Bool, true, false, ◌<◌, ◌≤◌, ◌+◌, ◌-◌, ◌*◌, ◌%◌, ◌==◌, ◌&&◌, not, max, length, drop, refl, ap, sym, subst, ◌∙◌, ◌↔◌, arith, append-nil, append_assoc, length-append}
-use Rattle.std.specs.Prelude.{if◌then◌else◌, flat_map, nat_le, nat_lt, slice_get, slice_index}
-use Rattle.std.specs.List.{AllByRecursion}
-use Rattle.std.proofs.lemmas.List.{drop_at, length-take}
-use Rattle.std.proofs.lemmas.Bool.Decides.{nat_tests}
-use Rattle.byteorder.specs.Endian.{big_number}
-use Rattle.fs_base.specs.Parts.{at_limit, window}
-use Rattle.fs_pcap.specs.Head.{longest_record}
-use Rattle.fs_pcap.specs.Order.{number}
-use Rattle.fs_pcap.specs.declared.order.Endian.{Endian}
-use Rattle.fs_input.specs.Records.{End, bad, done}
-use Rattle.fs_input.specs.Coming.{IsTextOf}
-use Rattle.fs_input.specs.Reads.{whole}
-use Rattle.fs_input.specs.Scan.{Scanner, and, field, gives, needs, skips}
-use Rattle.fs_input.proofs.Spelling.{Reads, and_reads, field_reads, gives_reads, map_reads, needs_reads, skips_reads}
-use Rattle.fs_input.proofs.Written.{told_text}
-use Rattle.fs_pcapng.specs.Block.{Packet, Stands, allows, behind_packet, block_in, body_in, close_in, cut_to, described_behind, described_in, end_in, enhanced_in, fitting, frame_of, kind_behind, kind_of, least_of, magic_behind, octets_in, opened, order_of, ordered_in, original_in, packet, plain_in, section_header, section_in, simple_behind, simple_by, simple_in, timed_behind, timed_in, total_behind, version_in, with_interface}
+use Rattle.fs_pcapng.proofs.Words.{◌≡◌, ℕ, zero, suc, List, [], ◌∷◌, ◌++◌, Option, Some, None, Bool, true, false, ◌<◌, ◌≤◌, ◌+◌, ◌-◌, ◌*◌, ◌%◌, ◌==◌, ◌&&◌, not, max, length, drop, refl, ap, sym, subst, ◌∙◌, ◌↔◌, arith, append-nil, append_assoc, length-append, if◌then◌else◌, flat_map, nat_le, nat_lt, slice_get, slice_index, AllByRecursion, drop_at, length-take, nat_tests, big_number, at_limit, window, longest_record, number, Endian, End, bad, done, IsTextOf, whole, Scanner, and, field, gives, needs, skips, and_reads, field_reads, gives_reads, map_reads, needs_reads, skips_reads, told_text, Packet, Stands, allows, behind_packet, block_in, body_in, close_in, cut_to, described_behind, described_in, end_in, enhanced_in, fitting, frame_of, kind_behind, kind_of, least_of, magic_behind, octets_in, opened, order_of, ordered_in, original_in, packet, plain_in, section_header, section_in, simple_behind, simple_by, simple_in, timed_behind, timed_in, total_behind, version_in, with_interface, cursor, option_behind, option_in, options_in, padded, sized_in, value_in, nothing, packets_to_come, time_of, Block, Choice, Description, Fits, IsBlock, IsChoice, IsDescription, IsFramed, IsPlain, IsRecord, IsSection, IsShort, Outer, Record, Section, Short, Written, block_gives, block_text, body_text, choice_text, described, enhanced, gives_by, interface_of, packet_of, section, short_of, simple, skipped, unit_behind, unit_of, Kind, Described, Enhanced, Simple, Other, NgReason, Cut, Length, RecordTooLong, TooMany, Version, Frame, Cursor, Interface}
+use Rattle.fs_input.proofs.Spelling.{Reads}
 use Rattle.fs_pcapng.specs.Laws.{ReadsBack}
-use Rattle.fs_pcapng.specs.Options.{cursor, option_behind, option_in, options_in, padded, sized_in, value_in}
-use Rattle.fs_pcapng.specs.Pcapng.{nothing, packets_to_come}
-use Rattle.fs_pcapng.specs.Time.{time_of}
-use Rattle.fs_pcapng.specs.Written.{Block, Choice, Description, Fits, IsBlock, IsChoice, IsDescription, IsFramed, IsPlain, IsRecord, IsSection, IsShort, Outer, Record, Section, Short, Written, block_gives, block_text, body_text, choice_text, described, enhanced, gives_by, interface_of, packet_of, section, short_of, simple, skipped, unit_behind, unit_of}
-use Rattle.fs_pcapng.specs.declared.block.Kind.{Kind}
-use Rattle.fs_pcapng.specs.declared.block.Kind.TheVariants.{Described, Enhanced, Simple, Other}
-use Rattle.fs_pcapng.specs.declared.fault.NgReason.{NgReason}
-use Rattle.fs_pcapng.specs.declared.fault.NgReason.TheVariants.{Cut, Length, RecordTooLong, TooMany, Version}
-use Rattle.fs_pcapng.specs.declared.fields.Frame.{Frame}
-use Rattle.fs_pcapng.specs.declared.options.Cursor.{Cursor}
-use Rattle.fs_pcapng.specs.declared.section.Interface.{Interface}
 use Rattle.fs_pcapng.proofs.Spelled.{block_takes}
 use Rattle.fs_pcapng.proofs.Spelled.{Closing, block_spells, choice_size, is_one, joined, number_first, second_is, snap_is, third_is, timed_moment, value_reads}
 

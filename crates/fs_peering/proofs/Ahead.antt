@@ -1,8 +1,6 @@
+use Rattle.fs_peering.proofs.Words.{Announcing, Closed, SaysText, Sent, Starts, StartsOpen, StartsWith, StaysEnded, first_text, is_established, next_text, state_in, text_sent, ◌≡◌, ◌≤◌, ℕ, suc, zero, ◌+◌, ◌-◌, List, [], ◌∷◌, ◌++◌, length, drop, take, Bool, true, false, if◌then◌else◌, Option, Some, None, Result, Ok, Err, refl, ap, sym, ◌∙◌, subst, arith, IfSome, IfOk, OnOk, is_some, ahead_of}
+
 -- What an announcing end has still to say.
-use Rattle.std.proofs.Common.{◌≡◌, ◌≤◌, ℕ, suc, zero, ◌+◌, ◌-◌, List, [], ◌∷◌, ◌++◌, length, drop, take, Bool, true, false, if◌then◌else◌, Option, Some, None, Result, Ok, Err, refl, ap, sym, ◌∙◌, subst, arith, IfSome, IfOk, OnOk}
-use Rattle.std.specs.Option.{is_some}
-use Rattle.fs_peering.proofs.Words.{Announcing, Closed, SaysText, Sent, Starts, StartsOpen, StartsWith, StaysEnded, first_text, is_established, next_text, state_in, text_sent}
-use Rattle.fs_peering.specs.Teller.{ahead_of}
 
 module _ {A : Type 0} (old new : Announcing) (out out' : List ℕ) (result : Result A Closed) (stays : StaysEnded old new result out out') where
   pub stayed : (why : Closed) → old.line.closed ≡ Some why → (result ≡ Err why) × (new ≡ old) × (out' ≡ out)

@@ -1,22 +1,11 @@
 -- How what an announcing end says over a wire follows from how it stands.
-use Rattle.std.proofs.Common.{◌≡◌, ◌<◌, ◌≤◌, ℕ, ◌+◌, ◌-◌, List, [], ◌++◌, length, IsTrue, Bool, true, false, if◌then◌else◌, Option, Some, None, refl, ap, sym, ◌∙◌, subst, arith, append_assoc, append-nil}
-use Rattle.std.specs.Prelude.{flat_map}
-use Rattle.std.specs.Option.{is_some}
-use Rattle.std.proofs.lemmas.List.{length-map, take_all}
-use Rattle.fs_base.proofs.Options.{none_there}
-use Rattle.fs_peering.proofs.Words.{Announcing, Closed, Config, Lined, Machine, Peer, Phase, Sending, Told, WireEnds, is_established, machine_in, open_sent, state_in, text_sent}
-use Rattle.fs_peering.specs.Listening.{EndsSo, HeardOut, HearsOut}
-use Rattle.fs_peering.specs.Round.{Part, Pieces, Spoken, Stance, moments_in, octets_in}
-use Rattle.fs_peering.specs.declared.listening.Stopped.{Stopped}
-use Rattle.fs_peering.specs.declared.listening.Stopped.TheVariants.{All, Over, AtLimit as MetIt}
+use Rattle.fs_peering.proofs.Words.{Announcing, Closed, Config, Lined, Machine, Peer, Phase, Sending, Told, WireEnds, is_established, machine_in, open_sent, state_in, text_sent, ◌≡◌, ◌<◌, ◌≤◌, ℕ, ◌+◌, ◌-◌, List, [], ◌++◌, length, IsTrue, Bool, true, false, if◌then◌else◌, Option, Some, None, refl, ap, sym, ◌∙◌, subst, arith, append_assoc, append-nil, flat_map, is_some, length-map, take_all, none_there, EndsSo, HeardOut, HearsOut, Part, Pieces, Spoken, Stance, moments_in, octets_in, Stopped, All, Over, Ending, Done, AtLimit, course, CountsTo, SaysUpTo, ClosesSo, HasHeard, ahead_of, before_all, is_settled, rules_of, Tells, TellsOver, TellsSo, answers_to, begins_with}
+use Rattle.fs_peering.specs.declared.listening.Stopped.TheVariants.{AtLimit as MetIt}
 use Rattle.fs_peering.proofs.Composing.{part_then}
 use Rattle.fs_peering.proofs.WrittenInParts.{told_and}
-use Rattle.fs_peering.specs.declared.tell.Ending.{Ending}
-use Rattle.fs_peering.specs.declared.tell.Ending.TheVariants.{Done, Ended, AtLimit, Closed as HasClosed}
-use Rattle.fs_peering.specs.Course.{course}
-use Rattle.fs_peering.specs.Sender.{CountsTo, SaysUpTo}
-use Rattle.fs_peering.specs.Teller.{ClosesSo, HasHeard, ahead_of, before_all, is_over, is_settled, rules_of}
-use Rattle.fs_peering.specs.Tell.{SaidAll, Tells, TellsOver, TellsSo, answers_to, begins_with}
+use Rattle.fs_peering.specs.declared.tell.Ending.TheVariants.{Ended, Closed as HasClosed}
+use Rattle.fs_peering.specs.Teller.{is_over}
+use Rattle.fs_peering.specs.Tell.{SaidAll}
 use Rattle.fs_peering.proofs.Counting.{Opens, ends_by, met_by, opens_so}
 use Rattle.fs_peering.proofs.Hearing.{no_rules, unsettled}
 use Rattle.fs_peering.proofs.Settled.{settled_up, state_open, state_shut}

@@ -1,16 +1,6 @@
 -- Of all moments a later one lies so far above an earlier one where some of them do.
-use Rattle.std.proofs.Common.{◌≡◌, ◌⊎◌, inl, inr, ℕ, ◌+◌, ◌<◌, ◌≤◌, nat_le, List, [], ◌∷◌, ◌++◌, length, Bool, true, false, if◌then◌else◌, None, Some, refl, ap, sym, ◌∙◌, ◌*◌, subst, append_assoc, arith}
-use Rattle.std.proofs.lemmas.Bool.Decides.{nat_tests}
-use Rattle.std.proofs.lemmas.Grind.{flat_map-append}
-use Rattle.std.proofs.lemmas.List.{map-append}
-use Rattle.fs_peering.proofs.Words.{Config, Expires, Fault, Last, Machine, Peer, Sending, Update, announcer, at_moment, needs_of, receiver, tick_at}
-use Rattle.fs_peering.specs.HoldTime.{Spans, most}
+use Rattle.fs_peering.proofs.Words.{Config, Expires, Fault, Last, Machine, Peer, Sending, Update, announcer, at_moment, needs_of, receiver, tick_at, ◌≡◌, ◌⊎◌, inl, inr, ℕ, ◌+◌, ◌<◌, ◌≤◌, nat_le, List, [], ◌∷◌, ◌++◌, length, Bool, true, false, if◌then◌else◌, None, Some, refl, ap, sym, ◌∙◌, ◌*◌, subst, append_assoc, arith, nat_tests, flat_map-append, map-append, Spans, most, Heard, moments_of, of_first, of_second, Pieces, moments_in, octets_in, ClosesIn, ExpiresAt, HasClosed, LieApart, Reaches, RunsLate, told_by, course}
 use Rattle.fs_peering.proofs.Moments.{expires_late, positive}
-use Rattle.fs_peering.specs.Joined.{Heard, moments_of, of_first, of_second}
-use Rattle.fs_peering.specs.Round.{Pieces, moments_in, octets_in}
-use Rattle.fs_peering.specs.Hearer.{ClosesIn, ExpiresAt, HasClosed}
-use Rattle.fs_peering.specs.Pair.{LieApart, Reaches, RunsLate, told_by}
-use Rattle.fs_peering.specs.Course.{course}
 use Rattle.fs_peering.proofs.Expiring.{Expired, bounded_late, closed_late}
 use Rattle.fs_peering.proofs.StaysOpen.{stands}
 

@@ -1,12 +1,5 @@
 -- What an end hears of a stream, round by round.
-use Rattle.std.proofs.Common.{◌≡◌, ℕ, List, [], ◌∷◌, ◌++◌, ◌+◌, Bool, Option, length, length-append, arith, refl, ap, ◌∙◌}
-use Rattle.std.proofs.lemmas.List.{map-append}
-use Rattle.fs_base.specs.Sink.{Grew}
-use Rattle.fs_peering.proofs.Words.{Told, WireEnds, end_at}
-use Rattle.fs_base.proofs.Grew.{Grew-refl, Grew-trans}
-use Rattle.fs_peering.specs.Listening.{EndsSo, HeardOut, HearsOut, Listened, Listens}
-use Rattle.fs_peering.specs.Round.{Stance, Round}
-use Rattle.fs_peering.specs.declared.listening.Stopped.{Stopped}
+use Rattle.fs_peering.proofs.Words.{Told, WireEnds, end_at, ◌≡◌, ℕ, List, [], ◌∷◌, ◌++◌, ◌+◌, Bool, Option, length, length-append, arith, refl, ap, ◌∙◌, map-append, Grew, Grew-refl, Grew-trans, EndsSo, HeardOut, HearsOut, Listened, Listens, Stance, Round, Stopped}
 use Rattle.fs_peering.proofs.Composing.{part_none, part_then}
 use Rattle.fs_peering.proofs.WrittenInParts.{told_and, told_same}
 

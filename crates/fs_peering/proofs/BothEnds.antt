@@ -1,18 +1,7 @@
 -- What two ends that are joined know of each other.
-use Rattle.std.proofs.Common.{◌≡◌, ◌⊎◌, inl, inr, ℕ, List, [], ◌∷◌, ◌++◌, length, map, min, Bool, true, Option, Some, None, Result, Ok, Err, refl, ap, sym, ◌∙◌, subst, append_assoc, arith}
-use Rattle.std.specs.List.{AllByRecursion}
-use Rattle.std.proofs.lemmas.Option.{none-some}
-use Rattle.fs_peering.proofs.Words.{CanArrive, ComesBack, Config, Established, Last, Machine, Message, MessageFault, Open, Peer, Phase, Sending, Sent, Update, UpdateFault, WaitKeep, WaitOpen, as_update, at_start, body_by, first_message, message_text, open_body, open_of, open_sent, opened, phase, receiver, reply_to, session_by, session_from, still, terms_of, text_sent, transition_by, update_sent, updates, with_update}
+use Rattle.fs_peering.proofs.Words.{CanArrive, ComesBack, Config, Established, Last, Machine, Message, MessageFault, Open, Peer, Phase, Sending, Sent, Update, UpdateFault, WaitKeep, WaitOpen, as_update, at_start, body_by, first_message, message_text, open_body, open_of, open_sent, opened, phase, receiver, reply_to, session_by, session_from, still, terms_of, text_sent, transition_by, update_sent, updates, with_update, ◌≡◌, ◌⊎◌, inl, inr, ℕ, List, [], ◌∷◌, ◌++◌, length, map, min, Bool, true, Option, Some, None, Result, Ok, Err, refl, ap, sym, ◌∙◌, subst, append_assoc, arith, AllByRecursion, none-some, open_read, message_stable, text_first, at_most, body_long, one_message, open_fits, update_fits, machine_waits, Pieces, course_of, TookOpen, rules_in, woven}
 use Rattle.fs_message.specs.Laws.{own_open}
-use Rattle.fs_message.proofs.OpenReadBack.{open_read}
-use Rattle.fs_message.proofs.StreamLaws.{message_stable}
-use Rattle.fs_message.proofs.TextFirst.{text_first}
-use Rattle.fs_speaker.proofs.Arriving.{at_most, body_long, one_message, open_fits, update_fits}
-use Rattle.fs_speaker.proofs.SessionSteps.{machine_waits}
 use Rattle.fs_peering.proofs.Courses.{keepalives}
-use Rattle.fs_peering.specs.Round.{Pieces}
-use Rattle.fs_peering.specs.Hearer.{course_of}
-use Rattle.fs_peering.specs.Sender.{TookOpen, rules_in, woven}
 use Rattle.fs_peering.proofs.Replying.{replies}
 
 module _ (config : Config) (whose : Peer) where

@@ -1,16 +1,8 @@
 -- How many of the octets that an announcing end heard count: those up to and with the message that establishes it.
-use Rattle.std.proofs.Common.{◌≡◌, ℕ, ◌+◌, ◌-◌, ◌≤◌, ◌<◌, List, [], ◌++◌, length, drop, Bool, true, false, if◌then◌else◌, Option, Some, None, Result, Ok, Err, refl, ap, sym, ◌∙◌, subst, arith, append_assoc, append-nil, length-append, length-drop}
+use Rattle.fs_peering.proofs.Words.{Advanced, Announcing, Closed, FeedsEnd, Framing, IsAt, Lined, Machine, Memory, Phase, Point, SaysText, StaysEnded, Step, TicksEnd, at_start, closed, closed_after, is_established, machine_in, moved, pending, step_by, still, stops, takes, waits, with_line, ◌≡◌, ℕ, ◌+◌, ◌-◌, ◌≤◌, ◌<◌, List, [], ◌++◌, length, drop, Bool, true, false, if◌then◌else◌, Option, Some, None, Result, Ok, Err, refl, ap, sym, ◌∙◌, subst, arith, append_assoc, append-nil, length-append, length-drop, drop_all, none-some, same_Some, close_is, opened_by, CountsBy, CountsOn, CountsTo, CountsUp, KeepsHand, KeepsSettled, EndsBefore, MetLimit, ShutsBy, is_settled}
 use Rattle.std.proofs.lemmas.Bool.{true≢false as never}
-use Rattle.std.proofs.lemmas.List.{drop_all}
-use Rattle.std.proofs.lemmas.Option.{none-some, same_Some}
-use Rattle.fs_speaker.proofs.Handover.{close_is}
-use Rattle.fs_peering.specs.Opening.{opened_by}
 use Rattle.fs_peering.proofs.Ahead.{alive_on}
 use Rattle.fs_peering.proofs.OpenSteps.{opened_stops, opened_takes, opened_waits}
-use Rattle.fs_peering.proofs.Words.{Advanced, Announcing, Closed, FeedsEnd, Framing, IsAt, Lined, Machine, Memory, Phase, Point, SaysText, StaysEnded, Step, TicksEnd, at_start, closed, closed_after, is_established, machine_in, moved, pending, step_by, still, stops, takes, waits, with_line}
-use Rattle.fs_peering.specs.Sender.{CountsBy, CountsOn, CountsTo, CountsUp, KeepsHand, KeepsSettled}
-use Rattle.fs_peering.specs.Tell.{EndsBefore, MetLimit}
-use Rattle.fs_peering.specs.Teller.{ShutsBy, is_settled}
 use Rattle.fs_peering.proofs.Settled.{open_settled}
 
 -- before the first message of a piece

@@ -1,14 +1,6 @@
 -- One piece more.
-use Rattle.std.proofs.Common.{◌≡◌, ◌⊎◌, inl, inr, ℕ, suc, zero, ◌+◌, List, [], ◌∷◌, ◌++◌, length, take, Option, Some, None, refl, ap, sym, ◌∙◌, subst, arith, append_assoc, append-nil, length-append}
-use Rattle.std.proofs.lemmas.Grind.{flat_map-append}
-use Rattle.std.proofs.lemmas.List.{map-append}
-use Rattle.std.proofs.lemmas.Option.{none-some}
+use Rattle.fs_peering.proofs.Words.{Closed, Expires, Fault, Handed, Keeps, Machine, Point, Quiet, Tick, Times, at_moment, first_point, hand, handed, message_text, point, runs_by, tick_at, ticked, ticks, written_now, ◌≡◌, ◌⊎◌, inl, inr, ℕ, suc, zero, ◌+◌, List, [], ◌∷◌, ◌++◌, length, take, Option, Some, None, refl, ap, sym, ◌∙◌, subst, arith, append_assoc, append-nil, length-append, flat_map-append, map-append, none-some, closed_hand, ticked_by, Pieces, moments_in, octets_in, after, hears, course, course_from}
 use Rattle.std.proofs.Math.Seq.{take-append_seam}
-use Rattle.fs_peering.proofs.Words.{Closed, Expires, Fault, Handed, Keeps, Machine, Point, Quiet, Tick, Times, at_moment, first_point, hand, handed, message_text, point, runs_by, tick_at, ticked, ticks, written_now}
-use Rattle.fs_speaker.proofs.Handover.{closed_hand}
-use Rattle.fs_speaker.proofs.Waking.{ticked_by}
-use Rattle.fs_peering.specs.Round.{Pieces, moments_in, octets_in}
-use Rattle.fs_peering.specs.Course.{after, hears, course, course_from}
 
 -- so many KEEPALIVEs
 abbrev pub keepalives : ℕ → List ℕ

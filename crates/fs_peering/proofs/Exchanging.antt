@@ -1,16 +1,9 @@
 -- Two joined ends, round by round.
-use Rattle.std.proofs.Common.{◌≡◌, ℕ, ◌+◌, ◌-◌, ◌<◌, List, [], ◌∷◌, ◌++◌, Bool, true, false, Option, Some, None, if◌then◌else◌, length, refl, ap, sym, ◌∙◌, subst, arith, append_assoc, append-nil, length-append, IsTrue}
-use Rattle.std.proofs.lemmas.Grind.{flat_map-append}
-use Rattle.std.proofs.lemmas.List.{map-append}
-use Rattle.fs_base.specs.Sink.{Grew}
-use Rattle.fs_peering.proofs.Words.{Told, WireEnd, WireEnds, end_at, heard_end}
-use Rattle.fs_base.proofs.Grew.{Grew-refl, Grew-trans}
+use Rattle.fs_peering.proofs.Words.{Told, WireEnd, WireEnds, end_at, heard_end, ◌≡◌, ℕ, ◌+◌, ◌-◌, ◌<◌, List, [], ◌∷◌, ◌++◌, Bool, true, false, Option, Some, None, if◌then◌else◌, length, refl, ap, sym, ◌∙◌, subst, arith, append_assoc, append-nil, length-append, IsTrue, flat_map-append, map-append, Grew, Grew-refl, Grew-trans, Talk, Broken, AreJoined, Exchanged, ExchangedOut, Exchanges, Heard, Side, StopsSo, heard_by, moments_of, of_first, of_second, Part, Pieces, Speech, Stance, Round, octets_in}
 use Rattle.fs_peering.specs.declared.joined.InFlight.{InFlight}
-use Rattle.fs_peering.specs.declared.joined.Talk.{Talk}
-use Rattle.fs_peering.specs.declared.joined.Talk.TheVariants.{Broken, Done}
-use Rattle.fs_peering.specs.Joined.{AreJoined, Ended, Exchanged, ExchangedOut, Exchanges, Heard, Side, StopsSo, heard_by, moments_of, of_first, of_second}
+use Rattle.fs_peering.specs.declared.joined.Talk.TheVariants.{Done}
+use Rattle.fs_peering.specs.Joined.{Ended}
 use Rattle.fs_peering.specs.InFlight.{no_flow, first_heard, second_heard, second_said}
-use Rattle.fs_peering.specs.Round.{Part, Pieces, Speech, Stance, Round, octets_in}
 use Rattle.fs_peering.proofs.Composing.{octets_then, same_stance}
 use Rattle.fs_peering.proofs.WrittenInParts.{told_and, told_same}
 

@@ -1,20 +1,12 @@
 -- No octets close an end with Hold Timer Expired: only the clock does.
-use Rattle.std.proofs.Common.{◌≡◌, ◌⊎◌, inl, inr, ◌==◌, ◌||◌, not, ℕ, ◌-◌, nat_lt, List, [], ◌∷◌, ◌++◌, length, drop, get_or, min, Bool, true, false, if◌then◌else◌, Option, Some, None, Result, Ok, Err, refl, ap, sym, ◌∙◌, subst, append_assoc}
+use Rattle.fs_peering.proofs.Words.{Closed, Config, Established, Expires, Fault, Handed, Last, Machine, Message, MessageFault, NoFamily, Open, Peer, Phase, Point, State, Times, Update, UpdateFault, WaitKeep, WaitOpen, at_moment, at_start, bounded_from, closed, closing_of, faulted, fields_fault, first_message, first_over, header_of, is_established, not_taken, notice_of, notified, open_of, opened, parts_of, phase, plays, receiver, rest_closes, runs, runs_by, session_by, session_from, shuts, still, taken, taken_in, tick_at, too_many, transition_at, transition_by, updates, wrong_at, ◌≡◌, ◌⊎◌, inl, inr, ◌==◌, ◌||◌, not, ℕ, ◌-◌, nat_lt, List, [], ◌∷◌, ◌++◌, length, drop, get_or, min, Bool, true, false, if◌then◌else◌, Option, Some, None, Result, Ok, Err, refl, ap, sym, ◌∙◌, subst, append_assoc, none-some, same_Some, ran, runs_none, runs_step, going, plays_none, plays_step, opened_by, opens, front_message, Pieces, hears, course, last_update}
 use Rattle.std.proofs.lemmas.Bool.{true≢false as never}
-use Rattle.std.proofs.lemmas.Option.{none-some, same_Some}
 use Rattle.byteorder.specs.Endian.{big_number}
-use Rattle.fs_peering.proofs.Words.{Closed, Config, Established, Expires, Fault, Handed, Last, Machine, Message, MessageFault, NoFamily, Open, Peer, Phase, Point, State, Times, Update, UpdateFault, WaitKeep, WaitOpen, at_moment, at_start, bounded_from, closed, closing_of, faulted, fields_fault, first_message, first_over, header_of, is_established, not_taken, notice_of, notified, open_of, opened, parts_of, phase, plays, receiver, rest_closes, runs, runs_by, session_by, session_from, shuts, still, taken, taken_in, tick_at, too_many, transition_at, transition_by, updates, wrong_at}
 use Rattle.fs_message.specs.Capabilities.{Field, are_parameters, capabilities_of}
 use Rattle.fs_message.specs.Header.{allows, fault, header_fault, kind_at, kind_wrong, marker_wrong, size_at, size_wrong}
 use Rattle.fs_message.specs.Open.{opened as reads_open}
 use Rattle.fs_attrs.specs.declared.update.UpdateFault.TheVariants.{List as ListFault, Network, Optional, Memory as NoMemory}
 use Rattle.fs_speaker.specs.declared.State.TheVariants.{Closed as IsClosed}
-use Rattle.fs_speaker.proofs.MessageRuns.{ran, runs_none, runs_step}
-use Rattle.fs_speaker.proofs.SessionSteps.{going, plays_none, plays_step}
-use Rattle.fs_peering.specs.Opening.{opened_by, opens, front_message}
-use Rattle.fs_peering.specs.Round.{Pieces}
-use Rattle.fs_peering.specs.Course.{hears, course}
-use Rattle.fs_speaker.proofs.SessionInPieces.{last_update}
 use Rattle.fs_peering.proofs.Courses.{Steps, by_pieces, course_more, stays_shut, steps}
 use Rattle.fs_peering.proofs.OpenSteps.{Opened, going as made_open, opens_none, opens_step}
 

@@ -1,7 +1,6 @@
+use Rattle.fs_peering.proofs.Words.{Announcing, Closed, FeedsEnd, FeedsOpen, HandsOver, Machine, Memory, StaysEnded, StaysOver, closed_after, machine_in, with_line, without_update, ◌≡◌, ℕ, List, [], drop, Option, Some, None, Result, Ok, Err, IfSome, ap, ◌∙◌, refl, subst, Going, going_more, hands_all, hands_closed}
+
 -- An announcing end that takes a piece message by message.
-use Rattle.std.proofs.Common.{◌≡◌, ℕ, List, [], drop, Option, Some, None, Result, Ok, Err, IfSome, ap, ◌∙◌, refl, subst}
-use Rattle.fs_peering.proofs.Words.{Announcing, Closed, FeedsEnd, FeedsOpen, HandsOver, Machine, Memory, StaysEnded, StaysOver, closed_after, machine_in, with_line, without_update}
-use Rattle.fs_speaker.proofs.Handover.{Going, going_more, hands_all, hands_closed}
 
 -- as of either end
 pub stays_over : {A B : Type 0} (old new : Announcing) (result : Result A Closed) (other : Result B Closed) (out out' : List ℕ)

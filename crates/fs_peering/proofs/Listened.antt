@@ -1,19 +1,11 @@
 -- How what a receiving end hears and says over a wire follows from how it stands.
-use Rattle.std.proofs.Common.{◌≡◌, ◌<◌, ◌≤◌, ℕ, List, [], Bool, true, false, Option, Some, None, refl, ap, sym, ◌∙◌, subst, if◌then◌else◌}
-use Rattle.fs_peering.proofs.Words.{Closed, Config, Desked, Down, Ended, Last, Peer, Phase, WireEnds, bounded_session, closed, is_established, peer_of, standing_at_desk, still}
-use Rattle.fs_speaker.specs.State.{standing_at}
-use Rattle.fs_speaker.specs.declared.Standing.{Standing}
-use Rattle.fs_speaker.specs.declared.Standing.TheVariants.{Live}
+use Rattle.fs_peering.proofs.Words.{Closed, Config, Desked, Down, Ended, Last, Peer, Phase, WireEnds, bounded_session, closed, is_established, peer_of, standing_at_desk, still, ◌≡◌, ◌<◌, ◌≤◌, ℕ, List, [], Bool, true, false, Option, Some, None, refl, ap, sym, ◌∙◌, subst, if◌then◌else◌, standing_at, Standing, Live, Ending, Done, HeardOut, HearsOut, Pieces, Stance, octets_in, Stopped, All, Over, HasClosed, IsHearing, Receives, bare, is_ended, tape_of, IsReceiving, ListensOver, ListensSo, MeetsLimit, EndsHearing}
 use Rattle.fs_desk.proofs.Standing.{desk_stands}
-use Rattle.fs_peering.specs.declared.tell.Ending.{Ending}
-use Rattle.fs_peering.specs.declared.tell.Ending.TheVariants.{Done, Ended as EndedEarly}
-use Rattle.fs_peering.specs.Listening.{EndsSo as StopsSo, HeardOut, HearsOut}
-use Rattle.fs_peering.specs.Round.{Pieces, Stance, octets_in}
-use Rattle.fs_peering.specs.declared.listening.Stopped.{Stopped}
-use Rattle.fs_peering.specs.declared.listening.Stopped.TheVariants.{All, Over, AtLimit as MetIt}
+use Rattle.fs_peering.specs.declared.tell.Ending.TheVariants.{Ended as EndedEarly}
+use Rattle.fs_peering.specs.Listening.{EndsSo as StopsSo}
+use Rattle.fs_peering.specs.declared.listening.Stopped.TheVariants.{AtLimit as MetIt}
 use Rattle.fs_peering.proofs.WrittenInParts.{told_as}
-use Rattle.fs_peering.specs.Hearer.{HasClosed, IsHearing, Receives, bare, is_ended, tape_of}
-use Rattle.fs_peering.specs.Listen.{EndsSo, IsReceiving, Listens, ListensOver, ListensSo, MeetsLimit, is_settled, EndsHearing}
+use Rattle.fs_peering.specs.Listen.{EndsSo, Listens, is_settled}
 use Rattle.fs_peering.proofs.Receiving.{closed_of, ended_there, hearing_of, life_tape, stands_open}
 
 -- what the octets of an open session come to

@@ -1,11 +1,7 @@
 -- One step and all octets up to the message that establishes.
-use Rattle.std.proofs.Common.{◌≡◌, ◌<◌, ℕ, List, [], ◌∷◌, ◌++◌, length, if◌then◌else◌, Option, Some, None, Ok, Err, refl, ap, sym, ◌∙◌, subst, option_map, inl, inr}
-use Rattle.fs_peering.proofs.Words.{Closed, Last, Machine, Message, MessageFault, Phase, Shrinks, Update, closed, first_message, is_established, parts_of, rest_closes, step_by, still, stops, takes, transition_by, waits, wrong_at}
+use Rattle.std.proofs.Common.{option_map}
+use Rattle.fs_peering.proofs.Words.{Closed, Last, Machine, Message, MessageFault, Phase, Shrinks, Update, closed, first_message, is_established, parts_of, rest_closes, step_by, still, stops, takes, transition_by, waits, wrong_at, ◌≡◌, ◌<◌, ℕ, List, [], ◌∷◌, ◌++◌, length, if◌then◌else◌, Option, Some, None, Ok, Err, refl, ap, sym, ◌∙◌, subst, inl, inr, message_shrinks, message_stable, fault_stays, Shows, told, wrong_first, Transition, front_message, opened_by, opens}
 use Rattle.fs_base.proofs.Parts.{parts_end, parts_step}
-use Rattle.fs_message.proofs.StreamLaws.{message_shrinks, message_stable, fault_stays}
-use Rattle.fs_speaker.proofs.ReplySteps.{Shows, told, wrong_first}
-use Rattle.fs_speaker.proofs.SessionSteps.{Transition}
-use Rattle.fs_peering.specs.Opening.{front_message, opened_by, opens}
 
 abbrev pub Opened : Type 0
 Opened = Last × List ℕ

@@ -1,25 +1,13 @@
 -- How what both ends come to over a wire follows from how they stand.
-use Rattle.std.proofs.Common.{◌≡◌, ◌⊎◌, inl, inr, ◌≤◌, ℕ, ◌+◌, ◌-◌, List, [], ◌∷◌, ◌++◌, length, take, map, Bool, true, false, if◌then◌else◌, Option, Some, None, refl, ap, sym, ◌∙◌, subst, arith, append-nil, length-append, ◌<◌}
+use Rattle.fs_peering.proofs.Words.{Announcing, CanArrive, Closed, Config, Desked, Ended, Established, Fault, IsAt, Last, Machine, Peer, Phase, Sending, Sent, State, Update, WaitKeep, WaitOpen, WireEnds, announcer, at_start, bounded, bounded_from, bounded_session, closed, first_message, first_over, is_established, machine_in, needs_of, open_sent, peer_of, phase, receiver, reply_to, session_from, standing_at_desk, still, text_sent, too_many, update_sent, ◌≡◌, ◌⊎◌, inl, inr, ◌≤◌, ℕ, ◌+◌, ◌-◌, List, [], ◌∷◌, ◌++◌, length, take, map, Bool, true, false, if◌then◌else◌, Option, Some, None, refl, ap, sym, ◌∙◌, subst, arith, append-nil, length-append, ◌<◌, is_some, none-some, ahead_of, before_all, is_settled, opening_of, MetLimit, begins_with, Ending, Done, AtLimit, AreJoined, Exchanges, ExchangedOut, Heard, SaidAll, StopsSo, ended, moments_of, of_first, of_second, Pieces, Stance, octets_in, Talk, FirstOver, SecondOver, Broken, HasClosed, Receives, bare, is_ended, course_of, IsReceiving, Arrives, ComesUp, EndsEarly, IsUnhindered, Pairs, PairsOver, PairsSo, RunsLate, SaysFront, told_by, EndsTalk, Began, SaysUpTo, Speaks, TookOpen, rules_in, text_in, without_rules, woven, course, take_all, some_there, none_there}
 use Rattle.std.proofs.lemmas.Bool.{true≢false as never}
-use Rattle.std.specs.Option.{is_some}
-use Rattle.std.proofs.lemmas.Option.{none-some}
-use Rattle.fs_peering.proofs.Words.{Announcing, CanArrive, Closed, Config, Desked, Ended, Established, Fault, IsAt, Last, Machine, Peer, Phase, Sending, Sent, State, Update, WaitKeep, WaitOpen, WireEnds, announcer, at_start, bounded, bounded_from, bounded_session, closed, first_message, first_over, is_established, machine_in, needs_of, open_sent, peer_of, phase, receiver, reply_to, session_from, standing_at_desk, still, text_sent, too_many, update_sent}
 use Rattle.fs_speaker.specs.declared.State.TheVariants.{Closed as IsClosed}
-use Rattle.fs_peering.specs.Teller.{ahead_of, before_all, is_over, is_settled, opening_of}
+use Rattle.fs_peering.specs.Teller.{is_over}
 use Rattle.fs_peering.proofs.Courses.{keepalives}
-use Rattle.fs_peering.specs.Tell.{MetLimit, begins_with}
-use Rattle.fs_peering.specs.declared.tell.Ending.{Ending}
-use Rattle.fs_peering.specs.declared.tell.Ending.TheVariants.{Done, AtLimit, Closed as WasClosed, Ended as EndedEarly}
-use Rattle.fs_peering.specs.Joined.{AreJoined, Exchanges, ExchangedOut, Heard, SaidAll, StopsSo, ended, moments_of, of_first, of_second, Ended as EndedSo}
-use Rattle.fs_peering.specs.Round.{Pieces, Stance, octets_in}
-use Rattle.fs_peering.specs.declared.joined.Talk.{Talk}
-use Rattle.fs_peering.specs.declared.joined.Talk.TheVariants.{FirstOver, SecondOver, Broken, AtLimit as MetIt, Done as AllSaid}
+use Rattle.fs_peering.specs.declared.tell.Ending.TheVariants.{Closed as WasClosed, Ended as EndedEarly}
+use Rattle.fs_peering.specs.Joined.{Ended as EndedSo}
+use Rattle.fs_peering.specs.declared.joined.Talk.TheVariants.{AtLimit as MetIt, Done as AllSaid}
 use Rattle.fs_peering.proofs.WrittenInParts.{told_as}
-use Rattle.fs_peering.specs.Hearer.{HasClosed, Receives, bare, is_ended, course_of}
-use Rattle.fs_peering.specs.Listen.{IsReceiving}
-use Rattle.fs_peering.specs.Pair.{Arrives, ComesUp, EndsEarly, IsUnhindered, Pairs, PairsOver, PairsSo, RunsLate, SaysFront, told_by, EndsTalk}
-use Rattle.fs_peering.specs.Sender.{Began, SaysUpTo, Speaks, TookOpen, rules_in, text_in, without_rules, woven}
-use Rattle.fs_peering.specs.Course.{course}
 use Rattle.fs_peering.proofs.Apart.{late_first, late_second}
 use Rattle.fs_peering.proofs.Counting.{Opens, ends_by, met_by, opens_so}
 use Rattle.fs_peering.proofs.Hearing.{unsettled}
@@ -31,8 +19,6 @@ use Rattle.fs_peering.proofs.Replying.{replies}
 use Rattle.fs_peering.proofs.StaysOpen.{teller_stays, teller_up}
 use Rattle.fs_peering.proofs.Timely.{timely_first, timely_second}
 use Rattle.fs_peering.proofs.Unhindered.{Fronts, never_first, unread}
-use Rattle.std.proofs.lemmas.List.{take_all}
-use Rattle.fs_base.proofs.Options.{some_there, none_there}
 use Rattle.fs_peering.proofs.Settled.{open_settled}
 use Rattle.fs_peering.proofs.Phases.{unawaited}
 

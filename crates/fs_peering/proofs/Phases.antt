@@ -1,13 +1,8 @@
 -- What messages leave of a phase: past its OPEN the machine of an announcing end answers nothing, and the hold time that an
 -- end agreed on stays as long as the session does; before the OPEN there is none.
-use Rattle.std.proofs.Common.{◌≡◌, ◌==◌, ℕ, List, [], ◌∷◌, ◌++◌, Bool, true, false, if◌then◌else◌, min, Option, Some, None, Result, Ok, Err, refl, ap, sym, ◌∙◌, subst, ◌⊎◌, inl, inr}
+use Rattle.fs_peering.proofs.Words.{Closed, Config, Established, Fault, Handed, Machine, Memory, Message, MessageFault, Needs, NoFamily, Notified, Open, Phase, State, Times, Update, UpdateFault, WaitKeep, WaitOpen, announcer, at_fault, faulted, first_message, is_established, keepalive_to, no_farewell, not_taken, notice_of, notified, open_of, opened, parts_of, phase, runs, runs_by, shuts, step_by, taken, taken_in, takes, transition_at, transition_by, updates, wrong_at, Last, closed, plays, session_by, still, ◌≡◌, ◌==◌, ℕ, List, [], ◌∷◌, ◌++◌, Bool, true, false, if◌then◌else◌, min, Option, Some, None, Result, Ok, Err, refl, ap, sym, ◌∙◌, subst, ◌⊎◌, inl, inr, ran, runs_none, runs_step, Shows, told, going, plays_none, plays_step, last_update}
 use Rattle.std.proofs.lemmas.Bool.{true≢false as never}
-use Rattle.fs_peering.proofs.Words.{Closed, Config, Established, Fault, Handed, Machine, Memory, Message, MessageFault, Needs, NoFamily, Notified, Open, Phase, State, Times, Update, UpdateFault, WaitKeep, WaitOpen, announcer, at_fault, faulted, first_message, is_established, keepalive_to, no_farewell, not_taken, notice_of, notified, open_of, opened, parts_of, phase, runs, runs_by, shuts, step_by, taken, taken_in, takes, transition_at, transition_by, updates, wrong_at, Last, closed, plays, session_by, still}
 use Rattle.fs_speaker.specs.declared.State.TheVariants.{Closed as IsClosed}
-use Rattle.fs_speaker.proofs.MessageRuns.{ran, runs_none, runs_step}
-use Rattle.fs_speaker.proofs.ReplySteps.{Shows, told}
-use Rattle.fs_speaker.proofs.SessionSteps.{going, plays_none, plays_step}
-use Rattle.fs_speaker.proofs.SessionInPieces.{last_update}
 
 abbrev Made : Type 0
 Made = Result (Phase × Option Update) Closed

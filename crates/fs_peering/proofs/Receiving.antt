@@ -1,22 +1,13 @@
 -- A receiving end that hears a piece at a moment.
-use Rattle.std.proofs.Common.{◌≡◌, ◌==◌, ◌⊎◌, inl, inr, ℕ, ◌+◌, max, List, [], ◌∷◌, ◌++◌, length, Bool, true, false, if◌then◌else◌, Option, Some, None, Result, Ok, Err, OnOk, refl, ap, sym, ◌∙◌, subst, arith, append_assoc, append-nil, length-append}
+use Rattle.fs_peering.proofs.Words.{Closed, Config, Desked, Down, Ended, Expires, Fault, Handed, HandsPeer, Keeps, Machine, Peer, PeerIs, Played, Plays, Point, Quiet, Replied, RepliesBehind, StaysPlayed, Tick, TicksPeer, Times, at_moment, begins, fresh, hand, handed, live, notice_text, peer_of, pending, point, receiver, runs_by, session_at, standing_at_desk, tick_at, ticked, ticks, times, written_now, ◌≡◌, ◌==◌, ◌⊎◌, inl, inr, ℕ, ◌+◌, max, List, [], ◌∷◌, ◌++◌, length, Bool, true, false, if◌then◌else◌, Option, Some, None, Result, Ok, Err, OnOk, refl, ap, sym, ◌∙◌, subst, arith, append_assoc, append-nil, length-append, IsSome, option_map, moment_stays, ticked_by, standing_by, Standing, Hears, Pieces, octets_in, HasClosed, IsHearing, Receives, StandsBy, is_ended, tape_of, course_of, after, hears}
 use Rattle.std.proofs.lemmas.Bool.{true≢false as never}
-use Rattle.std.specs.Prelude.{IsSome, option_map}
 use Rattle.fs_base.proofs.NumberTests.{eq_itself}
-use Rattle.fs_peering.proofs.Words.{Closed, Config, Desked, Down, Ended, Expires, Fault, Handed, HandsPeer, Keeps, Machine, Peer, PeerIs, Played, Plays, Point, Quiet, Replied, RepliesBehind, StaysPlayed, Tick, TicksPeer, Times, at_moment, begins, fresh, hand, handed, live, notice_text, peer_of, pending, point, receiver, runs_by, session_at, standing_at_desk, tick_at, ticked, ticks, times, written_now}
-use Rattle.fs_speaker.proofs.Handover.{moment_stays}
-use Rattle.fs_speaker.proofs.Waking.{ticked_by}
 use Rattle.fs_speaker.specs.Session.{Live}
-use Rattle.fs_speaker.specs.State.{standing_by}
-use Rattle.fs_speaker.specs.declared.Standing.{Standing}
 use Rattle.fs_speaker.specs.declared.Standing.TheVariants.{Live as LiveIn}
 use Rattle.fs_tape.specs.Tape.{Item, came_up, received}
 use Rattle.fs_desk.specs.HoldTimer.{TickMakes, TicksIn, TicksSession, with_times}
 use Rattle.fs_desk.specs.Life.{life}
 use Rattle.fs_desk.specs.Receive.{IsFed, IsUp, point_of}
-use Rattle.fs_peering.specs.Round.{Hears, Pieces, octets_in}
-use Rattle.fs_peering.specs.Hearer.{HasClosed, IsHearing, Receives, StandsBy, is_ended, tape_of, course_of}
-use Rattle.fs_peering.specs.Course.{after, hears}
 use Rattle.fs_peering.proofs.Courses.{course_more, octets_more}
 
 pub counted_more : (heard : Pieces) (moment count count' : ℕ) (piece : List ℕ) → count ≡ length (octets_in heard) → count' ≡ count + length piece

@@ -1,23 +1,9 @@
 -- Two joined ends of which the announcing one has the identifier 0.0.0.0: its OPEN is refused, and nothing else closes them.
-use Rattle.std.proofs.Common.{◌≡◌, ◌⊎◌, inl, inr, ◌<◌, ◌^◌, ◌==◌, ℕ, Bool, true, false, if◌then◌else◌, List, [], ◌∷◌, ◌++◌, length, take, drop, Option, Some, None, Result, Err, Ok, refl, ap, sym, ◌∙◌, subst, append_assoc, append-nil, arith}
+use Rattle.fs_peering.proofs.Words.{Closed, Config, Fault, Handed, IsUnnamed, Last, Machine, Message, MessageFault, Notified, Open, Peer, Phase, Point, Sending, Step, Times, Update, at_fault, at_moment, at_start, closed, first_message, hand, handed, notice_text, open_body, open_sent, opened, point, runs_by, session_by, shuts, step_by, stops, takes, tick_at, ticked, ticks, transition_by, waits, ◌≡◌, ◌⊎◌, inl, inr, ◌<◌, ◌^◌, ◌==◌, ℕ, Bool, true, false, if◌then◌else◌, List, [], ◌∷◌, ◌++◌, length, take, drop, Option, Some, None, Result, Err, Ok, refl, ap, sym, ◌∙◌, subst, append_assoc, append-nil, arith, take-append-drop, none-some, same_Some, open_unnamed, message_stable, text_first, World, at_first, happens, next_said, run, runs_on, says, sent, taker_comes, taker_of, teller_comes, teller_of, open_fits, runs_stops, runs_waits, closed_hand, open_hand, ticked_by, Shows, told, machine_stops, step_found, ClosesUnnamed}
 use Rattle.std.proofs.lemmas.Bool.{true≢false as never}
-use Rattle.std.proofs.lemmas.List.{take-append-drop}
-use Rattle.std.proofs.lemmas.Option.{none-some, same_Some}
-use Rattle.fs_peering.proofs.Words.{Closed, Config, Fault, Handed, IsUnnamed, Last, Machine, Message, MessageFault, Notified, Open, Peer, Phase, Point, Sending, Step, Times, Update, at_fault, at_moment, at_start, closed, first_message, hand, handed, notice_text, open_body, open_sent, opened, point, runs_by, session_by, shuts, step_by, stops, takes, tick_at, ticked, ticks, transition_by, waits}
-use Rattle.fs_message.proofs.OpenReadBack.{open_unnamed}
-use Rattle.fs_message.proofs.StreamLaws.{message_stable}
-use Rattle.fs_message.proofs.TextFirst.{text_first}
-use Rattle.fs_speaker.specs.World.{World, at_first, happens, next_said, run, runs_on, says, sent, taker_comes, taker_of, teller_comes, teller_of}
 use Rattle.fs_speaker.specs.declared.event.Event.{Event}
 use Rattle.fs_speaker.specs.declared.event.Event.TheVariants.{Send, Deliver, Tick as TickEvent, Cut}
-use Rattle.fs_speaker.proofs.Arriving.{open_fits}
 use Rattle.fs_speaker.proofs.Unnamed.{same_why}
-use Rattle.fs_speaker.proofs.MessageRuns.{runs_stops, runs_waits}
-use Rattle.fs_speaker.proofs.Handover.{closed_hand, open_hand}
-use Rattle.fs_speaker.proofs.Waking.{ticked_by}
-use Rattle.fs_speaker.proofs.ReplySteps.{Shows, told}
-use Rattle.fs_speaker.proofs.SessionSteps.{machine_stops, step_found}
-use Rattle.fs_peering.specs.Laws.{ClosesUnnamed}
 
 -- An end at which one message closes, wherever more follows: of the octets up to it the end waits for more, or closes so.
 module _ (machine : Machine) (why : Closed) (text : List ℕ) (message : Message)

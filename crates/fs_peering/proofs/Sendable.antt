@@ -1,13 +1,8 @@
 -- What may be announced can arrive.
-use Rattle.std.proofs.Common.{◌≡◌, ◌<◌, ◌≤◌, ◌&&◌, ℕ, zero, suc, List, [], ◌∷◌, length, map, take, nat_le, nat_lt, Bool, true, refl, arith}
-use Rattle.std.proofs.lemmas.Bool.Decides.{nat_tests}
-use Rattle.std.specs.List.{AllByRecursion, list_all}
+use Rattle.fs_peering.proofs.Words.{AreSendable, CanArrive, ComesBack, Config, IsSent, Peer, Sending, Sent, TakesFront, TakesNone, is_short, terms_of, update_sent, ◌≡◌, ◌<◌, ◌≤◌, ◌&&◌, ℕ, zero, suc, List, [], ◌∷◌, length, map, take, nat_le, nat_lt, Bool, true, refl, arith, nat_tests, AllByRecursion, list_all, run, AreRead, SendsFront}
 use Rattle.fs_base.proofs.Lists.{each_both}
 use Rattle.fs_base.proofs.Bools.{and_parts}
-use Rattle.fs_peering.proofs.Words.{AreSendable, CanArrive, ComesBack, Config, IsSent, Peer, Sending, Sent, TakesFront, TakesNone, is_short, terms_of, update_sent}
-use Rattle.fs_speaker.specs.World.{run}
 use Rattle.fs_speaker.proofs.Returning.{comes_back}
-use Rattle.fs_peering.specs.Laws.{AreRead, SendsFront}
 
 each_true : (test : Sent → Bool) (rules : List Sent) → list_all test rules ≡ true → AllByRecursion (λ sent. test sent ≡ true) rules
 each_true test [] e = tt

@@ -1,21 +1,11 @@
 -- An announcing end that hears a piece at a moment.
-use Rattle.std.proofs.Common.{◌≡◌, ◌⊎◌, inl, inr, ℕ, suc, zero, ◌+◌, List, [], ◌∷◌, ◌++◌, drop, arith, take, Bool, true, false, if◌then◌else◌, Option, Some, None, refl, ap, sym, ◌∙◌, subst, append_assoc, append-nil}
+use Rattle.fs_peering.proofs.Words.{Announcing, Closed, Config, Established, Expires, Fault, Handed, IsAt, Lined, Machine, Peer, Phase, Point, SaysText, Sending, Sent, StandsAt, StartsWith, State, WaitKeep, WaitOpen, at_moment, first_text, hand, has_started, is_established, machine_in, message_text, needs_of, next_text, notice_text, one_sent, open_sent, runs_by, text_sent, tick_at, ticked, with_line, ◌≡◌, ◌⊎◌, inl, inr, ℕ, suc, zero, ◌+◌, List, [], ◌∷◌, ◌++◌, drop, arith, take, Bool, true, false, if◌then◌else◌, Option, Some, None, refl, ap, sym, ◌∙◌, subst, append_assoc, append-nil, flat_map-append, none-some, none_there, message_stable, closed_hand, HasHeard, SaysTo, before_all, is_settled, opening_of, stops_at, Hears, Pieces, Says, Stance, octets_in, Began, CountsTo, SaysOn, SaysUpTo, Speaks, TookOpen, part_text, rule_in, rules_in, text_in, without_rules, woven, course, begins_with}
 use Rattle.std.proofs.lemmas.Bool.{true≢false as never}
-use Rattle.std.proofs.lemmas.Grind.{flat_map-append}
-use Rattle.std.proofs.lemmas.Option.{none-some}
-use Rattle.fs_base.proofs.Options.{none_there}
-use Rattle.fs_peering.proofs.Words.{Announcing, Closed, Config, Established, Expires, Fault, Handed, IsAt, Lined, Machine, Peer, Phase, Point, SaysText, Sending, Sent, StandsAt, StartsWith, State, WaitKeep, WaitOpen, at_moment, first_text, hand, has_started, is_established, machine_in, message_text, needs_of, next_text, notice_text, one_sent, open_sent, runs_by, text_sent, tick_at, ticked, with_line}
-use Rattle.fs_message.proofs.StreamLaws.{message_stable}
 use Rattle.fs_speaker.specs.declared.State.TheVariants.{Closed as IsClosed}
-use Rattle.fs_speaker.proofs.Handover.{closed_hand}
-use Rattle.fs_peering.specs.Teller.{HasHeard, SaysTo, before_all, is_over, is_settled, opening_of, stops_at}
-use Rattle.fs_peering.specs.Round.{Hears, Pieces, Says, Stance, octets_in}
+use Rattle.fs_peering.specs.Teller.{is_over}
 use Rattle.fs_peering.proofs.Ahead.{next_of}
 use Rattle.fs_peering.proofs.Counting.{counts_piece, counts_same, counts_text}
 use Rattle.fs_peering.proofs.Hearing.{HeardSo, begins_early, hears_early, next_early, says_same}
-use Rattle.fs_peering.specs.Sender.{Began, CountsTo, SaysOn, SaysUpTo, Speaks, TookOpen, part_text, rule_in, rules_in, text_in, without_rules, woven}
-use Rattle.fs_peering.specs.Course.{course}
-use Rattle.fs_peering.specs.Tell.{begins_with}
 use Rattle.fs_peering.proofs.Answering.{Opens, opens_by}
 use Rattle.fs_peering.proofs.Phases.{Goes, awaits_open, quiet_by, unawaited, Quiet as IsQuiet}
 use Rattle.fs_peering.proofs.Courses.{Steps, but_last, course_more, keepalives, octets_more, steps, woke_is}

@@ -1,7 +1,5 @@
 -- What an end says unasked, message by message.
-use Rattle.std.proofs.Common.{ℕ, [], Option}
-use Rattle.fs_peering.proofs.Words.{Told, WireEnds}
-use Rattle.fs_peering.specs.Round.{Spoken, Stance}
+use Rattle.fs_peering.proofs.Words.{Told, WireEnds, ℕ, [], Option, Spoken, Stance}
 use Rattle.fs_peering.proofs.Composing.{part_none}
 use Rattle.fs_peering.proofs.WrittenInParts.{told_same}
 

@@ -1,23 +1,8 @@
 -- Where an end that hears pieces stays open: where the session of their octets does, and no hold time has passed.
-use Rattle.std.proofs.Common.{◌≡◌, ◌≢◌, ◌⊎◌, inl, inr, ℕ, zero, suc, ◌+◌, ◌*◌, ◌<◌, ◌≤◌, min, List, [], ◌∷◌, ◌++◌, length, Bool, true, false, ◌&&◌, ◌||◌, if◌then◌else◌, Option, Some, None, Result, Ok, Err, refl, ap, sym, ◌∙◌, subst, append_assoc, append-nil, arith}
-use Rattle.std.specs.List.{AllByRecursion}
-use Rattle.std.proofs.lemmas.List.{map-append}
-use Rattle.fs_peering.proofs.Words.{CanArrive, Closed, Config, Established, Expires, Handed, Last, Machine, Message, MessageFault, Needs, NoFamily, Open, Peer, Phase, Point, Sending, Times, Update, WaitKeep, WaitOpen, announcer, at_moment, at_start, closed, faulted, first_message, is_established, message_text, needs_of, open_body, open_sent, opened, parts_of, phase, plays, receiver, reply_to, rest_closes, runs, runs_by, session_by, session_from, still, taken, taken_in, tick_at, transition_by, wrong_at}
-use Rattle.fs_message.proofs.OpenReadBack.{open_read}
-use Rattle.fs_message.proofs.StreamLaws.{message_stable}
-use Rattle.fs_message.proofs.TextFirst.{text_first}
-use Rattle.fs_speaker.proofs.MessageRuns.{ran, runs_none, runs_step}
-use Rattle.fs_speaker.proofs.SessionSteps.{going, machine_takes, machine_waits, plays_none, plays_step, session_rest, step_found}
-use Rattle.fs_peering.specs.HoldTime.{Spans, most}
+use Rattle.fs_peering.proofs.Words.{CanArrive, Closed, Config, Established, Expires, Handed, Last, Machine, Message, MessageFault, Needs, NoFamily, Open, Peer, Phase, Point, Sending, Times, Update, WaitKeep, WaitOpen, announcer, at_moment, at_start, closed, faulted, first_message, is_established, message_text, needs_of, open_body, open_sent, opened, parts_of, phase, plays, receiver, reply_to, rest_closes, runs, runs_by, session_by, session_from, still, taken, taken_in, tick_at, transition_by, wrong_at, ◌≡◌, ◌≢◌, ◌⊎◌, inl, inr, ℕ, zero, suc, ◌+◌, ◌*◌, ◌<◌, ◌≤◌, min, List, [], ◌∷◌, ◌++◌, length, Bool, true, false, ◌&&◌, ◌||◌, if◌then◌else◌, Option, Some, None, Result, Ok, Err, refl, ap, sym, ◌∙◌, subst, append_assoc, append-nil, arith, AllByRecursion, map-append, open_read, message_stable, text_first, ran, runs_none, runs_step, going, machine_takes, machine_waits, plays_none, plays_step, session_rest, step_found, Spans, most, Pieces, moments_in, octets_in, course_of, IsTimely, told_by, course, goes_by, goes_on, last_by, last_update, one_message, open_fits}
 use Rattle.fs_peering.proofs.Courses.{keepalives, octets_more}
-use Rattle.fs_peering.specs.Round.{Pieces, moments_in, octets_in}
-use Rattle.fs_peering.specs.Hearer.{course_of}
-use Rattle.fs_peering.specs.Pair.{IsTimely, told_by}
-use Rattle.fs_peering.specs.Course.{course}
 use Rattle.fs_peering.proofs.Phases.{Unheld, awaits_open, closed_still, hold_is, runs_unheld, same_still, session_on}
-use Rattle.fs_speaker.proofs.SessionInPieces.{goes_by, goes_on, last_by, last_update}
 use Rattle.fs_peering.proofs.Moments.{expires_late, positive}
-use Rattle.fs_speaker.proofs.Arriving.{one_message, open_fits}
 use Rattle.fs_peering.proofs.BothEnds.{least, peer_opens}
 use Rattle.fs_peering.proofs.Replying.{keepalives_front}
 use Rattle.fs_peering.proofs.Courses.{Steps, by_pieces, lived, steps, course_more}

@@ -1,13 +1,6 @@
 -- The octets up to the message that establishes a session, and the session of all octets.
-use Rattle.std.proofs.Common.{◌≡◌, ◌<◌, ◌≤◌, ℕ, zero, suc, List, [], ◌++◌, length, take, Bool, true, false, if◌then◌else◌, Option, Some, None, Result, Ok, Err, refl, ap, sym, ◌∙◌, subst, arith, append_assoc, append-nil}
-use Rattle.std.proofs.lemmas.List.{take-append-drop}
-use Rattle.fs_peering.proofs.Words.{Closed, Last, Machine, Message, MessageFault, Phase, Update, closed, first_message, is_established, rest_closes, session_by, size_of, step_at, step_by, still, transition_by, wrong_at}
-use Rattle.fs_message.proofs.StreamLaws.{is_first, message_shrinks}
-use Rattle.fs_speaker.proofs.SessionInPieces.{last_update}
-use Rattle.fs_speaker.proofs.SessionSteps.{machine_stops, machine_takes, session_rest, step_found}
-use Rattle.fs_peering.specs.Opening.{opened_by}
+use Rattle.fs_peering.proofs.Words.{Closed, Last, Machine, Message, MessageFault, Phase, Update, closed, first_message, is_established, rest_closes, session_by, size_of, step_at, step_by, still, transition_by, wrong_at, ◌≡◌, ◌<◌, ◌≤◌, ℕ, zero, suc, List, [], ◌++◌, length, take, Bool, true, false, if◌then◌else◌, Option, Some, None, Result, Ok, Err, refl, ap, sym, ◌∙◌, subst, arith, append_assoc, append-nil, take-append-drop, is_first, message_shrinks, last_update, machine_stops, machine_takes, session_rest, step_found, opened_by, OpensAs, OpeningIsSession}
 use Rattle.fs_peering.proofs.OpenSteps.{going, opened_first, opened_rest}
-use Rattle.fs_peering.specs.Laws.{OpensAs, OpeningIsSession}
 
 abbrev Made : Type 0
 Made = Result (Phase × Option Update) Closed

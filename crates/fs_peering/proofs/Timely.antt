@@ -1,10 +1,6 @@
+use Rattle.fs_peering.proofs.Words.{Config, inl, inr, ℕ, ◌+◌, ◌*◌, ◌<◌, ◌≤◌, List, [], ◌∷◌, ◌++◌, Bool, true, false, if◌then◌else◌, AllByRecursion, Heard, moments_of, of_first, of_second, Pieces, moments_in, IsTimely}
+
 -- Of moments between which no hold time can have passed some.
-use Rattle.std.proofs.Common.{inl, inr, ℕ, ◌+◌, ◌*◌, ◌<◌, ◌≤◌, List, [], ◌∷◌, ◌++◌, Bool, true, false, if◌then◌else◌}
-use Rattle.std.specs.List.{AllByRecursion}
-use Rattle.fs_peering.proofs.Words.{Config}
-use Rattle.fs_peering.specs.Joined.{Heard, moments_of, of_first, of_second}
-use Rattle.fs_peering.specs.Round.{Pieces, moments_in}
-use Rattle.fs_peering.specs.Pair.{IsTimely}
 
 timely_by : (config : Config) (some all : List ℕ) → ((P : ℕ → Type 0) → AllByRecursion P all → AllByRecursion P some) → IsTimely config all → IsTimely config some
 timely_by config some all part (inl none) = inl none

@@ -1,18 +1,7 @@
 -- A receiving end that hears what the announcing end says doesn't close, where nothing hinders the rules.
-use Rattle.std.proofs.Common.{◌≡◌, ◌⊎◌, inl, inr, ℕ, zero, suc, ◌≤◌, List, [], ◌∷◌, ◌++◌, length, map, take, Bool, true, Option, Some, None, Ok, refl, ap, sym, ◌∙◌, subst, append_assoc, append-nil, arith}
+use Rattle.fs_peering.proofs.Words.{CanArrive, Closed, ComesBack, Config, Established, Handed, Last, Message, MessageFault, Peer, Phase, Point, Sending, Sent, Update, WaitKeep, WaitOpen, at_moment, at_start, bounded, bounded_from, bounded_replies, bounded_replies_from, closed, first_message, first_over, handed, open_sent, peer_of, phase, receiver, replies_to_limit, reply_at, reply_to, session_from, still, text_sent, tick_at, ticked, ticks, too_many, update_sent, wrong_at, ◌≡◌, ◌⊎◌, inl, inr, ℕ, zero, suc, ◌≤◌, List, [], ◌∷◌, ◌++◌, length, map, take, Bool, true, Option, Some, None, Ok, refl, ap, sym, ◌∙◌, subst, append_assoc, append-nil, arith, AllByRecursion, flat_map-append, none-some, fault_stays, message_stable, replies_rest, replies_takes, wrong_first, machine_takes, session_rest, step_found, Pieces, moments_in, octets_in, ClosesIn, ExpiresAt, HasClosed, course_of, IsTimely, MayHold, TookOpen, rules_in, woven}
 use Rattle.std.proofs.lemmas.Bool.{true≢false as never}
-use Rattle.std.specs.List.{AllByRecursion}
-use Rattle.std.proofs.lemmas.Grind.{flat_map-append}
-use Rattle.std.proofs.lemmas.Option.{none-some}
-use Rattle.fs_peering.proofs.Words.{CanArrive, Closed, ComesBack, Config, Established, Handed, Last, Message, MessageFault, Peer, Phase, Point, Sending, Sent, Update, WaitKeep, WaitOpen, at_moment, at_start, bounded, bounded_from, bounded_replies, bounded_replies_from, closed, first_message, first_over, handed, open_sent, peer_of, phase, receiver, replies_to_limit, reply_at, reply_to, session_from, still, text_sent, tick_at, ticked, ticks, too_many, update_sent, wrong_at}
-use Rattle.fs_message.proofs.StreamLaws.{fault_stays, message_stable}
 use Rattle.fs_speaker.specs.Replies.{replies_from, reply_rest}
-use Rattle.fs_speaker.proofs.ReplySteps.{replies_rest, replies_takes, wrong_first}
-use Rattle.fs_speaker.proofs.SessionSteps.{machine_takes, session_rest, step_found}
-use Rattle.fs_peering.specs.Round.{Pieces, moments_in, octets_in}
-use Rattle.fs_peering.specs.Hearer.{ClosesIn, ExpiresAt, HasClosed, course_of}
-use Rattle.fs_peering.specs.Pair.{IsTimely, MayHold}
-use Rattle.fs_peering.specs.Sender.{TookOpen, rules_in, woven}
 use Rattle.fs_peering.proofs.Limits.{within}
 use Rattle.fs_peering.proofs.Phases.{awaits_open, session_on}
 use Rattle.fs_peering.proofs.BothEnds.{answers, meets, open_first, own_message, parts_arrive, peer_opens}

@@ -1,21 +1,9 @@
 -- The numbers of a block are those whose first bits are the block's.
-use Rattle.std.proofs.Common.{◌≡◌, ℕ, ◌+◌, ◌-◌, ◌*◌, ◌/◌, ◌%◌, ◌^◌, ◌<◌, ◌≤◌, ◌==◌, true, ◌&&◌, nat_le, refl, sym, ap, subst, ◌∙◌, arith, inl, inr}
+use Rattle.fs_ranges.proofs.Words.{◌≡◌, ℕ, ◌+◌, ◌-◌, ◌*◌, ◌/◌, ◌%◌, ◌^◌, ◌<◌, ◌≤◌, ◌==◌, true, ◌&&◌, nat_le, refl, sym, ap, subst, ◌∙◌, arith, inl, inr, div-add-mod', pow_pos, and_right, cases_lt, eq-eqb, eqb-true, lt-leb, Family, cleared, IsBlock, block_of, same_tests, V4Body, V6Body, IsSoundBody, is_prefix_of, Pattern, IsSmallAddress, address_number, IsPatternOf, is_under}
 use Rattle.std.proofs.Math.Nat.{mod-eq_of_lt, mod-lt}
-use Rattle.std.proofs.lemmas.Nat.{div-add-mod', pow_pos}
-use Rattle.std.proofs.lemmas.Bool.{and_right, cases_lt, eq-eqb, eqb-true, lt-leb}
-use Rattle.fs_base.specs.declared.prefix.Family.{Family}
 use Rattle.fs_base.specs.declared.config.Address.{Address}
 use Rattle.fs_base.specs.declared.config.Address.TheVariants.{V4, V6}
-use Rattle.fs_base.specs.Bits.{cleared}
-use Rattle.fs_base.specs.Bits.{IsBlock, block_of}
-use Rattle.fs_base.proofs.Bools.{same_tests}
 use Rattle.fs_base.proofs.NumberTests.{next_row}
-use Rattle.fs_nlri.specs.Parts.{V4Body, V6Body}
-use Rattle.fs_nlri.specs.Sound.{IsSoundBody}
-use Rattle.fs_packet.specs.Matching.{is_prefix_of}
-use Rattle.fs_ranges.specs.declared.pattern.Pattern.{Pattern}
-use Rattle.fs_ranges.specs.Facts.{IsSmallAddress, address_number}
-use Rattle.fs_ranges.specs.Tests.{IsPatternOf, is_under}
 use Rattle.fs_ranges.proofs.Enclosing.{from_in, to_in}
 
 same_row : (x count size : ℕ) → 0 < size → count * size ≤ x → x < count * size + size → x / size ≡ count

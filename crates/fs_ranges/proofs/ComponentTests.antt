@@ -1,22 +1,9 @@
 -- The tests of components stand for them.
-use Rattle.std.proofs.Common.{◌≡◌, ℕ, ◌+◌, ◌-◌, ◌^◌, ◌<◌, ◌≤◌, List, Option, Some, None, refl, sym, ap, ◌∙◌, arith, inl, inr, subst, ◌⊎◌}
-use Rattle.std.proofs.lemmas.Nat.{pow_pos}
-use Rattle.fs_base.specs.declared.prefix.Family.{Family}
+use Rattle.fs_ranges.proofs.Words.{◌≡◌, ℕ, ◌+◌, ◌-◌, ◌^◌, ◌<◌, ◌≤◌, List, Option, Some, None, refl, sym, ap, ◌∙◌, arith, inl, inr, subst, ◌⊎◌, pow_pos, Family, width_of, IsBlock, block_of, ListBody, V4Body, V6Body, part, IsSoundBody, flags_hold, Pattern, Range, Within, TcpFlags, Destination, Source, facts_of, range, range_holds, IsPatternOf, IsTestOf, flags_pass}
 use Rattle.fs_base.specs.declared.prefix.Family.TheVariants.{V4}
 use Rattle.fs_base.specs.declared.prefix.Prefix.{Prefix}
-use Rattle.fs_base.specs.Bits.{width_of}
-use Rattle.fs_base.specs.Bits.{IsBlock, block_of}
 use Rattle.fs_base.specs.Prefix.{last_address}
-use Rattle.fs_nlri.specs.Parts.{ListBody, V4Body, V6Body, part}
-use Rattle.fs_nlri.specs.Sound.{IsSoundBody}
-use Rattle.fs_packet.specs.Matching.{flags_hold}
 use Rattle.fs_packet.proofs.Flags.{flags_same, sound_is_wide}
-use Rattle.fs_ranges.specs.declared.pattern.Pattern.{Pattern}
-use Rattle.fs_ranges.specs.declared.ranges.Range.{Range}
-use Rattle.fs_ranges.specs.declared.tests.Test.TheVariants.{Within, TcpFlags, Destination, Source}
-use Rattle.fs_ranges.specs.Facts.{facts_of}
-use Rattle.fs_ranges.specs.Ranges.{range, range_holds}
-use Rattle.fs_ranges.specs.Tests.{IsPatternOf, IsTestOf, flags_pass}
 use Rattle.fs_ranges.proofs.Blocks.{in_v4, in_v6}
 
 v4_last : (p : Prefix) → p.family ≡ V4 → last_address p + 1 ≡ p.bits + 2 ^ (32 - p.length)

@@ -1,11 +1,6 @@
+use Rattle.fs_ranges.proofs.Words.{◌≡◌, ℕ, zero, suc, ◌+◌, ◌^◌, ◌<◌, ◌≤◌, List, [], ◌∷◌, length, get_or, Bool, true, false, true≢false, ◌&&◌, ◌||◌, nat_le, nat_lt, refl, sym, ap, ◌∙◌, arith, inl, inr, list_all, list_any, IsPartitionPoint, IsPartitionedBy, IsTrue, ◌↔◌, and_right, cases_lt, le-leb, leb-true, leb-false, lt-leb, le-ltb, lt-ltb, ltb-true, ltb-false, and_both, and_parts, or_first, or_second, AreApart, contains, encloses, is_in}
+
 -- A stretch that is covered by ranges with gaps between them lies in one of them.
-use Rattle.std.proofs.Common.{◌≡◌, ℕ, zero, suc, ◌+◌, ◌^◌, ◌<◌, ◌≤◌, List, [], ◌∷◌, length, get_or, Bool, true, false, true≢false, ◌&&◌, ◌||◌, nat_le, nat_lt, refl, sym, ap, ◌∙◌, arith, inl, inr}
-use Rattle.std.specs.List.{list_all, list_any}
-use Rattle.std.specs.List.Sorted.{IsPartitionPoint, IsPartitionedBy}
-use Rattle.std.specs.Prelude.{IsTrue, ◌↔◌}
-use Rattle.std.proofs.lemmas.Bool.{and_right, cases_lt, le-leb, leb-true, leb-false, lt-leb, le-ltb, lt-ltb, ltb-true, ltb-false}
-use Rattle.fs_base.proofs.Bools.{and_both, and_parts, or_first, or_second}
-use Rattle.fs_ranges.specs.Spans.{AreApart, contains, encloses, is_in}
 
 abbrev pub all_within : (ranges others : List (ℕ × ℕ)) → Bool
 all_within ranges others = list_all (λ range. list_any (encloses range) others) ranges

@@ -1,20 +1,7 @@
 -- The test of a list by a field's number, of which an absent one is above all.
-use Rattle.std.proofs.Common.{◌≡◌, ℕ, ◌-◌, ◌^◌, ◌<◌, ◌≤◌, min, List, [], ◌∷◌, Bool, true, false, true≢false, ◌&&◌, ◌||◌, nat_le, nat_lt, if◌then◌else◌, Option, Some, None, refl, sym, ap, subst, ◌∙◌, arith}
-use Rattle.std.specs.Prelude.{Result, Ok, Err, IfOk}
-use Rattle.std.proofs.lemmas.Bool.{and_right, le-leb, le-ltb, leb-true, lt-leb, lt-ltb}
+use Rattle.fs_ranges.proofs.Words.{◌≡◌, ℕ, ◌-◌, ◌^◌, ◌<◌, ◌≤◌, min, List, [], ◌∷◌, Bool, true, false, true≢false, ◌&&◌, ◌||◌, nat_le, nat_lt, if◌then◌else◌, Option, Some, None, refl, sym, ap, subst, ◌∙◌, arith, Result, Ok, Err, IfOk, and_right, le-leb, le-ltb, leb-true, lt-leb, lt-ltb, same_tests, ListBody, part, Viewed, holds_of, list_matches, Test, Within, OneOf, PortWithin, IsSmall, IsSmallField, facts_of, field_number, number_of, AreNumbersOf, IsOnlyRange, has_field, range, clipped, contains, field_range, is_in, IsFieldTest, IsTestOf}
 use Rattle.std.proofs.lemmas.Option.{same_Some}
 use Rattle.fs_base.specs.declared.Memory.{Memory}
-use Rattle.fs_base.proofs.Bools.{same_tests}
-use Rattle.fs_nlri.specs.Parts.{ListBody, part}
-use Rattle.fs_packet.specs.Fields.{Viewed}
-use Rattle.fs_packet.specs.Matching.{holds_of, list_matches}
-use Rattle.fs_ranges.specs.declared.tests.Test.{Test}
-use Rattle.fs_ranges.specs.declared.tests.Test.TheVariants.{Within, OneOf, PortWithin}
-use Rattle.fs_ranges.specs.Facts.{IsSmall, IsSmallField, facts_of, field_number, number_of}
-use Rattle.fs_ranges.specs.Numbers.{AreNumbersOf, IsOnlyRange, has_field}
-use Rattle.fs_ranges.specs.Ranges.{range}
-use Rattle.fs_ranges.specs.Spans.{clipped, contains, field_range, is_in}
-use Rattle.fs_ranges.specs.Tests.{IsFieldTest, IsTestOf}
 use Rattle.fs_ranges.proofs.Enclosing.{from_in}
 
 nothing_in : (n : ℕ) → is_in n (1, 0) ≡ false

@@ -1,16 +1,6 @@
 -- A list that says of TCP flags no more than that SYN is set, as a range.
-use Rattle.std.proofs.Common.{◌≡◌, ◌≤◌, ℕ, ◌==◌, Bool, true, false, true≢false, not, ◌&&◌, ◌||◌, nat_le, bit_and, if◌then◌else◌, List, [], ◌∷◌, Option, Some, None, refl, sym, ap, ◌∙◌, arith}
-use Rattle.std.proofs.lemmas.Bool.{eq-eqb, eqb-true, le-leb, leb-true}
+use Rattle.fs_ranges.proofs.Words.{◌≡◌, ◌≤◌, ℕ, ◌==◌, Bool, true, false, true≢false, not, ◌&&◌, ◌||◌, nat_le, bit_and, if◌then◌else◌, List, [], ◌∷◌, Option, Some, None, refl, sym, ap, ◌∙◌, arith, eq-eqb, eqb-true, le-leb, leb-true, and_first, and_second, same_tests, ListBody, part, IsSoundBody, has_bit, holds, masks, Within, syn_number, is_match, is_syn, range, IsTestOf, flags_pass}
 use Rattle.std.proofs.lemmas.Nat.{and_assoc}
-use Rattle.fs_base.proofs.Bools.{and_first, and_second, same_tests}
-use Rattle.fs_nlri.specs.Parts.{ListBody, part}
-use Rattle.fs_nlri.specs.Sound.{IsSoundBody}
-use Rattle.fs_ops.specs.Evaluation.{has_bit, holds, masks}
-use Rattle.fs_ranges.specs.declared.tests.Test.TheVariants.{Within}
-use Rattle.fs_ranges.specs.Facts.{syn_number}
-use Rattle.fs_ranges.specs.Flags.{is_match, is_syn}
-use Rattle.fs_ranges.specs.Ranges.{range}
-use Rattle.fs_ranges.specs.Tests.{IsTestOf, flags_pass}
 use Rattle.fs_ranges.proofs.ComponentTests.{flags_are}
 
 two : (b : ℕ) → (nat_le 2 b && nat_le b 2) ≡ (b == 2)

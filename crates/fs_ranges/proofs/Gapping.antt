@@ -1,13 +1,6 @@
+use Rattle.fs_ranges.proofs.Words.{◌≡◌, ℕ, suc, ◌+◌, ◌-◌, ◌^◌, ◌<◌, ◌≤◌, max, List, [], ◌∷◌, ◌++◌, length, get_or, Bool, true, false, not, ◌&&◌, ◌||◌, nat_le, nat_lt, if◌then◌else◌, refl, sym, ap, subst, ◌∙◌, arith, All, AllByRecursion, IsNonDecreasingBy, and_left, le-leb, lt-leb, lt-ltb, ltb-true, nat_tests, All-append, All-cons, All-nil, list_any-append, AreApart, IsRange, contains, is_in, gap, gaps_from}
+
 -- What ranges leave out: the numbers that are in none of them, as ranges with a gap before each next.
-use Rattle.std.proofs.Common.{◌≡◌, ℕ, suc, ◌+◌, ◌-◌, ◌^◌, ◌<◌, ◌≤◌, max, List, [], ◌∷◌, ◌++◌, length, get_or, Bool, true, false, not, ◌&&◌, ◌||◌, nat_le, nat_lt, if◌then◌else◌, refl, sym, ap, subst, ◌∙◌, arith}
-use Rattle.std.specs.List.{All, AllByRecursion}
-use Rattle.std.specs.List.Sorted.{IsNonDecreasingBy}
-use Rattle.std.proofs.lemmas.Bool.{and_left, le-leb, lt-leb, lt-ltb, ltb-true}
-use Rattle.std.proofs.lemmas.Bool.Decides.{nat_tests}
-use Rattle.std.proofs.lemmas.List.Elements.{All-append, All-cons, All-nil}
-use Rattle.std.proofs.lemmas.List.Folds.{list_any-append}
-use Rattle.fs_ranges.specs.Spans.{AreApart, IsRange, contains, is_in}
-use Rattle.fs_ranges.specs.Gaps.{gap, gaps_from}
 
 -- no range begins below the number, and none before an earlier one
 abbrev pub AreAscending : ℕ → List (ℕ × ℕ) → Type 0

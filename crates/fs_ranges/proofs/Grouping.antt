@@ -1,15 +1,7 @@
 -- The numbers of a list, pair by pair: those of which an earlier group holds, and those that the group in hand misses.
-use Rattle.std.proofs.Common.{◌≡◌, ℕ, ◌+◌, ◌-◌, ◌^◌, ◌<◌, ◌≤◌, ◌==◌, List, [], ◌∷◌, ◌++◌, Bool, true, false, not, ◌&&◌, ◌||◌, nat_lt, if◌then◌else◌, refl, sym, ap, subst, ◌∙◌, append_assoc, arith, inl, inr}
-use Rattle.std.specs.List.{All}
-use Rattle.std.proofs.lemmas.Bool.{cases_lt, eqb-false, le-leb, or_parts}
-use Rattle.std.proofs.lemmas.Bool.Decides.{nat_tests}
-use Rattle.std.proofs.lemmas.List.Elements.{All-append, All-cons, All-nil}
-use Rattle.std.proofs.lemmas.List.Folds.{list_any-append}
+use Rattle.fs_ranges.proofs.Words.{◌≡◌, ℕ, ◌+◌, ◌-◌, ◌^◌, ◌<◌, ◌≤◌, ◌==◌, List, [], ◌∷◌, ◌++◌, Bool, true, false, not, ◌&&◌, ◌||◌, nat_lt, if◌then◌else◌, refl, sym, ap, subst, ◌∙◌, append_assoc, arith, inl, inr, All, cases_lt, eqb-false, le-leb, or_parts, nat_tests, All-append, All-cons, All-nil, list_any-append, compares, has_bit, holds, answers, answers_all, IsRange, contains, is_in}
 use Rattle.fs_ops.specs.Operator.{joins}
-use Rattle.fs_ops.specs.Evaluation.{compares, has_bit, holds}
 use Rattle.fs_ops.specs.OperatorList.{first_joins}
-use Rattle.fs_ops.proofs.Groups.{answers, answers_all}
-use Rattle.fs_ranges.specs.Spans.{IsRange, contains, is_in}
 use Rattle.fs_ranges.specs.Groups.{TakesPair, missed_above, missed_at, missed_below}
 
 -- the ranges of a pair are the numbers that it misses

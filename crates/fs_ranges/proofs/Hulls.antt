@@ -1,16 +1,5 @@
 -- The range from the least number of a list to the greatest, before the list's own test.
-use Rattle.std.proofs.Common.{◌≡◌, ℕ, ◌+◌, ◌<◌, ◌≤◌, Bool, true, false, true≢false, ◌&&◌, ◌||◌, List, [], take, get_or, length, refl, sym, ap, ◌∙◌, arith}
-use Rattle.std.proofs.lemmas.List.Folds.{list_any_more}
-use Rattle.fs_base.proofs.Bools.{and_true}
-use Rattle.fs_ranges.specs.declared.ranges.Range.{Range}
-use Rattle.fs_ranges.specs.declared.ranges.Ranges.{Ranges}
-use Rattle.fs_ranges.specs.declared.tests.Test.{Test}
-use Rattle.fs_ranges.specs.declared.tests.Test.TheVariants.{Within}
-use Rattle.fs_ranges.specs.Facts.{Facts, number_of}
-use Rattle.fs_ranges.specs.Fast.{AreFree}
-use Rattle.fs_ranges.specs.Ranges.{range_holds, ranges_hold, with_range}
-use Rattle.fs_ranges.specs.Spans.{contains, is_in}
-use Rattle.fs_ranges.specs.Tests.{passes}
+use Rattle.fs_ranges.proofs.Words.{◌≡◌, ℕ, ◌+◌, ◌<◌, ◌≤◌, Bool, true, false, true≢false, ◌&&◌, ◌||◌, List, [], take, get_or, length, refl, sym, ap, ◌∙◌, arith, list_any_more, and_true, Range, Ranges, Test, Within, Facts, number_of, AreFree, range_holds, ranges_hold, with_range, contains, is_in, passes}
 use Rattle.fs_ranges.proofs.Enclosing.{from_in, to_in}
 use Rattle.fs_ranges.proofs.Placing.{put_placed}
 

@@ -1,13 +1,6 @@
+use Rattle.fs_ranges.proofs.Words.{◌≡◌, ◌==◌, ℕ, suc, ◌+◌, ◌<◌, List, [], ◌∷◌, ◌++◌, map, length, get_or, drop, drop-cons, Bool, true, false, true≢false, not, ◌&&◌, ◌||◌, nat_le, nat_lt, if◌then◌else◌, refl, sym, ap, ◌∙◌, arith, append_assoc, All, list_any, list_all, leb-true, nat_tests, All-head, All-tail, and_first, and_second, and_true, false_of_not, compares, groups_of, has_bit, holds, onto_group, are_singles, is_equality, is_single, lone, AreApart, IsRange, contains, is_in}
+
 -- Lists of single numbers.
-use Rattle.std.proofs.Common.{◌≡◌, ◌==◌, ℕ, suc, ◌+◌, ◌<◌, List, [], ◌∷◌, ◌++◌, map, length, get_or, drop, drop-cons, Bool, true, false, true≢false, not, ◌&&◌, ◌||◌, nat_le, nat_lt, if◌then◌else◌, refl, sym, ap, ◌∙◌, arith, append_assoc}
-use Rattle.std.specs.List.{All, list_any, list_all}
-use Rattle.std.proofs.lemmas.Bool.{leb-true}
-use Rattle.std.proofs.lemmas.Bool.Decides.{nat_tests}
-use Rattle.std.proofs.lemmas.List.Elements.{All-head, All-tail}
-use Rattle.fs_base.proofs.Bools.{and_first, and_second, and_true, false_of_not}
-use Rattle.fs_ops.specs.Evaluation.{compares, groups_of, has_bit, holds, onto_group}
-use Rattle.fs_ranges.specs.Numbers.{are_singles, is_equality, is_single, lone}
-use Rattle.fs_ranges.specs.Spans.{AreApart, IsRange, contains, is_in}
 
 -- which number a pair holds of, by the bits of its operator
 equal_bits : (less greater equal : Bool) (v n : ℕ) → (not less && (not greater && equal)) ≡ true → ((less && nat_lt n v) || ((greater && nat_lt v n) || (equal && (n == v)))) ≡ is_in n (v, v)

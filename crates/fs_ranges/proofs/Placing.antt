@@ -1,25 +1,7 @@
 -- One test more of a rule, in a free place among its ranges or behind them.
-use Rattle.std.proofs.Common.{◌≡◌, ℕ, zero, suc, ◌+◌, ◌<◌, ◌≤◌, List, [], ◌∷◌, length, drop, get_or, Bool, true, ◌&&◌, ◌==◌, nat_le, Some, refl, sym, ap, subst, ◌∙◌, arith}
-use Rattle.std.specs.List.{list_all}
+use Rattle.fs_ranges.proofs.Words.{◌≡◌, ℕ, zero, suc, ◌+◌, ◌<◌, ◌≤◌, List, [], ◌∷◌, length, drop, get_or, Bool, true, ◌&&◌, ◌==◌, nat_le, Some, refl, sym, ap, subst, ◌∙◌, arith, list_all, drop_all, and_assoc, and_comm, and_first, and_second, and_true, afi_of, Component, part_of, parts_of, AreSound, Viewed, part_matches, Range, Ranges, Test, Within, OneOf, PortWithin, Ports, TcpFlags, Fragment, Destination, Source, Facts, AreFacts, IsSmall, facts_of, number_of, AreFree, AreTestsOf, IsPut, all_pass, facts_hold, fast_holds, bounds_at, field_at, free_ranges, is_in_range, range_at, range_holds, ranges_hold, with_range, IsTestOf, passes, test_range}
 use Rattle.std.proofs.Math.Seq.{drop-cons}
-use Rattle.std.proofs.lemmas.List.{drop_all}
-use Rattle.std.proofs.Math.Bool.{and_assoc, and_comm}
-use Rattle.fs_base.proofs.Bools.{and_first, and_second, and_true}
-use Rattle.fs_base.specs.Bits.{afi_of}
-use Rattle.fs_nlri.specs.declared.component.Component.{Component}
-use Rattle.fs_nlri.specs.Component.{part_of, parts_of}
-use Rattle.fs_nlri.specs.Sound.{AreSound}
-use Rattle.fs_packet.specs.Fields.{Viewed}
-use Rattle.fs_packet.specs.Matching.{part_matches}
 use Rattle.fs_ranges.specs.declared.fast.Fast.{Fast}
-use Rattle.fs_ranges.specs.declared.ranges.Range.{Range}
-use Rattle.fs_ranges.specs.declared.ranges.Ranges.{Ranges}
-use Rattle.fs_ranges.specs.declared.tests.Test.{Test}
-use Rattle.fs_ranges.specs.declared.tests.Test.TheVariants.{Within, OneOf, PortWithin, Ports, TcpFlags, Fragment, Destination, Source}
-use Rattle.fs_ranges.specs.Facts.{Facts, AreFacts, IsSmall, facts_of, number_of}
-use Rattle.fs_ranges.specs.Fast.{AreFree, AreTestsOf, IsPut, all_pass, facts_hold, fast_holds}
-use Rattle.fs_ranges.specs.Ranges.{bounds_at, field_at, free_ranges, is_in_range, range_at, range_holds, ranges_hold, with_range}
-use Rattle.fs_ranges.specs.Tests.{IsTestOf, passes, test_range}
 use Rattle.fs_ranges.proofs.Truths.{and_swap}
 
 first_of_four : (a b c d x : Bool) → d ≡ true → (x && (a && (b && c))) ≡ ((a && (b && (c && d))) && x)

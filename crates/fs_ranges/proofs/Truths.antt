@@ -1,8 +1,6 @@
+use Rattle.fs_ranges.proofs.Words.{◌≡◌, ℕ, ◌<◌, Bool, true, false, true≢false, ◌&&◌, List, get_or, length, refl, sym, ◌∙◌, list_all, list_all_at, and_comm}
+
 -- Laws of truth values, and of tests of numbers.
-use Rattle.std.proofs.Common.{◌≡◌, ℕ, ◌<◌, Bool, true, false, true≢false, ◌&&◌, List, get_or, length, refl, sym, ◌∙◌}
-use Rattle.std.specs.List.{list_all}
-use Rattle.std.proofs.lemmas.List.Folds.{list_all_at}
-use Rattle.std.proofs.Math.Bool.{and_comm}
 
 pub and_swap : (a x c : Bool) → ((a && x) && c) ≡ ((a && c) && x)
 and_swap true x c = and_comm x c

@@ -1,3 +1,4 @@
+mod Words
 pub mod Reported
 mod Numbers
 mod PeerLines

@@ -1,14 +1,10 @@
 -- The lines of peers, by the sessions that a desk keeps and by those of the tape's octets.
-use Rattle.std.proofs.Common.{◌≡◌, ℕ, List, [], ◌∷◌, ◌++◌, refl, ap, ◌∙◌}
+use Rattle.fs_reports.proofs.Words.{◌≡◌, ℕ, List, [], ◌∷◌, ◌++◌, refl, ap, ◌∙◌, Desked, Played, standing_of, standing_at_desk, listing_of, listing, desk_text, peer_line, peers_text, numbers_of, family_text}
 use Rattle.fs_base.specs.declared.config.Config.{Config}
 use Rattle.fs_base.specs.declared.prefix.Family.TheVariants.{V4, V6}
 use Rattle.fs_speaker.specs.declared.Standing.{Standing}
 use Rattle.fs_tape.specs.Tape.{Item}
-use Rattle.fs_desk.specs.Desk.{Desked, Played, standing_of, standing_at_desk}
 use Rattle.fs_desk.proofs.Standing.{desk_stands}
-use Rattle.fs_reports.specs.Listing.{listing_of, listing, desk_text}
-use Rattle.fs_reports.specs.Peers.{peer_line, peers_text, numbers_of}
-use Rattle.fs_reports.specs.Rules.{family_text}
 
 peers_same : (numbers : List ℕ) (a b : ℕ → Standing) → ((n : ℕ) → a n ≡ b n) → peers_text numbers a ≡ peers_text numbers b
 peers_same [] a b same = refl

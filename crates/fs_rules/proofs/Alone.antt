@@ -1,21 +1,6 @@
 -- That a route between those of other rules is the only one of its rule.
-use Rattle.std.proofs.Common.{ℕ, zero, suc, ◌≡◌, ◌+◌, ◌-◌, ◌<◌, refl, sym, ap, subst, ◌∙◌, Bool, true, false, true≢false, not, ◌&&◌, ◌||◌, List, [], ◌∷◌, length, slice_get, drop, Some, Ordering, Less, Equal, Greater, is_lt, nat_cmp, arith}
-use Rattle.std.specs.List.{AllByRecursion}
-use Rattle.std.specs.Ordering.{ordering_then, is_gt}
-use Rattle.std.specs.Cmp.{tied_itself}
-use Rattle.std.proofs.lemmas.Bool.Decides.{nat_tests}
-use Rattle.std.proofs.lemmas.Option.{get_or_from_slice_get}
-use Rattle.fs_base.proofs.Bools.{false_of_not}
-use Rattle.fs_base.proofs.Lists.{each_of_map, each_weaker}
-use Rattle.fs_order.specs.Ranked.{rule_total}
-use Rattle.fs_unicast.specs.Preference.{preferred}
-use Rattle.fs_unicast.proofs.Best.{preference_total}
-use Rattle.fs_flows.specs.Kept.{Kept}
-use Rattle.fs_flows.specs.Table.{key_cmp, is_valid, same_rule, beats}
-use Rattle.fs_flows.specs.Group.{routes_of, AreSorted, place_in, is_beaten}
-use Rattle.fs_rules.specs.Rivals.{is_apart, is_before_rule}
+use Rattle.fs_rules.proofs.Words.{ℕ, zero, suc, ◌≡◌, ◌+◌, ◌-◌, ◌<◌, refl, sym, ap, subst, ◌∙◌, Bool, true, false, true≢false, not, ◌&&◌, ◌||◌, List, [], ◌∷◌, length, slice_get, drop, Some, Ordering, Less, Equal, Greater, is_lt, nat_cmp, arith, AllByRecursion, ordering_then, is_gt, tied_itself, nat_tests, get_or_from_slice_get, false_of_not, each_of_map, each_weaker, rule_total, preferred, preference_total, Kept, key_cmp, is_valid, same_rule, beats, routes_of, AreSorted, place_in, is_beaten, is_apart, is_before_rule, NotBefore, not_after_later}
 use Rattle.fs_rules.proofs.Stepping.{rest_is}
-use Rattle.fs_flows.proofs.KeyPlaces.{NotBefore, not_after_later}
 use Rattle.fs_rules.proofs.Runs.{run_ends, beaten_from, sorted-drop, starts_at, starts_first}
 
 -- no route is preferred to itself

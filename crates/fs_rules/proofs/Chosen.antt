@@ -1,27 +1,5 @@
 -- What the kept validities tell is what is defined over all held routes.
-use Rattle.std.proofs.Common.{ℕ, zero, suc, ◌≡◌, refl, sym, ap, ap₂, subst, ◌∙◌, Bool, true, false, not, ◌&&◌, ◌||◌, cond, List, [], ◌∷◌, filter, map, slice_get, option_map, Option}
-use Rattle.std.specs.List.{list_any, AllByRecursion}
-use Rattle.fs_base.specs.declared.config.Config.{Config}
-use Rattle.fs_base.specs.declared.prefix.Family.{Family}
-use Rattle.fs_base.proofs.Lists.{each_weaker, filter_on, each_mapped}
-use Rattle.fs_unicast.specs.Unicast.{Route, place_cmp}
-use Rattle.fs_validate.specs.Validity.{validity}
-use Rattle.fs_validate.specs.declared.route.FlowRoute.{FlowRoute}
-use Rattle.fs_flows.specs.Kept.{Kept}
-use Rattle.fs_flows.specs.Table.{Held, is_of_family, is_valid, beats, is_most_preferred, admitted, IsRuleOf}
-use Rattle.fs_rules.specs.Lent.{Judged, judged, listed, held_flows}
-use Rattle.fs_rules.specs.Lists.{judgement, listing}
-use Rattle.fs_flows.specs.Group.{routes_of, AreRight, Keeps, is_chosen, chosen, mended, AreSorted, of_family}
-use Rattle.fs_flows.proofs.Changed.{routes-filter, AgreeOff, keeps-mended, agree_insert, agree_remove}
-use Rattle.std.specs.BTreeMap.{insert_entry, is_at}
-use Rattle.std.specs.Map.{remove_entry}
-use Rattle.fs_base.specs.declared.prefix.Prefix.{Prefix}
-use Rattle.fs_base.specs.declared.path.Path.{Path}
-use Rattle.fs_unicast.specs.declared.unicast.Place.{Place}
-use Rattle.fs_flows.specs.Changes.{is_to}
-use Rattle.fs_flows.specs.Groups.{Entry, IsSound}
-use Rattle.fs_flows.specs.Lending.{AreLent}
-use Rattle.fs_rules.specs.Reading.{AreTold}
+use Rattle.fs_rules.proofs.Words.{ℕ, zero, suc, ◌≡◌, refl, sym, ap, ap₂, subst, ◌∙◌, Bool, true, false, not, ◌&&◌, ◌||◌, cond, List, [], ◌∷◌, filter, map, slice_get, option_map, Option, list_any, AllByRecursion, Config, Family, each_weaker, filter_on, each_mapped, Route, place_cmp, validity, FlowRoute, Kept, Held, is_of_family, is_valid, beats, is_most_preferred, admitted, IsRuleOf, Judged, judged, listed, held_flows, judgement, listing, routes_of, AreRight, Keeps, is_chosen, chosen, mended, AreSorted, of_family, routes-filter, AgreeOff, keeps-mended, agree_insert, agree_remove, insert_entry, is_at, remove_entry, Prefix, Path, Place, is_to, Entry, IsSound, AreLent, AreTold}
 use Rattle.fs_rules.proofs.Complete.{held_rising, is_admitted_list}
 use Rattle.fs_flows.proofs.Places.{stands_here}
 

@@ -1,24 +1,6 @@
 -- Each rule that has a valid route has a most preferred one.
-use Rattle.std.proofs.Common.{ℕ, ◌≡◌, refl, sym, ap, ◌∙◌, Bool, true, false, true≢false, not, ◌&&◌, ◌||◌, ◌==◌, filter, map, List, [], ◌∷◌, Less, Equal, is_eq, is_lt, nat_cmp, arith}
-use Rattle.std.specs.List.{list_any, AllByRecursion}
-use Rattle.std.specs.Cmp.{tied_itself, tied_back}
-use Rattle.std.proofs.lemmas.Bool.Decides.{nat_tests}
-use Rattle.fs_base.specs.declared.prefix.Family.{Family}
+use Rattle.fs_rules.proofs.Words.{ℕ, ◌≡◌, refl, sym, ap, ◌∙◌, Bool, true, false, true≢false, not, ◌&&◌, ◌||◌, ◌==◌, filter, map, List, [], ◌∷◌, Less, Equal, is_eq, is_lt, nat_cmp, arith, list_any, AllByRecursion, tied_itself, tied_back, nat_tests, Family, Path, or_first, or_second, and_both, and_first, and_second, false_from, each_weaker, each_mapped, none_each, each_none, any_filter, equal_of_is_eq, less_of_is_lt, rule_cmp, rule_total, preference_cmp, preferred, FlowRoute, Held, is_of_family, stands, same_rule, beats, is_most_preferred, admitted, IsAdmitted, AreSorted, judged, judged_cmp, AreRising, held_flows, sorted-filter, first_equal, preference_total}
 use Rattle.fs_base.specs.Bits.{afi_of}
-use Rattle.fs_base.specs.declared.path.Path.{Path}
-use Rattle.fs_base.proofs.Bools.{or_first, or_second, and_both, and_first, and_second, false_from}
-use Rattle.fs_base.proofs.Lists.{each_weaker, each_mapped, none_each, each_none, any_filter}
-use Rattle.fs_base.proofs.Orderings.{equal_of_is_eq, less_of_is_lt}
-use Rattle.fs_order.specs.Comparison.{rule_cmp}
-use Rattle.fs_order.specs.Ranked.{rule_total}
-use Rattle.fs_unicast.specs.Preference.{preference_cmp, preferred}
-use Rattle.fs_validate.specs.declared.route.FlowRoute.{FlowRoute}
-use Rattle.fs_flows.specs.Table.{Held, is_of_family, stands, same_rule, beats, is_most_preferred, admitted, IsAdmitted}
-use Rattle.fs_flows.specs.Group.{AreSorted}
-use Rattle.fs_rules.specs.Lent.{judged, judged_cmp, AreRising, held_flows}
-use Rattle.fs_flows.proofs.Changed.{sorted-filter}
-use Rattle.fs_order.proofs.Same.{first_equal}
-use Rattle.fs_unicast.proofs.Best.{preference_total}
 use Rattle.fs_rules.proofs.Orders.{admitted_ordered}
 
 abbrev seen : FlowRoute → ℕ × Path

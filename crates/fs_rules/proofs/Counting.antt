@@ -1,28 +1,6 @@
 -- How many routes a peer holds, and the counts of them.
-use Rattle.std.proofs.Common.{◌≡◌, ℕ, ◌+◌, ◌-◌, refl, sym, ap, ◌∙◌, Bool, true, false, true≢false, not, ◌&&◌, ◌||◌, ◌==◌, nat_lt, cond, if◌then◌else◌, List, [], ◌∷◌, length, filter, Some, is_some, Ordering, Less, Equal, Greater, is_eq, nat_cmp, arith}
-use Rattle.std.proofs.lemmas.Bool.Decides.{nat_tests}
-use Rattle.std.specs.BTreeMap.{insert_entry, is_at}
-use Rattle.std.specs.Cmp.{IsTotalOrder}
-use Rattle.std.specs.List.{AllByRecursion}
-use Rattle.std.specs.List.Sorted.{IsStrictlySortedBy}
-use Rattle.std.specs.Map.{lookup, remove_entry, keys_of}
-use Rattle.std.specs.Ordering.{match_ordering, ordering_then}
-use Rattle.std.proofs.lemmas.Map.Keys.{sorted_head, sorted_tail}
-use Rattle.fs_base.specs.declared.config.Config.{Config}
-use Rattle.fs_base.specs.declared.path.Path.{Path}
-use Rattle.fs_base.specs.declared.prefix.Prefix.{Prefix}
-use Rattle.fs_base.specs.Prefix.{prefix_cmp}
-use Rattle.fs_base.proofs.Lists.{each, each_weaker, each_none, filter_all}
+use Rattle.fs_rules.proofs.Words.{◌≡◌, ℕ, ◌+◌, ◌-◌, refl, sym, ap, ◌∙◌, Bool, true, false, true≢false, not, ◌&&◌, ◌||◌, ◌==◌, nat_lt, cond, if◌then◌else◌, List, [], ◌∷◌, length, filter, Some, is_some, Ordering, Less, Equal, Greater, is_eq, nat_cmp, arith, nat_tests, insert_entry, is_at, IsTotalOrder, AllByRecursion, IsStrictlySortedBy, lookup, remove_entry, keys_of, match_ordering, ordering_then, sorted_head, sorted_tail, Config, Path, Prefix, prefix_cmp, each, each_weaker, each_none, filter_all, equal_of_is_eq, is_eq_of_nats, Ruled, place_total, Route, place_cmp, put_path, take_path, has_path, FlowRoute, Held, held_count, without_peer, key_cmp, is_key, put_route, without_route, has_route, without_peer_unicast, without_peer_flows, count_in, AreSorted, Counts, count_of, flow_total}
 use Rattle.fs_base.proofs.NumberTests.{eq_itself}
-use Rattle.fs_base.proofs.Orderings.{equal_of_is_eq, is_eq_of_nats}
-use Rattle.fs_nlri.specs.Parts.{Ruled}
-use Rattle.fs_unicast.proofs.PlaceOrder.{place_total}
-use Rattle.fs_unicast.specs.Unicast.{Route, place_cmp, put_path, take_path, has_path}
-use Rattle.fs_validate.specs.declared.route.FlowRoute.{FlowRoute}
-use Rattle.fs_flows.specs.Table.{Held, held_count, without_peer, key_cmp, is_key, put_route, without_route, has_route, without_peer_unicast, without_peer_flows, count_in}
-use Rattle.fs_flows.specs.Group.{AreSorted}
-use Rattle.fs_rules.specs.Counts.{Counts, count_of}
-use Rattle.fs_flows.proofs.Changed.{flow_total}
 use Rattle.fs_rules.proofs.Chosen.{held_of, with_flows}
 
 above : {K : Type 0} {cmp : K → K → Ordering} (total : IsTotalOrder cmp) (k p : K) (qs : List K) → cmp k p ≡ Less → AllByRecursion (λ q. cmp p q ≡ Less) qs → AllByRecursion (λ q. cmp k q ≡ Less) qs

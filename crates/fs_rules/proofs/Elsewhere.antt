@@ -1,26 +1,5 @@
 -- Of the rules that a change doesn't touch the same routes are admitted, since a route is beaten only by one of its rule.
-use Rattle.std.proofs.Common.{◌≡◌, refl, sym, ap, ap₂, subst, ◌∙◌, Bool, true, false, not, ◌&&◌, ◌||◌, cond, List, [], ◌∷◌, filter, Ordering, Less, Equal, Greater, nat_cmp, ℕ}
-use Rattle.std.specs.List.{list_any, AllByRecursion}
-use Rattle.std.specs.Ordering.{match_ordering}
-use Rattle.fs_base.specs.declared.config.Config.{Config}
-use Rattle.fs_base.specs.declared.prefix.Family.{Family}
-use Rattle.fs_base.specs.declared.prefix.Prefix.{Prefix}
-use Rattle.fs_base.proofs.Bools.{and_both, and_first, and_second, false_of_not, or_second, same_tests}
-use Rattle.fs_base.proofs.Lists.{any_filter, any_on, each, each_both, each_weaker, filter_none, filter_on, each_mapped}
-use Rattle.fs_base.proofs.Orderings.{equal_of_is_eq}
-use Rattle.fs_nlri.specs.Parts.{Ruled}
-use Rattle.fs_nlri.specs.Rule.{IsRule, destination_prefix}
-use Rattle.fs_order.specs.Comparison.{rule_cmp}
-use Rattle.fs_order.proofs.Same.{first_equal, same_rules}
-use Rattle.fs_unicast.specs.Preference.{preferred}
-use Rattle.fs_unicast.specs.Unicast.{Route}
-use Rattle.fs_validate.specs.Validity.{validity}
-use Rattle.fs_validate.specs.declared.route.FlowRoute.{FlowRoute}
-use Rattle.fs_flows.specs.Kept.{Kept}
-use Rattle.fs_flows.specs.Group.{IsRight, AreRight, IsMarked, is_related_kept, routes_of, HaveRules}
-use Rattle.fs_flows.specs.Changes.{AdmitsElsewhere, Covers, Noted, StaysNoted, is_noted, touched_by}
-use Rattle.fs_flows.specs.Table.{Held, admitted, beats, is_key, is_most_preferred, is_of_family, is_valid, key_cmp, put_route, same_rule, without_route}
-use Rattle.fs_flows.proofs.Changed.{AgreeOff, each-filtered, each-put_route, unrelated}
+use Rattle.fs_rules.proofs.Words.{◌≡◌, refl, sym, ap, ap₂, subst, ◌∙◌, Bool, true, false, not, ◌&&◌, ◌||◌, cond, List, [], ◌∷◌, filter, Ordering, Less, Equal, Greater, nat_cmp, ℕ, list_any, AllByRecursion, match_ordering, Config, Family, Prefix, and_both, and_first, and_second, false_of_not, or_second, same_tests, any_filter, any_on, each, each_both, each_weaker, filter_none, filter_on, each_mapped, equal_of_is_eq, Ruled, IsRule, destination_prefix, rule_cmp, first_equal, same_rules, preferred, Route, validity, FlowRoute, Kept, IsRight, AreRight, IsMarked, is_related_kept, routes_of, HaveRules, AdmitsElsewhere, Covers, Noted, StaysNoted, is_noted, touched_by, Held, admitted, beats, is_key, is_most_preferred, is_of_family, is_valid, key_cmp, put_route, same_rule, without_route, AgreeOff, each-filtered, each-put_route, unrelated}
 use Rattle.fs_rules.proofs.Chosen.{held_of}
 use Rattle.fs_flows.proofs.Noting.{filter_both, joined, spares}
 

@@ -1,14 +1,8 @@
 -- Entries that are kept in the order of their keys, as an ordered map has them.
-use Rattle.std.proofs.Common.{◌≡◌, List, [], ◌∷◌, Bool, true, false, cond, Option, Some, if◌then◌else◌, refl, ap, sym, ◌∙◌, true≢false}
+use Rattle.fs_rules.proofs.Words.{◌≡◌, List, [], ◌∷◌, Bool, true, false, cond, Option, Some, if◌then◌else◌, refl, ap, sym, ◌∙◌, true≢false, match_ordering, ordering_reverse, IsTotalOrder, alike_right, AllByRecursion, IsStrictlySortedBy, lookup, remove_entry, keys_of, insert_entry, is_at, equal_of_is_eq}
 use Rattle.std.specs.declared.cmp.Ordering.{Ordering}
 use Rattle.std.specs.declared.cmp.Ordering.TheVariants.{Less, Equal, Greater}
-use Rattle.std.specs.Ordering.{is_eq, match_ordering, ordering_reverse}
-use Rattle.std.specs.Cmp.{IsTotalOrder, alike_right}
-use Rattle.std.specs.List.{AllByRecursion}
-use Rattle.std.specs.List.Sorted.{IsStrictlySortedBy}
-use Rattle.std.specs.Map.{lookup, remove_entry, keys_of}
-use Rattle.std.specs.BTreeMap.{insert_entry, is_at}
-use Rattle.fs_base.proofs.Orderings.{equal_of_is_eq}
+use Rattle.std.specs.Ordering.{is_eq}
 
 module _ {K : Type 0} (R : K → K → Ordering) (o : IsTotalOrder R) where
   apart : (q k p : K) → R k p ≡ Greater → is_eq (R q k) ≡ true → is_eq (R q p) ≡ false

@@ -1,25 +1,5 @@
 -- A peer's unicast routes are taken away one after the other.
-use Rattle.std.proofs.Common.{ℕ, ◌≡◌, ◌+◌, ◌<◌, ◌≤◌, refl, sym, ap, subst, ◌∙◌, Bool, true, false, true≢false, not, ◌&&◌, ◌==◌, cond, List, [], ◌∷◌, length, find, Option, Some, None, option_map, Ordering, Less, Equal, Greater, is_eq, is_le, nat_cmp, arith}
-use Rattle.std.specs.List.{AllByRecursion}
-use Rattle.std.specs.Ordering.{ordering_then}
-use Rattle.std.proofs.lemmas.Bool.Decides.{nat_tests}
-use Rattle.std.specs.BTreeMap.{is_at}
-use Rattle.std.specs.Map.{keys_of, remove_entry}
-use Rattle.std.specs.List.Sorted.{IsStrictlySortedBy}
-use Rattle.std.specs.Cmp.{tied_itself}
-use Rattle.std.proofs.lemmas.Map.Keys.{sorted_head, sorted_tail}
-use Rattle.fs_base.proofs.Bools.{not_of_true}
-use Rattle.fs_base.specs.Prefix.{prefix_total, prefix_cmp}
-use Rattle.fs_base.specs.declared.prefix.Prefix.{Prefix}
-use Rattle.fs_base.proofs.SamePrefix.{same_from_cmp}
-use Rattle.fs_base.proofs.Lists.{filter-remove_other, each, each_weaker, each_of_map, each_remove, find_on}
-use Rattle.fs_base.proofs.Orderings.{is_le_of_then, is_eq_of_first}
-use Rattle.fs_unicast.specs.Unicast.{Route, place_cmp}
-use Rattle.fs_unicast.specs.declared.unicast.Place.{Place}
-use Rattle.fs_unicast.specs.Search.{held_by, is_from}
-use Rattle.fs_unicast.proofs.Ranges.{place, place_itself}
-use Rattle.fs_validate.specs.declared.route.FlowRoute.{FlowRoute}
-use Rattle.fs_flows.specs.Table.{Held, without_peer_unicast, related_count, related_sum}
+use Rattle.fs_rules.proofs.Words.{ℕ, ◌≡◌, ◌+◌, ◌<◌, ◌≤◌, refl, sym, ap, subst, ◌∙◌, Bool, true, false, true≢false, not, ◌&&◌, ◌==◌, cond, List, [], ◌∷◌, length, find, Option, Some, None, option_map, Ordering, Less, Equal, Greater, is_eq, is_le, nat_cmp, arith, AllByRecursion, ordering_then, nat_tests, is_at, keys_of, remove_entry, IsStrictlySortedBy, tied_itself, sorted_head, sorted_tail, not_of_true, prefix_total, prefix_cmp, Prefix, same_from_cmp, filter-remove_other, each, each_weaker, each_of_map, each_remove, find_on, is_le_of_then, is_eq_of_first, Route, place_cmp, Place, held_by, is_from, place, place_itself, FlowRoute, Held, without_peer_unicast, related_count, related_sum}
 use Rattle.fs_rules.proofs.Chosen.{with_unicast}
 
 -- the removed place is the peer's, and at the prefix

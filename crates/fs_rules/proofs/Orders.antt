@@ -1,20 +1,6 @@
+use Rattle.fs_rules.proofs.Words.{ℕ, ◌≡◌, refl, sym, ap, ◌∙◌, ◌⊎◌, inl, inr, Bool, true, false, true≢false, not, ◌&&◌, cond, List, [], ◌∷◌, filter, Ordering, Less, Equal, Greater, is_eq, is_lt, nat_cmp, list_any, AllByRecursion, ordering_then, ordering_reverse, bool_cmp, tied_back, and_both, and_first, and_second, false_of_not, Path, Family, each, each_weaker, each_both, none_each, rule_cmp, rule_total, preference_total, preference_cmp, preferred, path_length, FlowRoute, Held, key_cmp, is_of_family, stands, same_rule, beats, is_most_preferred, admitted, AreOrdered, AreSorted, each-filtered}
+
 -- The admitted rules stand in order, and each rule that has a valid route is among them.
-use Rattle.std.proofs.Common.{ℕ, ◌≡◌, refl, sym, ap, ◌∙◌, ◌⊎◌, inl, inr, Bool, true, false, true≢false, not, ◌&&◌, cond, List, [], ◌∷◌, filter, Ordering, Less, Equal, Greater, is_eq, is_lt, nat_cmp}
-use Rattle.std.specs.List.{list_any, AllByRecursion}
-use Rattle.std.specs.Ordering.{ordering_then, ordering_reverse, bool_cmp}
-use Rattle.std.specs.Cmp.{tied_back}
-use Rattle.fs_base.proofs.Bools.{and_both, and_first, and_second, false_of_not}
-use Rattle.fs_base.specs.declared.path.Path.{Path}
-use Rattle.fs_base.specs.declared.prefix.Family.{Family}
-use Rattle.fs_base.proofs.Lists.{each, each_weaker, each_both, none_each}
-use Rattle.fs_order.specs.Comparison.{rule_cmp}
-use Rattle.fs_order.specs.Ranked.{rule_total}
-use Rattle.fs_unicast.proofs.Best.{preference_total}
-use Rattle.fs_unicast.specs.Preference.{preference_cmp, preferred, path_length}
-use Rattle.fs_validate.specs.declared.route.FlowRoute.{FlowRoute}
-use Rattle.fs_flows.specs.Table.{Held, key_cmp, is_of_family, stands, same_rule, beats, is_most_preferred, admitted, AreOrdered}
-use Rattle.fs_flows.specs.Group.{AreSorted}
-use Rattle.fs_flows.proofs.Changed.{each-filtered}
 
 -- two routes of different peers are never equally preferred
 apart_peers : (a b c d : Ordering) (m n : ℕ) → nat_cmp m n ≡ Less → ordering_then a (ordering_then b (ordering_then c (ordering_then d (nat_cmp m n)))) ≡ Equal → ⊥

@@ -1,29 +1,7 @@
 -- The prefixes at which peers gave unicast routes, and the routes that are taken away along them.
-use Rattle.std.proofs.Common.{ℕ, ◌≡◌, ◌≤◌, ◌+◌, refl, sym, ap, subst, ◌∙◌, Bool, true, false, true≢false, not, ◌||◌, ◌==◌, nat_lt, cond, List, [], ◌∷◌, length, Some, is_some, Ordering, Less, Equal, Greater, is_eq, nat_cmp, arith}
-use Rattle.std.specs.Cmp.{IsTotalOrder}
-use Rattle.std.specs.List.Sorted.{IsStrictlySortedBy}
-use Rattle.std.specs.Map.{keys_of, lookup, remove_entry}
-use Rattle.std.specs.Ordering.{ordering_then}
+use Rattle.fs_rules.proofs.Words.{ℕ, ◌≡◌, ◌≤◌, ◌+◌, refl, sym, ap, subst, ◌∙◌, Bool, true, false, true≢false, not, ◌||◌, ◌==◌, nat_lt, cond, List, [], ◌∷◌, length, Some, is_some, Ordering, Less, Equal, Greater, is_eq, nat_cmp, arith, IsTotalOrder, IsStrictlySortedBy, keys_of, lookup, remove_entry, ordering_then, nat_tests, sorted_head, sorted_tail, Config, Path, Prefix, prefix_cmp, each_weaker, each_both, each_of_map, each_insert, each_remove, filter_all, same_from_cmp, equal_of_is_eq, is_eq_of_first, Place, Route, place_cmp, put_path, has_path, place_total, place, Counts, count_of, may_hold, StaysHeld, AreHeld, AreAmong, IsKept, routes_of, Kept, Held, without_peer_unicast, related_count, remove_nothing}
 use Rattle.std.proofs.lemmas.Bool.{eqb-true}
-use Rattle.std.proofs.lemmas.Bool.Decides.{nat_tests}
-use Rattle.std.proofs.lemmas.Map.Keys.{sorted_head, sorted_tail}
-use Rattle.fs_base.specs.declared.config.Config.{Config}
-use Rattle.fs_base.specs.declared.path.Path.{Path}
-use Rattle.fs_base.specs.declared.prefix.Prefix.{Prefix}
-use Rattle.fs_base.specs.Prefix.{prefix_cmp}
-use Rattle.fs_base.proofs.Lists.{each_weaker, each_both, each_of_map, each_insert, each_remove, filter_all}
-use Rattle.fs_base.proofs.SamePrefix.{same_from_cmp}
-use Rattle.fs_base.proofs.Orderings.{equal_of_is_eq, is_eq_of_first}
-use Rattle.fs_unicast.specs.declared.unicast.Place.{Place}
-use Rattle.fs_unicast.specs.Unicast.{Route, place_cmp, put_path, has_path}
-use Rattle.fs_unicast.proofs.PlaceOrder.{place_total}
-use Rattle.fs_unicast.proofs.Ranges.{place}
-use Rattle.fs_rules.specs.Counts.{Counts, count_of, may_hold, StaysHeld, AreHeld, AreAmong, IsKept}
-use Rattle.fs_flows.specs.Group.{routes_of}
-use Rattle.fs_flows.specs.Kept.{Kept}
 use Rattle.fs_flows.specs.Listed.{is_among}
-use Rattle.fs_flows.specs.Table.{Held, without_peer_unicast, related_count}
-use Rattle.fs_flows.proofs.Changed.{remove_nothing}
 use Rattle.fs_rules.proofs.Chosen.{with_unicast}
 use Rattle.fs_rules.proofs.Counting.{counted_as, fresh_put}
 use Rattle.fs_rules.proofs.Losing.{is_place, peers_equal, Hit, hit_at, IsLosing, losing_more}

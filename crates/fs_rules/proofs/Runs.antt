@@ -1,20 +1,6 @@
+use Rattle.fs_rules.proofs.Words.{ℕ, zero, suc, ◌≡◌, ◌+◌, ◌<◌, ◌≤◌, refl, sym, ap, subst, ◌∙◌, Bool, true, false, true≢false, List, [], ◌∷◌, length, get_or, slice_get, drop, ◌-◌, Ordering, Less, Equal, Greater, is_eq, nat_cmp, arith, AllByRecursion, IsPartitionedBy, match_ordering, ordering_then, ordering_reverse, is_gt, tied_back, each_of_map, each_weaker, Ruled, rule_cmp, rule_total, FlowRoute, Kept, key_cmp, same_rule, routes_of, AreSorted, place_in, is_beaten, is_before_rule, drop_each, NotBefore, is_after, least_after, no_rival, not_before, partitioned, place_from}
+
 -- Where the routes of a rule begin, and that they stand next to each other.
-use Rattle.std.proofs.Common.{ℕ, zero, suc, ◌≡◌, ◌+◌, ◌<◌, ◌≤◌, refl, sym, ap, subst, ◌∙◌, Bool, true, false, true≢false, List, [], ◌∷◌, length, get_or, slice_get, drop, ◌-◌, Ordering, Less, Equal, Greater, is_eq, nat_cmp, arith}
-use Rattle.std.specs.List.{AllByRecursion}
-use Rattle.std.specs.List.Sorted.{IsPartitionedBy}
-use Rattle.std.specs.Ordering.{match_ordering, ordering_then, ordering_reverse, is_gt}
-use Rattle.std.specs.Cmp.{tied_back}
-use Rattle.fs_base.proofs.Lists.{each_of_map, each_weaker}
-use Rattle.fs_nlri.specs.Parts.{Ruled}
-use Rattle.fs_order.specs.Comparison.{rule_cmp}
-use Rattle.fs_order.specs.Ranked.{rule_total}
-use Rattle.fs_validate.specs.declared.route.FlowRoute.{FlowRoute}
-use Rattle.fs_flows.specs.Kept.{Kept}
-use Rattle.fs_flows.specs.Table.{key_cmp, same_rule}
-use Rattle.fs_flows.specs.Group.{routes_of, AreSorted, place_in, is_beaten}
-use Rattle.fs_rules.specs.Rivals.{is_before_rule}
-use Rattle.fs_flows.proofs.Apart.{drop_each}
-use Rattle.fs_flows.proofs.KeyPlaces.{NotBefore, is_after, least_after, no_rival, not_before, partitioned, place_from}
 
 -- a place behind the last that stands before the rule, and before the first that doesn't
 after_at : (rule : Ruled) (xs : List Kept) (i : ℕ) (d : Kept) → i < length xs → is_before_rule rule (slice_get xs i) ≡ is_after rule 0 (get_or xs i d)

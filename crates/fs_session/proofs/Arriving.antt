@@ -1,32 +1,9 @@
 -- What an announcing end says, at the receiving end.
-use Rattle.std.proofs.Common.{◌≡◌, ◌≢◌, ℕ, ◌+◌, ◌^◌, ◌<◌, ◌≤◌, true, nat_le, List, [], ◌∷◌, ◌++◌, length, min, Option, Some, None, Result, Ok, refl, sym, ap, ◌∙◌, arith, append-nil, map, length-append}
-use Rattle.std.specs.Prelude.{flat_map}
-use Rattle.std.specs.List.{AllByRecursion}
-use Rattle.std.proofs.lemmas.Bool.Decides.{nat_tests}
-use Rattle.fs_base.specs.declared.config.Config.{Config}
-use Rattle.fs_base.specs.declared.config.Peer.{Peer}
-use Rattle.fs_message.specs.declared.fault.MessageFault.{MessageFault}
-use Rattle.fs_message.specs.declared.open_.Open.{Open}
+use Rattle.fs_session.proofs.Words.{◌≡◌, ◌≢◌, ℕ, ◌+◌, ◌^◌, ◌<◌, ◌≤◌, true, nat_le, List, [], ◌∷◌, ◌++◌, length, min, Option, Some, None, Result, Ok, refl, sym, ap, ◌∙◌, arith, append-nil, map, length-append, flat_map, AllByRecursion, nat_tests, Config, Peer, MessageFault, Open, Message, Update, UpdateFault, update_of, attribute_text, long_text, written_attributes, big_bytes, WaitKeep, Established, Sent, Sending, ComesBack, said_by, step_by, body_by, update_by, update_sent, text_sent, Last, at_start, still, with_update, session_by, session_from, receiver, as_update, Machine, Phase, phase, opened, updates, transition_by, terms_of}
 use Rattle.fs_message.specs.Header.{allows}
-use Rattle.fs_message.specs.Stream.{Message}
 use Rattle.fs_message.specs.Write.{message_text, open_body}
 use Rattle.fs_message.proofs.TextFirst.{text_first}
 use Rattle.fs_message.proofs.OpenReadBack.{open_read}
-use Rattle.fs_attrs.specs.declared.update.Update.{Update}
-use Rattle.fs_attrs.specs.declared.update.UpdateFault.{UpdateFault}
-use Rattle.fs_attrs.specs.Update.{update_of}
-use Rattle.fs_attrs.specs.Texts.{attribute_text, long_text}
-use Rattle.fs_attrs.specs.Write.{written_attributes}
-use Rattle.byteorder.specs.Endian.{big_bytes}
-use Rattle.fs_session.specs.declared.state.State.TheVariants.{WaitKeep, Established}
-use Rattle.fs_session.specs.declared.sending.Sent.{Sent}
-use Rattle.fs_session.specs.declared.sending.Sending.{Sending}
-use Rattle.fs_session.specs.Laws.{ComesBack, said_by}
-use Rattle.fs_session.specs.Line.{step_by}
-use Rattle.fs_session.specs.Sending.{body_by, update_by, update_sent, text_sent}
-use Rattle.fs_session.specs.Session.{Last, at_start, still, with_update, session_by, session_from}
-use Rattle.fs_session.specs.Side.{receiver, as_update}
-use Rattle.fs_session.specs.Transition.{Machine, Phase, phase, opened, updates, transition_by, terms_of}
 use Rattle.fs_session.proofs.SessionSteps.{machine_takes, machine_waits, step_found}
 
 -- a message of a text is taken, and the session goes on behind it

@@ -1,13 +1,6 @@
 -- A message that closes the session.
-use Rattle.std.proofs.Common.{◌≡◌, ℕ, Bool, true, false, List, ◌++◌, drop, Option, Some, None, Ok, Err, ap, sym, ◌∙◌, subst, if◌then◌else◌}
+use Rattle.fs_session.proofs.Words.{◌≡◌, ℕ, Bool, true, false, List, ◌++◌, drop, Option, Some, None, Ok, Err, ap, sym, ◌∙◌, subst, if◌then◌else◌, Message, message_of, first_message, Framing, Feeds, standing_message, Closed, Fault, Notified, NoFamily, Memory, Machine, Phase, transition_by, IsTransition, step_by, CloseIs, at_fault, ClosesAs}
 use Rattle.std.proofs.lemmas.List.{append-nil}
-use Rattle.fs_message.specs.Stream.{Message, message_of, first_message}
-use Rattle.fs_message.specs.Deframer.{Framing, Feeds, standing_message}
-use Rattle.fs_session.specs.declared.state.Closed.{Closed}
-use Rattle.fs_session.specs.declared.state.Closed.TheVariants.{Fault, Notified, NoFamily, Memory}
-use Rattle.fs_session.specs.Transition.{Machine, Phase, transition_by, IsTransition}
-use Rattle.fs_session.specs.Line.{step_by, CloseIs}
-use Rattle.fs_session.specs.Side.{at_fault, ClosesAs}
 use Rattle.fs_session.proofs.SessionSteps.{step_found}
 
 -- A message stands, and it is the first of the octets in hand.

@@ -1,15 +1,5 @@
 -- What a call on the octets and moments of an end says of the whole end.
-use Rattle.std.proofs.Common.{◌≡◌, ℕ, Bool, List, Option, Result, sym, subst}
-use Rattle.fs_base.specs.declared.config.Config.{Config}
-use Rattle.fs_base.specs.declared.config.Peer.{Peer}
-use Rattle.fs_attrs.specs.declared.update.Update.{Update}
-use Rattle.fs_session.specs.declared.state.Closed.{Closed}
-use Rattle.fs_session.specs.declared.sending.Sending.{Sending}
-use Rattle.fs_session.specs.declared.side.Needs.{Needs}
-use Rattle.fs_session.specs.Announcer.{Announcing, announcing, counted, without_update, FeedsEnd}
-use Rattle.fs_session.specs.Line.{Lined, FeedsAt, FeedsOpen}
-use Rattle.fs_session.specs.Sending.{needs_of}
-use Rattle.fs_session.specs.Side.{announcer}
+use Rattle.fs_session.proofs.Words.{◌≡◌, ℕ, Bool, List, Option, Result, sym, subst, Config, Peer, Update, Closed, Sending, Needs, Announcing, announcing, counted, without_update, FeedsEnd, Lined, FeedsAt, FeedsOpen, needs_of, announcer}
 use Rattle.fs_session.proofs.Quiet.{fed_counted}
 
 pub announcer_goes : (config : Config) (peer : Peer) (sending : Sending) (needs : Needs) (line line' : Lined) (started : Bool) (appended moment : ℕ) (old : Announcing)

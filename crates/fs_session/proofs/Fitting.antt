@@ -1,25 +1,9 @@
 -- The update of a rule can be written, and with AS numbers of two octets it is no longer than with four.
-use Rattle.std.proofs.Common.{◌≡◌, ℕ, ◌+◌, ◌≤◌, ◌==◌, Bool, true, false, ◌&&◌, nat_le, nat_lt, List, [], ◌∷◌, ◌++◌, length, Result, refl, subst, arith, if◌then◌else◌, length-append, IsTrue}
-use Rattle.std.specs.Prelude.{bit_or, flat_map}
-use Rattle.std.specs.List.{list_all}
-use Rattle.std.proofs.lemmas.Bool.Decides.{nat_tests}
-use Rattle.std.proofs.lemmas.Bool.{leb-true}
-use Rattle.byteorder.specs.Endian.{big_bytes}
+use Rattle.fs_session.proofs.Words.{◌≡◌, ℕ, ◌+◌, ◌≤◌, ◌==◌, Bool, true, false, ◌&&◌, nat_le, nat_lt, List, [], ◌∷◌, ◌++◌, length, Result, refl, subst, arith, if◌then◌else◌, length-append, IsTrue, bit_or, flat_map, list_all, nat_tests, leb-true, big_bytes, Config, Peer, Terms, Update, as_text, segments_text, segment, attribute_text, long_text, flags_of, Writes, update_text, written_attributes, local_pref_in, actions_in, reach_text, Sent, Sending, segments_sent, update_by, body_by, is_short, is_sending, terms_of}
 use Rattle.fs_base.proofs.Bools.{and_both, and_parts}
-use Rattle.fs_base.specs.declared.config.Config.{Config}
-use Rattle.fs_base.specs.declared.config.Peer.{Peer}
-use Rattle.fs_attrs.specs.declared.update.Terms.{Terms}
-use Rattle.fs_attrs.specs.declared.update.Update.{Update}
 use Rattle.fs_attrs.specs.declared.update.WriteFault.{WriteFault}
 use Rattle.fs_attrs.specs.declared.update.Routes.TheVariants.{Flow}
 use Rattle.fs_attrs.specs.Attributes.{attribute}
-use Rattle.fs_attrs.specs.Segments.{as_text, segments_text, segment}
-use Rattle.fs_attrs.specs.Texts.{attribute_text, long_text, flags_of}
-use Rattle.fs_attrs.specs.Write.{Writes, update_text, written_attributes, local_pref_in, actions_in, reach_text}
-use Rattle.fs_session.specs.declared.sending.Sent.{Sent}
-use Rattle.fs_session.specs.declared.sending.Sending.{Sending}
-use Rattle.fs_session.specs.Sending.{segments_sent, update_by, body_by, is_short, is_sending}
-use Rattle.fs_session.specs.Transition.{terms_of}
 
 numbers_shorter : (numbers : List ℕ) → length (flat_map (as_text false) numbers) ≤ length (flat_map (as_text true) numbers)
 numbers_shorter [] = omega arith

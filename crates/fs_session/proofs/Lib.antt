@@ -1,3 +1,4 @@
+mod Words
 pub mod MessageRuns
 pub mod SessionSteps
 pub mod ReplySteps

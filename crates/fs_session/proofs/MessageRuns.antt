@@ -1,17 +1,6 @@
+use Rattle.fs_session.proofs.Words.{◌≡◌, ◌⊎◌, inl, inr, ℕ, List, [], ◌∷◌, ◌++◌, Option, Some, None, Result, Ok, Err, refl, ap, sym, ◌∙◌, subst, parts_of, parts_end, parts_step, MessageFault, Message, first_message, wrong_at, message_shrinks, message_stable, fault_stays, Update, Closed, Times, at_moment, taken_in, Machine, Phase, faulted, transition_by, Step, waits, takes, stops, step_at, rest_step, step_by, Handed, Point, point, handed, shuts, rests, with_taken, runs, runs_by, hand}
+
 -- One step, and all that an end comes to: what a call does with the octets in hand is what comes first of them all.
-use Rattle.std.proofs.Common.{◌≡◌, ◌⊎◌, inl, inr, ℕ, List, [], ◌∷◌, ◌++◌, Option, Some, None, Result, Ok, Err, refl, ap, sym, ◌∙◌, subst}
-use Rattle.fs_base.specs.Parts.{parts_of}
-use Rattle.fs_base.proofs.Parts.{parts_end, parts_step}
-use Rattle.fs_message.specs.declared.fault.MessageFault.{MessageFault}
-use Rattle.fs_message.specs.Stream.{Message, first_message, wrong_at}
-use Rattle.fs_message.proofs.StreamLaws.{message_shrinks, message_stable, fault_stays}
-use Rattle.fs_attrs.specs.declared.update.Update.{Update}
-use Rattle.fs_session.specs.declared.state.Closed.{Closed}
-use Rattle.fs_session.specs.declared.times.Times.{Times}
-use Rattle.fs_session.specs.Times.{at_moment, taken_in}
-use Rattle.fs_session.specs.Transition.{Machine, Phase, faulted, transition_by}
-use Rattle.fs_session.specs.Line.{Step, waits, takes, stops, step_at, rest_step, step_by}
-use Rattle.fs_session.specs.Handed.{Handed, Point, point, handed, shuts, rests, with_taken, runs, runs_by, hand}
 
 abbrev pub Transition : Type 0
 Transition = Result (Phase × Option Update) Closed

@@ -1,15 +1,5 @@
 -- The announcing end takes no update of any message.
-use Rattle.std.proofs.Common.{◌≡◌, ◌⊎◌, inl, inr, ℕ, List, ◌++◌, Option, None, Result, Ok, Err, refl, sym, subst}
-use Rattle.fs_base.specs.declared.config.Config.{Config}
-use Rattle.fs_message.specs.Stream.{Message}
-use Rattle.fs_message.specs.Deframer.{pending}
-use Rattle.fs_attrs.specs.declared.update.Update.{Update}
-use Rattle.fs_session.specs.declared.state.Closed.{Closed}
-use Rattle.fs_session.specs.declared.side.Needs.{Needs}
-use Rattle.fs_session.specs.Transition.{Phase, transition_by}
-use Rattle.fs_session.specs.Side.{announcer, skips_update}
-use Rattle.fs_session.specs.Line.{Lined, Step, waits, takes, stops, step_by, step_in, DoesAt, FeedsAt}
-use Rattle.fs_session.specs.Announcer.{counted, without_update}
+use Rattle.fs_session.proofs.Words.{◌≡◌, ◌⊎◌, inl, inr, ℕ, List, ◌++◌, Option, None, Result, Ok, Err, refl, sym, subst, Config, Message, pending, Update, Closed, Needs, Phase, transition_by, announcer, skips_update, Lined, Step, waits, takes, stops, step_by, step_in, DoesAt, FeedsAt, counted, without_update}
 use Rattle.fs_session.proofs.MessageRuns.{Transition, Shows, told}
 use Rattle.fs_session.proofs.Transitions.{each_transition}
 

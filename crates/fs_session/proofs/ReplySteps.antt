@@ -1,19 +1,6 @@
 -- One step and all that is replied: what a call replies to the octets at hand is what the replies to the whole list begin
 -- with, whatever follows.
-use Rattle.std.proofs.Common.{◌≡◌, ℕ, List, [], ◌++◌, Option, None, ap, sym, ◌∙◌}
-use Rattle.fs_base.specs.declared.config.Config.{Config}
-use Rattle.fs_base.specs.declared.config.Peer.{Peer}
-use Rattle.fs_base.proofs.Parts.{parts_end}
-use Rattle.fs_message.specs.Stream.{Message, first_message, wrong_at}
-use Rattle.fs_attrs.specs.declared.update.Update.{Update}
-use Rattle.fs_session.specs.declared.state.Closed.{Closed}
-use Rattle.fs_session.specs.Transition.{Machine, Phase}
-use Rattle.fs_session.specs.Times.{no_times, taken_in}
-use Rattle.fs_session.specs.Line.{waits, takes, stops}
-use Rattle.fs_session.specs.Handed.{Handed}
-use Rattle.fs_session.specs.Side.{reply_to, reply_at, receiver}
-use Rattle.fs_session.specs.Session.{step_of}
-use Rattle.fs_session.specs.Replies.{reply_rest, replies, replies_by, replies_from}
+use Rattle.fs_session.proofs.Words.{◌≡◌, ℕ, List, [], ◌++◌, Option, None, ap, sym, ◌∙◌, Config, Peer, parts_end, Message, first_message, wrong_at, Update, Closed, Machine, Phase, no_times, taken_in, waits, takes, stops, Handed, reply_to, reply_at, receiver, step_of, reply_rest, replies, replies_by, replies_from}
 use Rattle.fs_session.proofs.MessageRuns.{runs_takes, runs_stops, runs_waits}
 use Rattle.fs_session.proofs.SessionSteps.{replies_none, replies_seen}
 pub use Rattle.fs_session.proofs.MessageRuns.{Shows, told, wrong_first}

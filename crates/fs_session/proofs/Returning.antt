@@ -1,22 +1,11 @@
 -- The UPDATE of a rule is read as the update that announces it.
-use Rattle.std.proofs.Common.{◌≡◌, ℕ, ◌+◌, ◌<◌, ◌≤◌, ◌==◌, ◌^◌, Bool, true, false, not, ◌&&◌, nat_le, List, [], ◌∷◌, Ok, All, length, if◌then◌else◌, refl, arith}
-use Rattle.std.specs.List.{AllByRecursion, list_all}
-use Rattle.std.proofs.lemmas.Bool.{leb-true}
-use Rattle.std.proofs.lemmas.Bool.Decides.{nat_tests}
+use Rattle.fs_session.proofs.Words.{◌≡◌, ℕ, ◌+◌, ◌<◌, ◌≤◌, ◌==◌, ◌^◌, Bool, true, false, not, ◌&&◌, nat_le, List, [], ◌∷◌, Ok, All, length, if◌then◌else◌, refl, arith, AllByRecursion, list_all, leb-true, nat_tests, Terms, AreNumbers, is_written_segment, segment, update_of, IsSound, Sent, AreSendable, IsSent, RulesComeBack, body_by, is_short, path_by, segments_sent, update_by, terms_of}
 use Rattle.std.proofs.lemmas.List.Elements.{All-cons, All-from_recursion, All-nil}
 use Rattle.fs_base.proofs.Covers.{family_itself}
 use Rattle.fs_nlri.specs.Rule.{IsRule}
-use Rattle.fs_attrs.specs.declared.update.Terms.{Terms}
 use Rattle.fs_attrs.specs.Lists.{IsPrefix}
-use Rattle.fs_attrs.specs.Segments.{AreNumbers, is_written_segment, segment}
-use Rattle.fs_attrs.specs.Update.{update_of}
 use Rattle.fs_attrs.specs.Writable.{is_path_of_session, is_writable}
-use Rattle.fs_attrs.specs.Write.{IsSound}
 use Rattle.fs_attrs.proofs.UpdateReadBack.{read_back}
-use Rattle.fs_session.specs.declared.sending.Sent.{Sent}
-use Rattle.fs_session.specs.Laws.{AreSendable, IsSent, RulesComeBack}
-use Rattle.fs_session.specs.Sending.{body_by, is_short, path_by, segments_sent, update_by}
-use Rattle.fs_session.specs.Transition.{terms_of}
 
 -- it can be written
 

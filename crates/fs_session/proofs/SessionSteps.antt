@@ -1,22 +1,6 @@
 -- One step and the whole: what a call does with the octets at hand is what the session of the whole list begins with,
 -- whatever follows. Without the moments an end takes the session's updates, answers its replies, and comes to its end.
-use Rattle.std.proofs.Common.{◌≡◌, ℕ, List, [], ◌∷◌, ◌++◌, Option, Some, None, Ok, Err, refl, ap, sym, ◌∙◌}
-use Rattle.fs_base.specs.declared.config.Config.{Config}
-use Rattle.fs_base.specs.declared.config.Peer.{Peer}
-use Rattle.fs_base.specs.Parts.{parts_of}
-use Rattle.fs_base.proofs.Parts.{parts_end}
-use Rattle.fs_message.specs.declared.fault.MessageFault.{MessageFault}
-use Rattle.fs_message.specs.Stream.{Message, first_message, wrong_at}
-use Rattle.fs_attrs.specs.declared.update.Update.{Update}
-use Rattle.fs_session.specs.declared.state.Closed.{Closed}
-use Rattle.fs_session.specs.declared.times.Times.{Times}
-use Rattle.fs_session.specs.Times.{no_times, taken_in}
-use Rattle.fs_session.specs.Transition.{Machine, Phase, transition_by}
-use Rattle.fs_session.specs.Line.{waits, takes, stops, step_at, rest_step, step_by}
-use Rattle.fs_session.specs.Side.{receiver, at_fault}
-use Rattle.fs_session.specs.Handed.{Handed, Point, rests, runs, runs_by, with_taken}
-use Rattle.fs_session.specs.Replies.{reply_rest, replies, replies_by}
-use Rattle.fs_session.specs.Session.{Last, still, closed, with_update, rest_closes, plays, session_by, session_from, step_of}
+use Rattle.fs_session.proofs.Words.{◌≡◌, ℕ, List, [], ◌∷◌, ◌++◌, Option, Some, None, Ok, Err, refl, ap, sym, ◌∙◌, Config, Peer, parts_of, parts_end, MessageFault, Message, first_message, wrong_at, Update, Closed, Times, no_times, taken_in, Machine, Phase, transition_by, waits, takes, stops, step_at, rest_step, step_by, receiver, at_fault, Handed, Point, rests, runs, runs_by, with_taken, reply_rest, replies, replies_by, Last, still, closed, with_update, rest_closes, plays, session_by, session_from, step_of}
 use Rattle.fs_session.proofs.MessageRuns.{runs_each, runs_takes, runs_stops, runs_waits}
 pub use Rattle.fs_session.proofs.MessageRuns.{Transition}
 

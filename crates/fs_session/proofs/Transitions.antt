@@ -1,17 +1,9 @@
 -- What one message makes of an end, by cases.
-use Rattle.std.proofs.Common.{◌≡◌, ◌⊎◌, inl, inr, ◌==◌, Bool, true, false, min, Option, None, Result, Ok, Err, refl, if◌then◌else◌}
-use Rattle.fs_message.specs.declared.open_.Open.{Open}
-use Rattle.fs_message.specs.Stream.{Message}
+use Rattle.fs_session.proofs.Words.{◌≡◌, ◌⊎◌, inl, inr, ◌==◌, Bool, true, false, min, Option, None, Result, Ok, Err, refl, if◌then◌else◌, Open, Message, MessageFault, Update, UpdateFault, WaitOpen, WaitKeep, Established, Closed, Fault, NoFamily, Machine, Phase, phase, taken, not_taken, faulted, notified, closing_of, opened, updates, transition_at, transition_by}
 use Rattle.fs_message.specs.Open.{open_of}
 use Rattle.fs_message.specs.Notice.{notice_of}
-use Rattle.fs_message.specs.declared.fault.MessageFault.{MessageFault}
-use Rattle.fs_attrs.specs.declared.update.Update.{Update}
-use Rattle.fs_attrs.specs.declared.update.UpdateFault.{UpdateFault}
 use Rattle.fs_session.specs.declared.state.State.{State}
-use Rattle.fs_session.specs.declared.state.State.TheVariants.{WaitOpen, WaitKeep, Established, Closed as IsClosed}
-use Rattle.fs_session.specs.declared.state.Closed.{Closed}
-use Rattle.fs_session.specs.declared.state.Closed.TheVariants.{Fault, NoFamily}
-use Rattle.fs_session.specs.Transition.{Machine, Phase, phase, taken, not_taken, faulted, notified, closing_of, opened, updates, transition_at, transition_by}
+use Rattle.fs_session.specs.declared.state.State.TheVariants.{Closed as IsClosed}
 use Rattle.fs_session.proofs.MessageRuns.{Transition}
 
 either : (P : Transition → Type 0) (b : Bool) (x y : Transition) → P x → P y → P (if b then x else y)

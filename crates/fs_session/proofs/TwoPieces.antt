@@ -1,18 +1,5 @@
 -- Octets that are handed in two pieces, at whatever moments, give what they give at once.
-use Rattle.std.proofs.Common.{◌≡◌, ℕ, List, [], ◌∷◌, ◌++◌, Option, Some, None, Ok, Err, refl, sym, ap, ◌∙◌, append_assoc, append-nil}
-use Rattle.fs_base.specs.Parts.{parts_of}
-use Rattle.fs_base.proofs.Parts.{parts_append}
-use Rattle.fs_message.specs.declared.fault.MessageFault.{MessageFault}
-use Rattle.fs_message.specs.Stream.{Message, first_message, wrong_at}
-use Rattle.fs_message.proofs.StreamLaws.{message_shrinks, message_stable, fault_stays}
-use Rattle.fs_attrs.specs.declared.update.Update.{Update}
-use Rattle.fs_session.specs.declared.times.Times.{Times}
-use Rattle.fs_session.specs.Times.{no_times, at_moment}
-use Rattle.fs_session.specs.Transition.{Machine, Phase, transition_by}
-use Rattle.fs_session.specs.Side.{at_fault}
-use Rattle.fs_session.specs.Session.{Last, rest_closes, with_update, plays, session_by}
-use Rattle.fs_session.specs.Replies.{reply_rest, replies, replies_by}
-use Rattle.fs_session.specs.Handed.{Handed, Point, point, rests, runs, runs_by, with_taken, hand}
+use Rattle.fs_session.proofs.Words.{◌≡◌, ℕ, List, [], ◌∷◌, ◌++◌, Option, Some, None, Ok, Err, refl, sym, ap, ◌∙◌, append_assoc, append-nil, parts_of, parts_append, MessageFault, Message, first_message, wrong_at, message_shrinks, message_stable, fault_stays, Update, Times, no_times, at_moment, Machine, Phase, transition_by, at_fault, Last, rest_closes, with_update, plays, session_by, reply_rest, replies, replies_by, Handed, Point, point, rests, runs, runs_by, with_taken, hand}
 use Rattle.fs_session.proofs.MessageRuns.{Transition, open_hand, runs_each, wrong_first}
 use Rattle.fs_session.proofs.SessionSteps.{going, plays_step, session_rest, answered, replies_step, last_of, session_seen, replies_seen, runs_updates}
 use Rattle.fs_session.proofs.ReplySteps.{replies_rest}

@@ -1,18 +1,11 @@
 -- Lists say the same of numbers between which no value stands, so what is so at the values and beside them is so
 -- everywhere.
-use Rattle.std.proofs.Common.{◌≡◌, ℕ, zero, suc, ◌+◌, ◌-◌, ◌/◌, ◌^◌, ◌<◌, ◌≤◌, ◌==◌, min, List, [], ◌∷◌, Bool, true, false, ◌&&◌, ◌||◌, nat_lt, refl, sym, subst, ◌∙◌, arith, inl, inr}
-use Rattle.std.specs.List.{AllByRecursion, list_all, list_any}
-use Rattle.std.proofs.lemmas.Bool.{and_from, and_parts, cases_Bool, eqb-false, eqb-true, or_cases, or_parts}
+use Rattle.fs_shadow.proofs.Words.{◌≡◌, ℕ, zero, suc, ◌+◌, ◌-◌, ◌/◌, ◌^◌, ◌<◌, ◌≤◌, ◌==◌, min, List, [], ◌∷◌, Bool, true, false, ◌&&◌, ◌||◌, nat_lt, refl, sym, subst, ◌∙◌, arith, inl, inr, AllByRecursion, list_all, list_any, and_from, and_parts, cases_Bool, eqb-false, eqb-true, or_cases, or_parts, pow-le-pow_right, and_le_r, compares, has_bit, holds, implies, numbers_lie_in, are_implied, implied_around, implied_at}
 use Rattle.std.proofs.lemmas.Bool.Decides.{nat_tests}
-use Rattle.std.proofs.Math.Nat.{pow-le-pow_right}
-use Rattle.std.proofs.lemmas.Nat.{and_le_r}
 use Rattle.fs_ops.specs.declared.kind.Kind.TheVariants.{Numeric}
 use Rattle.fs_ops.specs.Operator.{width_code, width_of}
 use Rattle.fs_ops.specs.OperatorList.{IsNormal}
-use Rattle.fs_ops.specs.Evaluation.{compares, has_bit, holds}
 use Rattle.fs_packet.proofs.Flags.{AreWide, holds_same, sound_is_wide}
-use Rattle.fs_shadow.specs.Contains.{implies, numbers_lie_in}
-use Rattle.fs_shadow.specs.Points.{are_implied, implied_around, implied_at}
 use Rattle.fs_shadow.proofs.Below.{below_is}
 
 -- no pair's value is the number behind n, or n itself

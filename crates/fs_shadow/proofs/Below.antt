@@ -1,9 +1,6 @@
+use Rattle.fs_shadow.proofs.Words.{◌≡◌, ℕ, zero, suc, ◌+◌, ◌<◌, ◌≤◌, Bool, true, false, refl, sym, subst, arith, inl, inr, list_all, range_with_len, and_from, and_parts, cases_eq, cases_lt, true≢false, same_tests, all_below, implies}
+
 -- A test that passes each number below a bound.
-use Rattle.std.proofs.Common.{◌≡◌, ℕ, zero, suc, ◌+◌, ◌<◌, ◌≤◌, Bool, true, false, refl, sym, subst, arith, inl, inr}
-use Rattle.std.specs.List.{list_all, range_with_len}
-use Rattle.std.proofs.lemmas.Bool.{and_from, and_parts, cases_eq, cases_lt, true≢false}
-use Rattle.fs_base.proofs.Bools.{same_tests}
-use Rattle.fs_shadow.specs.Contains.{all_below, implies}
 
 range_from : (test : ℕ → Bool) (a n : ℕ) → list_all test (range_with_len a n) ≡ true → (k : ℕ) → a ≤ k → k < a + n → test k ≡ true
 range_from test a zero all k low high = absurd (omega (arith, low, high))

@@ -1,20 +1,5 @@
 -- Prefixes compared by the bits that they know.
-use Rattle.std.proofs.Common.{◌≡◌, ℕ, ◌+◌, ◌-◌, ◌*◌, ◌/◌, ◌%◌, ◌^◌, ◌<◌, ◌≤◌, ◌==◌, Bool, true, false, ◌&&◌, ◌||◌, if◌then◌else◌, nat_le, nat_lt, refl, sym, ap, subst, ◌∙◌, arith, inl, inr, ◌⊎◌}
-use Rattle.std.proofs.lemmas.Bool.{and_parts, cases_Bool, cases_lt, eq-eqb, eqb-false, eqb-true, le-leb, lt-leb, ltb-false, ltb-true, or_cases, or_parts}
-use Rattle.std.proofs.lemmas.Nat.{pow-add}
-use Rattle.std.proofs.Math.Nat.{mul_assoc}
-use Rattle.fs_base.specs.declared.prefix.Family.{Family}
-use Rattle.fs_base.specs.declared.config.Address.TheVariants.{V4, V6}
-use Rattle.fs_base.specs.declared.prefix.Prefix.{Prefix}
-use Rattle.fs_base.specs.Bits.{afi_of, cleared, width_of}
-use Rattle.fs_base.specs.Prefix.{covers}
-use Rattle.fs_nlri.specs.Parts.{V4Body, V6Body}
-use Rattle.fs_nlri.specs.Sound.{IsSoundBody}
-use Rattle.fs_packet.specs.Matching.{is_prefix_of}
-use Rattle.fs_shadow.specs.declared.prefixes.Known.{Known}
-use Rattle.fs_shadow.specs.Extents.{bits_lie_in}
-use Rattle.fs_shadow.specs.Contains.{all_below, body_lies_in, implies}
-use Rattle.fs_shadow.specs.Ends.{highest_with, lowest_with}
+use Rattle.fs_shadow.proofs.Words.{◌≡◌, ℕ, ◌+◌, ◌-◌, ◌*◌, ◌/◌, ◌%◌, ◌^◌, ◌<◌, ◌≤◌, ◌==◌, Bool, true, false, ◌&&◌, ◌||◌, if◌then◌else◌, nat_le, nat_lt, refl, sym, ap, subst, ◌∙◌, arith, inl, inr, ◌⊎◌, and_parts, cases_Bool, cases_lt, eq-eqb, eqb-false, eqb-true, le-leb, lt-leb, ltb-false, ltb-true, or_cases, or_parts, pow-add, mul_assoc, Family, V4, V6, Prefix, afi_of, cleared, width_of, covers, V4Body, V6Body, IsSoundBody, is_prefix_of, Known, bits_lie_in, all_below, body_lies_in, implies, highest_with, lowest_with}
 use Rattle.fs_shadow.proofs.Known.{counted, known_v4, known_v6, ordered, same_multiple, shift_dropped}
 use Rattle.fs_shadow.proofs.Lying.{Knows, by_ends, inner_bits, no_bits}
 use Rattle.fs_shadow.proofs.Patterns.{begins_within, bits_at, ends_within, first_of, highest_has, lowest_has, shifted}

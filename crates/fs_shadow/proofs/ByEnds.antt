@@ -1,13 +1,5 @@
 -- Prefixes compared by the ends of the inner one.
-use Rattle.std.proofs.Common.{◌≡◌, ℕ, ◌+◌, ◌-◌, ◌*◌, ◌/◌, ◌%◌, ◌^◌, ◌==◌, ◌&&◌, ap, ◌∙◌}
-use Rattle.fs_base.specs.declared.prefix.Family.{Family}
-use Rattle.fs_base.specs.declared.config.Address.TheVariants.{V4, V6}
-use Rattle.fs_base.specs.Bits.{cleared, width_of}
-use Rattle.fs_nlri.specs.Parts.{V4Body, V6Body}
-use Rattle.fs_nlri.specs.Sound.{IsSoundBody}
-use Rattle.fs_packet.specs.Matching.{is_prefix_of}
-use Rattle.fs_shadow.specs.Contains.{body_lies_in}
-use Rattle.fs_shadow.specs.Ends.{highest_with}
+use Rattle.fs_shadow.proofs.Words.{◌≡◌, ℕ, ◌+◌, ◌-◌, ◌*◌, ◌/◌, ◌%◌, ◌^◌, ◌==◌, ◌&&◌, ap, ◌∙◌, Family, V4, V6, cleared, width_of, V4Body, V6Body, IsSoundBody, is_prefix_of, body_lies_in, highest_with}
 use Rattle.fs_shadow.proofs.Lying.{by_ends}
 use Rattle.fs_shadow.proofs.Known.{known_v4, known_v6, lowest_of, shift_dropped, v4_highest, v4_lowest}
 

@@ -1,13 +1,7 @@
 -- The entries of an index: in order, and those of one key from a place on.
-use Rattle.std.proofs.Common.{◌≡◌, ℕ, zero, suc, ◌+◌, ◌-◌, ◌<◌, ◌≤◌, ◌==◌, ◌⊎◌, inl, inr, Bool, true, false, ◌&&◌, if◌then◌else◌, nat_le, nat_lt, Some, List, [], ◌∷◌, get_or, length, take, drop, refl, sym, ap, subst, ◌∙◌, arith}
-use Rattle.std.specs.List.{list_any, slice_get}
+use Rattle.fs_shadow.proofs.Words.{◌≡◌, ℕ, zero, suc, ◌+◌, ◌-◌, ◌<◌, ◌≤◌, ◌==◌, ◌⊎◌, inl, inr, Bool, true, false, ◌&&◌, if◌then◌else◌, nat_le, nat_lt, Some, List, [], ◌∷◌, get_or, length, take, drop, refl, sym, ap, subst, ◌∙◌, arith, list_any, slice_get, cases_lt, eq-eqb, eqb-true, leb-true, lt-ltb, ltb-true, ltb-false, or_cases, true≢false, none-some, same_Some, length-drop, take_all, and_both, or_first, or_second, Outline, IsFirst, IsIndexOf, entries_from, first_entry, is_entry, key_of, outline_takes_all, rank, takes_as, takes_before}
 use Rattle.std.specs.List.Sorted.{IsNonDecreasingBy, IsPartitionPoint}
-use Rattle.std.proofs.lemmas.Bool.{cases_lt, eq-eqb, eqb-true, leb-true, lt-ltb, ltb-true, ltb-false, or_cases, true≢false}
-use Rattle.std.proofs.lemmas.Option.{none-some, same_Some}
-use Rattle.std.proofs.lemmas.List.{length-drop, take_all}
-use Rattle.fs_base.proofs.Bools.{and_both, and_parts, or_first, or_second}
-use Rattle.fs_shadow.specs.declared.outlines.Outline.{Outline}
-use Rattle.fs_shadow.specs.Outlines.{IsFirst, IsIndexOf, entries_from, first_entry, is_entry, key_of, outline_takes_all, rank, takes_as, takes_before}
+use Rattle.fs_base.proofs.Bools.{and_parts}
 
 -- each rule has an entry
 entry_in : (p : ℕ) (outlines : List Outline) (i : ℕ) (o : Outline) → slice_get outlines i ≡ Some o → list_any (is_entry (key_of o.measures.items) (p + i)) (entries_from p outlines) ≡ true

@@ -1,17 +1,6 @@
 -- The bits that a prefix knows, in either family.
-use Rattle.std.proofs.Common.{◌≡◌, ℕ, ◌+◌, ◌-◌, ◌*◌, ◌/◌, ◌%◌, ◌^◌, ◌<◌, ◌≤◌, ◌==◌, Bool, refl, sym, ap, subst, ◌∙◌, arith, bit_or, inl, inr, ◌⊎◌}
-use Rattle.std.proofs.lemmas.Bool.{eq-eqb, eqb-true}
-use Rattle.std.proofs.lemmas.Nat.{or_comm, or_shifted, pow-add, pow_pos, shl-shr, shr_high}
-use Rattle.std.proofs.Math.Nat.{add-mul, mod-mod, mul_assoc}
-use Rattle.fs_base.specs.declared.prefix.Family.{Family}
-use Rattle.fs_base.specs.declared.config.Address.TheVariants.{V4, V6}
-use Rattle.fs_base.specs.Bits.{cleared}
-use Rattle.fs_base.proofs.Bools.{same_tests}
-use Rattle.fs_nlri.specs.Parts.{V4Body, V6Body}
-use Rattle.fs_nlri.specs.Sound.{IsSoundBody}
+use Rattle.fs_shadow.proofs.Words.{◌≡◌, ℕ, ◌+◌, ◌-◌, ◌*◌, ◌/◌, ◌%◌, ◌^◌, ◌<◌, ◌≤◌, ◌==◌, Bool, refl, sym, ap, subst, ◌∙◌, arith, bit_or, inl, inr, ◌⊎◌, eq-eqb, eqb-true, or_comm, or_shifted, pow-add, pow_pos, shl-shr, shr_high, add-mul, mod-mod, mul_assoc, Family, V4, V6, cleared, same_tests, V4Body, V6Body, IsSoundBody, is_prefix_of, highest_with, lowest_with}
 use Rattle.fs_nlri.specs.Spelling.{IsRange}
-use Rattle.fs_packet.specs.Matching.{is_prefix_of}
-use Rattle.fs_shadow.specs.Ends.{highest_with, lowest_with}
 use Rattle.fs_shadow.proofs.Lying.{Knows, row}
 use Rattle.fs_shadow.proofs.Patterns.{below_all, bits_at, bits_below, first_of, first_shifted, ones_split}
 

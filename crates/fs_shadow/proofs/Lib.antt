@@ -1,3 +1,4 @@
+mod Words
 pub mod Below
 pub mod ByEnds
 pub mod Known

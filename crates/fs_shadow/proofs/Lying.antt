@@ -1,10 +1,5 @@
 -- When all numbers that have some bits have some others too: by their ends, and by the bits.
-use Rattle.std.proofs.Common.{◌≡◌, ℕ, ◌+◌, ◌-◌, ◌*◌, ◌/◌, ◌^◌, ◌<◌, ◌≤◌, ◌==◌, Bool, true, ◌&&◌, sym, ap, subst, ◌∙◌, arith, inl, inr}
-use Rattle.std.proofs.lemmas.Bool.{and_from, and_parts, cases_lt, eq-eqb, eqb-true}
-use Rattle.std.proofs.lemmas.Nat.{pow-add, pow_pos, shl_below}
-use Rattle.std.proofs.Math.Nat.{add-mul, mod-one, mul-le-mul_right}
-use Rattle.fs_shadow.specs.Contains.{all_below, implies}
-use Rattle.fs_shadow.specs.Ends.{highest_with, lowest_with}
+use Rattle.fs_shadow.proofs.Words.{◌≡◌, ℕ, ◌+◌, ◌-◌, ◌*◌, ◌/◌, ◌^◌, ◌<◌, ◌≤◌, ◌==◌, Bool, true, ◌&&◌, sym, ap, subst, ◌∙◌, arith, inl, inr, and_from, and_parts, cases_lt, eq-eqb, eqb-true, pow-add, pow_pos, shl_below, add-mul, mod-one, mul-le-mul_right, all_below, implies, highest_with, lowest_with}
 use Rattle.fs_shadow.proofs.Below.{below_is, follows, implied}
 use Rattle.fs_shadow.proofs.Patterns.{begins_within, bits_at, bits_of_bits, ends_within, highest_has, lowest_has}
 

@@ -1,28 +1,8 @@
 -- What the measures and outlines of rules tell is what the rules say.
-use Rattle.std.proofs.Common.{◌≡◌, ℕ, ◌+◌, ◌^◌, ◌<◌, ◌==◌, Bool, true, false, not, ◌&&◌, ◌||◌, if◌then◌else◌, Some, List, [], ◌∷◌, get_or, length, zero, suc, refl, sym, ap, subst, ◌∙◌, arith}
+use Rattle.fs_shadow.proofs.Words.{◌≡◌, ℕ, ◌+◌, ◌^◌, ◌<◌, ◌==◌, Bool, true, false, not, ◌&&◌, ◌||◌, if◌then◌else◌, Some, List, [], ◌∷◌, get_or, length, zero, suc, refl, sym, ap, subst, ◌∙◌, arith, list_all, list_any, true≢false, afi_of, compares, holds, Prefix, covers, same_tests, part_of, parts_of, AreSound, IsSoundBody, Body, V4Body, V6Body, ListBody, Part, Listed, contains, Extent, Numbers, Bits, Measure, Known, Outline, all_below, are_same_pairs, body_lies_in, implies, may_lie_in, numbers_lie_in, part_lies_in, AreMeasuresOf, AreSpansOf, IsExtentOf, IsMeasureOf, bits_lie_in, extent_lies_in, measure_lies_in, AreOutlinesOf, IsOutlineOf, first_taker, outline_takes_all, first_taking, takes_all}
 use Rattle.std.specs.Prelude.{IsTrue, ◌↔◌}
-use Rattle.std.specs.List.{list_all, list_any}
-use Rattle.std.proofs.lemmas.Bool.{true≢false}
-use Rattle.fs_base.specs.Bits.{afi_of}
-use Rattle.fs_ops.specs.Evaluation.{compares, holds}
-use Rattle.fs_base.specs.declared.prefix.Prefix.{Prefix}
-use Rattle.fs_base.specs.Prefix.{covers}
-use Rattle.fs_base.proofs.Bools.{same_tests}
 use Rattle.fs_nlri.specs.declared.component.Component.{Component}
-use Rattle.fs_nlri.specs.Component.{part_of, parts_of}
-use Rattle.fs_nlri.specs.Sound.{AreSound, IsSoundBody}
-use Rattle.fs_nlri.specs.Parts.{Body, V4Body, V6Body, ListBody, Part}
-use Rattle.fs_rules.specs.Lent.{Listed}
-use Rattle.fs_ranges.specs.Spans.{contains}
-use Rattle.fs_shadow.specs.declared.extents.Extent.{Extent}
-use Rattle.fs_shadow.specs.declared.extents.Extent.TheVariants.{V4, V6, Numbers, Bits}
-use Rattle.fs_shadow.specs.declared.extents.Measure.{Measure}
-use Rattle.fs_shadow.specs.declared.prefixes.Known.{Known}
-use Rattle.fs_shadow.specs.declared.outlines.Outline.{Outline}
-use Rattle.fs_shadow.specs.Contains.{all_below, are_same_pairs, body_lies_in, implies, may_lie_in, numbers_lie_in, part_lies_in}
-use Rattle.fs_shadow.specs.Extents.{AreMeasuresOf, AreSpansOf, IsExtentOf, IsMeasureOf, bits_lie_in, extent_lies_in, measure_lies_in}
-use Rattle.fs_shadow.specs.Outlines.{AreOutlinesOf, IsOutlineOf, first_taker, outline_takes_all}
-use Rattle.fs_shadow.specs.Reporting.{first_taking, takes_all}
+use Rattle.fs_shadow.specs.declared.extents.Extent.TheVariants.{V4, V6}
 use Rattle.fs_shadow.proofs.Below.{below_from, below_is, each_below, follows, implied}
 use Rattle.fs_shadow.proofs.ByBits.{v4_covers, v6_covers}
 use Rattle.fs_shadow.proofs.Testing.{alike}

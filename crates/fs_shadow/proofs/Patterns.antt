@@ -1,11 +1,6 @@
 -- Bits of numbers, n of them above the k lowest: when those at one place tell those at another.
-use Rattle.std.proofs.Common.{◌≡◌, ℕ, ◌+◌, ◌-◌, ◌*◌, ◌/◌, ◌%◌, ◌^◌, ◌<◌, ◌≤◌, inl, inr, sym, ap, subst, ◌∙◌, arith}
-use Rattle.std.proofs.lemmas.Nat.{field_of, mod_below, mod_low, pow-add, pow_pos, shl-shr, shr-shr, shr_high}
-use Rattle.std.proofs.Math.Nat.{add-mul, div-eq_of_lt, mod-eq_of_lt, mul_assoc, mul-mod_left, zero-div}
+use Rattle.fs_shadow.proofs.Words.{◌≡◌, ℕ, ◌+◌, ◌-◌, ◌*◌, ◌/◌, ◌%◌, ◌^◌, ◌<◌, ◌≤◌, inl, inr, sym, ap, subst, ◌∙◌, arith, field_of, mod_below, mod_low, pow-add, pow_pos, shl-shr, shr-shr, shr_high, add-mul, div-eq_of_lt, mod-eq_of_lt, mul_assoc, mul-mod_left, zero-div, cases_lt, cleared, highest_with, lowest_with}
 use Rattle.std.proofs.Math.Pow.{mod-mod-pow}
-use Rattle.std.proofs.lemmas.Bool.{cases_lt}
-use Rattle.fs_base.specs.Bits.{cleared}
-use Rattle.fs_shadow.specs.Ends.{highest_with, lowest_with}
 
 -- the n bits above the k lowest
 abbrev pub bits_at : (n k x : ℕ) → ℕ

@@ -1,22 +1,7 @@
 -- Which rules may take all packets of another by the single numbers that they ask for, and where these stand in order.
-use Rattle.std.proofs.Common.{◌≡◌, ℕ, zero, suc, ◌+◌, ◌-◌, ◌^◌, ◌<◌, ◌≤◌, ◌==◌, inl, inr, Bool, true, false, not, ◌&&◌, if◌then◌else◌, Option, Some, None, List, [], ◌∷◌, get_or, length, max, take, drop, refl, sym, ap, subst, ◌∙◌, arith}
-use Rattle.std.specs.List.{AllByRecursion, list_all, list_any, slice_get}
-use Rattle.std.proofs.lemmas.Bool.{cases_Bool, cases_lt, eq-eqb, or_cases, true≢false}
-use Rattle.std.proofs.lemmas.Option.{none-some}
-use Rattle.fs_base.specs.Bits.{afi_of}
-use Rattle.fs_base.proofs.Bools.{and_parts, or_first, or_second}
-use Rattle.fs_ops.specs.Evaluation.{compares, holds}
-use Rattle.fs_ranges.specs.Spans.{contains}
-use Rattle.fs_shadow.specs.declared.extents.Extent.{Extent}
-use Rattle.fs_shadow.specs.declared.extents.Extent.TheVariants.{V4, V6, Numbers, Bits}
-use Rattle.fs_shadow.specs.declared.extents.Measure.{Measure}
-use Rattle.fs_shadow.specs.declared.outlines.Outline.{Outline}
-use Rattle.fs_shadow.specs.Contains.{implies, may_lie_in}
-use Rattle.fs_nlri.specs.Parts.{Part}
-use Rattle.fs_rules.specs.Lent.{Listed}
-use Rattle.fs_buckets.proofs.Splicing.{each_got}
-use Rattle.fs_shadow.specs.Extents.{AreMeasuresOf, IsMeasureOf, IsTold, TakesIn, TakesOne, extent_lies_in, has_probe, is_probed, key_in, measure_lies_in, number_or_none}
-use Rattle.fs_shadow.specs.Outlines.{AreOutlinesOf, IsFirst, IsOutlineOf, first_taker, is_asked, is_number, key_of, outline_takes_all, probes, takes_as}
+use Rattle.fs_shadow.proofs.Words.{◌≡◌, ℕ, zero, suc, ◌+◌, ◌-◌, ◌^◌, ◌<◌, ◌≤◌, ◌==◌, inl, inr, Bool, true, false, not, ◌&&◌, if◌then◌else◌, Option, Some, None, List, [], ◌∷◌, get_or, length, max, take, drop, refl, sym, ap, subst, ◌∙◌, arith, AllByRecursion, list_all, list_any, slice_get, cases_Bool, cases_lt, eq-eqb, or_cases, true≢false, none-some, afi_of, or_first, or_second, compares, holds, contains, Extent, Numbers, Bits, Measure, Outline, implies, may_lie_in, Part, Listed, each_got, AreMeasuresOf, IsMeasureOf, IsTold, TakesIn, TakesOne, extent_lies_in, has_probe, is_probed, key_in, measure_lies_in, number_or_none, AreOutlinesOf, IsFirst, IsOutlineOf, first_taker, is_asked, is_number, key_of, outline_takes_all, probes, takes_as}
+use Rattle.fs_base.proofs.Bools.{and_parts}
+use Rattle.fs_shadow.specs.declared.extents.Extent.TheVariants.{V4, V6}
 use Rattle.fs_shadow.proofs.Below.{each_below, follows}
 
 -- the key

@@ -1,14 +1,6 @@
 -- The report, rule by rule: of each the first of the earlier rules that may contain it.
-use Rattle.std.proofs.Common.{◌≡◌, ℕ, zero, suc, ◌+◌, ◌-◌, ◌<◌, ◌≤◌, Bool, true, false, Some, List, [], ◌∷◌, ◌++◌, if◌then◌else◌, get_or, length, take, drop, refl, sym, ap, subst, ◌∙◌, arith}
-use Rattle.std.specs.List.{slice_get}
-use Rattle.std.proofs.lemmas.Option.{get_or_from_slice_get, none-some, same_Some, slice_get_within}
-use Rattle.std.proofs.lemmas.List.{append-nil, append_assoc, drop_all, drop_more, length-take-le, take_all, take_more}
-use Rattle.fs_rules.specs.Lent.{Listed}
-use Rattle.fs_buckets.specs.Destinations.{spans_of}
-use Rattle.fs_buckets.proofs.Pairing.{each_dropped, each_taken}
-use Rattle.fs_shadow.specs.declared.outlines.Outline.{Outline}
-use Rattle.fs_shadow.specs.Outlines.{AreInOrder, AreOutlinesOf, IsOutlineOf, begins_anew, first_taker}
-use Rattle.fs_shadow.specs.Reporting.{covered_by, first_taking, report_behind, takes_all}
+use Rattle.fs_shadow.proofs.Words.{◌≡◌, ℕ, zero, suc, ◌+◌, ◌-◌, ◌<◌, ◌≤◌, Bool, true, false, Some, List, [], ◌∷◌, ◌++◌, if◌then◌else◌, get_or, length, take, drop, refl, sym, ap, subst, ◌∙◌, arith, slice_get, get_or_from_slice_get, none-some, same_Some, slice_get_within, append-nil, drop_all, drop_more, length-take-le, take_all, take_more, Listed, spans_of, each_dropped, each_taken, Outline, AreInOrder, AreOutlinesOf, IsOutlineOf, begins_anew, first_taker, covered_by, first_taking, report_behind, takes_all}
+use Rattle.std.proofs.lemmas.List.{append_assoc}
 use Rattle.fs_shadow.proofs.Destinations.{AreApart, anew_apart}
 use Rattle.fs_shadow.proofs.Measuring.{taker_says}
 

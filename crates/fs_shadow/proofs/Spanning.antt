@@ -1,9 +1,6 @@
 -- The destination of the rule at a place.
-use Rattle.std.proofs.Common.{◌≡◌, ℕ, ◌<◌, None, List, length, get_or, ap, ◌∙◌, arith}
-use Rattle.std.proofs.lemmas.List.{get_or-map, length-map}
-use Rattle.fs_rules.specs.Lent.{Listed, all_admitted, shown_lent}
+use Rattle.fs_shadow.proofs.Words.{◌≡◌, ℕ, ◌<◌, None, List, length, get_or, ap, ◌∙◌, arith, get_or-map, length-map, Listed, all_admitted, shown_lent, span_of, spans_of}
 use Rattle.fs_rules.specs.declared.lent.LentRule.{LentRule}
-use Rattle.fs_buckets.specs.Destinations.{span_of, spans_of}
 
 pub span_of_item : (list : List LentRule) (i : ℕ) (a : LentRule) → i < length list → get_or (spans_of (all_admitted list)) i None ≡ span_of (get_or list i a).rule.now
 span_of_item list i a below =

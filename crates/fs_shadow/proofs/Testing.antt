@@ -1,7 +1,6 @@
+use Rattle.fs_shadow.proofs.Words.{◌≡◌, ℕ, ◌==◌, true, ◌&&◌, ◌||◌, sym, ap, ◌∙◌, inl, inr, and_parts, eqb-true, or_cases, may_lie_in, tests_bits}
+
 -- What components test tells whether one lies in the other.
-use Rattle.std.proofs.Common.{◌≡◌, ℕ, ◌==◌, true, ◌&&◌, ◌||◌, sym, ap, ◌∙◌, inl, inr}
-use Rattle.std.proofs.lemmas.Bool.{and_parts, eqb-true, or_cases}
-use Rattle.fs_shadow.specs.Contains.{may_lie_in, tests_bits}
 
 -- types of which one may lie in the other test alike
 pub alike : (inner outer : ℕ) → may_lie_in inner outer ≡ true → tests_bits inner ≡ tests_bits outer

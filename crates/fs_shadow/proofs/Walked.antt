@@ -1,17 +1,8 @@
 -- A rule of which an earlier one takes all packets is walked by none.
-use Rattle.std.proofs.Common.{◌≡◌, ◌≢◌, ℕ, zero, suc, ◌+◌, ◌<◌, Bool, true, false, not, Option, Some, None, List, [], ◌∷◌, ◌++◌, if◌then◌else◌, length, refl, sym, ap, subst, ◌∙◌, inl, inr, arith, append_assoc}
-use Rattle.std.specs.List.{AllByRecursion, slice_get}
-use Rattle.std.proofs.lemmas.Bool.{and_parts, cases_Bool, not-true, true≢false}
-use Rattle.std.proofs.lemmas.Option.{none-some, same_Some}
+use Rattle.fs_shadow.proofs.Words.{◌≡◌, ◌≢◌, ℕ, zero, suc, ◌+◌, ◌<◌, Bool, true, false, not, Option, Some, None, List, [], ◌∷◌, ◌++◌, if◌then◌else◌, length, refl, sym, ap, subst, ◌∙◌, inl, inr, arith, append_assoc, AllByRecursion, slice_get, and_parts, cases_Bool, not-true, true≢false, none-some, same_Some, Viewed, is_match, IsSmall, Listed, covered_by, first_taking, report_behind, takes_all, ConfirmedNeverWalks, CoveredNeverWalks, NeverWalks}
 use Rattle.fs_base.proofs.Lists.{each_append}
-use Rattle.fs_packet.specs.Fields.{Viewed}
-use Rattle.fs_packet.specs.Matching.{is_match}
-use Rattle.fs_ranges.specs.Facts.{IsSmall}
-use Rattle.fs_rules.specs.Lent.{Listed}
 use Rattle.fs_rules.specs.Walk.{goes_on, walk_from, walk_of}
 use Rattle.fs_shadow.specs.Contains.{contains}
-use Rattle.fs_shadow.specs.Reporting.{covered_by, first_taking, report_behind, takes_all}
-use Rattle.fs_shadow.specs.Laws.{ConfirmedNeverWalks, CoveredNeverWalks, NeverWalks}
 use Rattle.fs_shadow.proofs.Matched.{contained_matches}
 
 abbrev Entry : Type 0

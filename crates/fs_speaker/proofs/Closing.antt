@@ -1,21 +1,6 @@
 -- How both ends close, whatever happens between them.
-use Rattle.std.proofs.Common.{◌≡◌, inl, inr, ℕ, ◌==◌, Bool, true, false, if◌then◌else◌, List, [], ◌∷◌, ◌++◌, take, Option, Some, None, refl, ap, sym, ◌∙◌, subst, append_assoc, append-nil}
-use Rattle.fs_base.specs.declared.config.Config.{Config}
-use Rattle.fs_base.specs.declared.config.Peer.{Peer}
-use Rattle.fs_session.specs.Handed.{Point, Handed, hand}
-use Rattle.fs_session.specs.Session.{Last, at_start, closed, session_by}
-use Rattle.fs_session.specs.Times.{at_moment, tick_at}
-use Rattle.fs_session.specs.Transition.{Machine}
-use Rattle.fs_session.specs.declared.sending.Sending.{Sending}
-use Rattle.fs_session.specs.declared.state.Closed.{Closed}
-use Rattle.fs_session.specs.declared.state.Closed.TheVariants.{Fault, Notified, NoFamily, Memory}
-use Rattle.fs_session.specs.declared.times.Tick.{Tick}
-use Rattle.fs_session.specs.declared.times.Tick.TheVariants.{Quiet, Keeps, Expires}
-use Rattle.fs_speaker.specs.declared.event.Event.{Event}
-use Rattle.fs_speaker.specs.declared.event.Event.TheVariants.{Send, Deliver, Tick as TickEvent, Cut}
-use Rattle.fs_speaker.specs.End.{ticks, ticked}
-use Rattle.fs_speaker.specs.JointLaws.{CanArrive, ClosesSo, IsDue, handed_over, point_of, taken_in}
-use Rattle.fs_speaker.specs.World.{World, sent, taker_of, teller_of, taker_comes, teller_comes, happens, at_first, runs_on, run}
+use Rattle.fs_speaker.proofs.Words.{◌≡◌, inl, inr, ℕ, ◌==◌, Bool, true, false, if◌then◌else◌, List, [], ◌∷◌, ◌++◌, take, Option, Some, None, refl, ap, sym, ◌∙◌, subst, append_assoc, append-nil, Config, Peer, Point, Handed, hand, Last, at_start, closed, session_by, at_moment, tick_at, Machine, Sending, Closed, Fault, Notified, NoFamily, Memory, Tick, Quiet, Keeps, Expires, Event, Send, Deliver, Cut, ticks, ticked, CanArrive, ClosesSo, IsDue, handed_over, point_of, taken_in, World, sent, taker_of, teller_of, taker_comes, teller_comes, happens, at_first, runs_on, run}
+use Rattle.fs_speaker.specs.declared.event.Event.TheVariants.{Tick as TickEvent}
 use Rattle.fs_speaker.proofs.Events.{each_event, told_over}
 use Rattle.fs_speaker.proofs.Fronting.{Holds, Lines, holds_first, holds_on, lines_cut, lines_delivered, lines_same, lines_spoken}
 use Rattle.fs_speaker.proofs.SessionInPieces.{Follows, closes_by, follows_first, follows_none, follows_piece, follows_tick}

@@ -1,15 +1,6 @@
 -- What an event does, by cases: an end says something, is handed a piece or hears the clock, or the wire is cut.
-use Rattle.std.proofs.Common.{◌≡◌, ℕ, ◌==◌, Bool, true, false, if◌then◌else◌, List, [], ◌∷◌, ◌++◌, take, drop, Option, Some, None, refl, append_assoc, append-nil}
-use Rattle.fs_base.specs.declared.config.Config.{Config}
-use Rattle.fs_base.specs.declared.config.Peer.{Peer}
-use Rattle.fs_session.specs.Handed.{hand}
-use Rattle.fs_session.specs.Transition.{Machine}
-use Rattle.fs_session.specs.declared.sending.Sending.{Sending}
-use Rattle.fs_speaker.specs.declared.event.Event.{Event}
-use Rattle.fs_speaker.specs.declared.event.Event.TheVariants.{Send, Deliver, Tick, Cut}
-use Rattle.fs_speaker.specs.End.{ticked}
-use Rattle.fs_speaker.specs.JointLaws.{delivered_on, handed_over, taken_in}
-use Rattle.fs_speaker.specs.World.{World, cuts, taker_of, teller_of, taker_comes, teller_comes, says, next_said, happens, runs_on}
+use Rattle.fs_speaker.proofs.Words.{◌≡◌, ℕ, ◌==◌, Bool, true, false, if◌then◌else◌, List, [], ◌∷◌, ◌++◌, take, drop, Option, Some, None, refl, append_assoc, append-nil, Config, Peer, hand, Machine, Sending, Event, Send, Deliver, Cut, ticked, delivered_on, handed_over, taken_in, World, cuts, taker_of, teller_of, taker_comes, teller_comes, says, next_said, happens, runs_on}
+use Rattle.fs_speaker.specs.declared.event.Event.TheVariants.{Tick}
 
 -- the octets that an event hands to the announcing end while it is open
 abbrev pub told_over : Event → World → List ℕ

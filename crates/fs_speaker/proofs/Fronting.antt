@@ -1,33 +1,7 @@
 -- Whatever happens between two joined ends, what was delivered is a front of what the announcing end said, and what it
 -- said is its OPEN, KEEPALIVEs and the UPDATEs of its rules, in their order.
-use Rattle.std.proofs.Common.{◌≡◌, ◌⊎◌, inl, inr, ℕ, zero, suc, ◌+◌, Bool, true, false, if◌then◌else◌, List, [], ◌∷◌, ◌++◌, length, take, drop, map, Option, Some, None, refl, ap, sym, ◌∙◌, subst, append_assoc, append-nil}
-use Rattle.std.proofs.lemmas.List.{take-append-drop}
-use Rattle.fs_base.specs.declared.config.Config.{Config}
-use Rattle.fs_base.specs.declared.config.Peer.{Peer}
+use Rattle.fs_speaker.proofs.Words.{◌≡◌, ◌⊎◌, inl, inr, ℕ, zero, suc, ◌+◌, Bool, true, false, if◌then◌else◌, List, [], ◌∷◌, ◌++◌, length, take, drop, map, Option, Some, None, refl, ap, sym, ◌∙◌, subst, append_assoc, append-nil, take-append-drop, Config, Peer, Update, message_text, Closed, Fault, Tick, Quiet, Keeps, Expires, Times, Sending, Sent, Phase, first_text, is_established, open_sent, Point, Handed, hand, runs_by, needs_of, text_sent, update_sent, at_start, session_by, at_moment, tick_at, Machine, hand_each, front_first, Event, Cut, ticks, ticked, CanArrive, taken_in, handed_over, delivered, World, sent, taker_of, teller_of, teller_comes, says, next_said, happens, at_first, run}
 use Rattle.fs_base.proofs.Octets.{take_of_none}
-use Rattle.fs_attrs.specs.declared.update.Update.{Update}
-use Rattle.fs_message.specs.Write.{message_text}
-use Rattle.fs_session.specs.declared.state.Closed.{Closed}
-use Rattle.fs_session.specs.declared.state.Closed.TheVariants.{Fault}
-use Rattle.fs_session.specs.declared.times.Tick.{Tick}
-use Rattle.fs_session.specs.declared.times.Tick.TheVariants.{Quiet, Keeps, Expires}
-use Rattle.fs_session.specs.declared.times.Times.{Times}
-use Rattle.fs_session.specs.declared.sending.Sending.{Sending}
-use Rattle.fs_session.specs.declared.sending.Sent.{Sent}
-use Rattle.fs_session.specs.declared.transition.Phase.{Phase}
-use Rattle.fs_session.specs.Announcer.{first_text, is_established, open_sent}
-use Rattle.fs_session.specs.Handed.{Point, Handed, hand, runs_by}
-use Rattle.fs_session.specs.Sending.{needs_of, text_sent, update_sent}
-use Rattle.fs_session.specs.Session.{at_start, session_by}
-use Rattle.fs_session.specs.Times.{at_moment, tick_at}
-use Rattle.fs_session.specs.Transition.{Machine}
-use Rattle.fs_session.proofs.MessageRuns.{hand_each}
-use Rattle.fs_session.proofs.TwoPieces.{front_first}
-use Rattle.fs_speaker.specs.declared.event.Event.{Event}
-use Rattle.fs_speaker.specs.declared.event.Event.TheVariants.{Cut}
-use Rattle.fs_speaker.specs.End.{ticks, ticked}
-use Rattle.fs_speaker.specs.JointLaws.{CanArrive, taken_in, handed_over, delivered}
-use Rattle.fs_speaker.specs.World.{World, sent, taker_of, teller_of, teller_comes, says, next_said, happens, at_first, run}
 use Rattle.fs_speaker.proofs.Events.{each_event, each_run}
 use Rattle.fs_speaker.proofs.Opening.{Begins, Comes, Heads, IsSafe, IsSilent, Quietly, awaits, heads_more, heads_safe, none_safe, quiet_by, safe_front, taker_begins, teller_begins}
 use Rattle.fs_speaker.proofs.Reading.{Gives, Reads, calmly_none, front_of, hears_calmly, hears_none, hears_notice, met, reads_alive, reads_first_alive, reads_open, reads_rule, up}

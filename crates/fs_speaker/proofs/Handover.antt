@@ -1,22 +1,8 @@
 -- An end that takes a piece message by message comes to what the whole piece makes of it.
-use Rattle.std.proofs.Common.{◌≡◌, ℕ, List, [], ◌∷◌, ◌++◌, length, drop, max, Option, Some, None, Result, Ok, Err, refl, ap, sym, ◌∙◌, subst, arith, append_assoc, append-nil, IfSome, take, ◌-◌}
-use Rattle.std.proofs.lemmas.List.{drop_all, take_rest, nil_from_length}
-use Rattle.fs_attrs.specs.declared.update.Update.{Update}
-use Rattle.fs_message.specs.Deframer.{pending}
-use Rattle.fs_session.specs.declared.state.State.{State}
-use Rattle.fs_session.specs.declared.state.State.TheVariants.{WaitOpen, WaitKeep, Established, Closed as IsClosed}
-use Rattle.fs_session.specs.declared.state.Closed.{Closed}
-use Rattle.fs_session.specs.declared.state.Closed.TheVariants.{Fault, Notified, NoFamily, Memory}
-use Rattle.fs_session.specs.declared.times.Times.{Times}
-use Rattle.fs_session.specs.Handed.{Point, point, Handed, handed, shuts, updates_with, with_taken, runs_by, hand}
-use Rattle.fs_session.specs.Line.{Lined, Step, waits, takes, stops, step_by, answer_of, closed_after, Advanced, CloseIs, FeedsAt, FeedsOpen, StaysOver, moved}
-use Rattle.fs_session.specs.Side.{at_fault}
-use Rattle.fs_session.specs.Times.{times, at_moment, taken_in}
-use Rattle.fs_session.specs.declared.transition.Phase.{Phase}
-use Rattle.fs_session.specs.Transition.{Machine}
-use Rattle.fs_session.proofs.MessageRuns.{runs_takes, runs_stops, runs_waits}
+use Rattle.fs_speaker.proofs.Words.{◌≡◌, ℕ, List, [], ◌∷◌, ◌++◌, length, drop, max, Option, Some, None, Result, Ok, Err, refl, ap, sym, ◌∙◌, subst, arith, append_assoc, append-nil, IfSome, take, ◌-◌, drop_all, take_rest, nil_from_length, Update, pending, State, WaitOpen, WaitKeep, Established, Closed, Fault, Notified, NoFamily, Memory, Times, Point, point, Handed, handed, shuts, updates_with, with_taken, runs_by, hand, Lined, Step, waits, takes, stops, step_by, answer_of, closed_after, Advanced, CloseIs, FeedsAt, FeedsOpen, StaysOver, moved, at_fault, times, at_moment, Phase, Machine, runs_takes, runs_stops, runs_waits, StandsAt, HandsOver}
+use Rattle.fs_session.specs.declared.state.State.TheVariants.{Closed as IsClosed}
+use Rattle.fs_session.specs.Times.{taken_in}
 pub use Rattle.fs_session.proofs.MessageRuns.{open_hand, closed_hand}
-use Rattle.fs_speaker.specs.End.{StandsAt, HandsOver}
 
 -- what was taken and answered before, and what is to come
 abbrev pub behind : List Update → List ℕ → Handed → Handed

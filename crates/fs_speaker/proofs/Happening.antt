@@ -1,27 +1,6 @@
 -- What each event makes of both ends.
-use Rattle.std.proofs.Common.{◌≡◌, ℕ, Bool, if◌then◌else◌, List, [], ◌++◌, take, drop, Option, Some, None, refl, ap, sym, ◌∙◌, subst, append-nil, unwrap_or}
-use Rattle.fs_base.specs.declared.config.Config.{Config}
-use Rattle.fs_base.specs.declared.config.Peer.{Peer}
-use Rattle.fs_attrs.specs.declared.update.Update.{Update}
-use Rattle.fs_session.specs.declared.state.Closed.{Closed}
-use Rattle.fs_session.specs.declared.times.Tick.{Tick}
-use Rattle.fs_session.specs.declared.times.Tick.TheVariants.{Quiet, Keeps, Expires}
-use Rattle.fs_session.specs.declared.times.Times.{Times}
-use Rattle.fs_session.specs.declared.sending.Sending.{Sending}
-use Rattle.fs_session.specs.Announcer.{Announcing, machine_in, is_established, first_text, next_text}
-use Rattle.fs_session.specs.Handed.{Point, Handed, hand}
+use Rattle.fs_speaker.proofs.Words.{◌≡◌, ℕ, Bool, if◌then◌else◌, List, [], ◌++◌, take, drop, Option, Some, None, refl, ap, sym, ◌∙◌, subst, append-nil, unwrap_or, Config, Peer, Update, Closed, Tick, Quiet, Keeps, Expires, Times, Sending, Announcing, machine_in, is_established, first_text, next_text, Point, Handed, hand, needs_of, text_sent, Lined, Live, line_of, receiver, announcer, at_moment, tick_at, Phase, Machine, Own, own_of_taker, own_of_teller, ticks, ticked, StandsAt, HandsOver, TicksOver, Both, both, IsTaker, IsTeller, AreIn, Flying, flying, World, sent, taker_of, teller_of, next_said, delivers, wakes}
 use Rattle.fs_session.specs.declared.state.State.TheVariants.{Closed as IsClosed}
-use Rattle.fs_session.specs.Sending.{needs_of, text_sent}
-use Rattle.fs_session.specs.Line.{Lined}
-use Rattle.fs_session.specs.Session.{Live, line_of}
-use Rattle.fs_session.specs.Side.{receiver, announcer}
-use Rattle.fs_session.specs.Times.{at_moment, tick_at}
-use Rattle.fs_session.specs.declared.transition.Phase.{Phase}
-use Rattle.fs_session.specs.Transition.{Machine}
-use Rattle.fs_speaker.specs.End.{Own, own_of_taker, own_of_teller, ticks, ticked, StandsAt, HandsOver, TicksOver}
-use Rattle.fs_speaker.specs.Ends.{Both, both, IsTaker, IsTeller, AreIn}
-use Rattle.fs_speaker.specs.Flight.{Flying, flying}
-use Rattle.fs_speaker.specs.World.{World, sent, taker_of, teller_of, next_said, delivers, wakes}
 use Rattle.fs_speaker.proofs.Waking.{tick_each}
 
 -- no update comes of the clock

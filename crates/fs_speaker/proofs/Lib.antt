@@ -5,6 +5,7 @@ pub use Rattle.fs_session.proofs.Arriving
 pub use Rattle.fs_session.proofs.MessageRuns
 pub use Rattle.fs_session.proofs.TwoPieces
 pub use Rattle.fs_session.proofs.Returning
+mod Words
 pub mod Handover
 pub mod Waking
 mod Events

@@ -1,9 +1,6 @@
 -- The peer with the lowest number is the one that its number tells.
-use Rattle.std.proofs.Common.{◌≡◌, ◌==◌, Bool, true, false, true≢false, List, [], ◌∷◌, Option, Some, find, nat_le, unwrap_or, refl, ap, sym, ◌∙◌, subst, if◌then◌else◌, IsSome, ℕ, eq-eqb, eqb-true}
-use Rattle.std.specs.List.{list_all}
+use Rattle.fs_speaker.proofs.Words.{◌≡◌, ◌==◌, Bool, true, false, true≢false, List, [], ◌∷◌, Option, Some, find, nat_le, unwrap_or, refl, ap, sym, ◌∙◌, subst, if◌then◌else◌, IsSome, ℕ, eq-eqb, eqb-true, list_all, Peer, is_lowest, sender_of}
 use Rattle.fs_base.specs.Config.{peer_of}
-use Rattle.fs_base.specs.declared.config.Peer.{Peer}
-use Rattle.fs_session.specs.Sending.{is_lowest, sender_of}
 
 find_holds : (p : Peer → Bool) (peers : List Peer) (peer : Peer) → find p peers ≡ Some peer → p peer ≡ true
 find_holds p [] peer h = absurd cc

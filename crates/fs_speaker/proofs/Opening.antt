@@ -1,36 +1,12 @@
 -- What an announcing end comes to that waits for an OPEN, and behind it; and how a receiving end begins.
-use Rattle.std.proofs.Common.{◌≡◌, ◌⊎◌, inl, inr, ℕ, List, [], ◌∷◌, ◌++◌, length, Bool, true, false, if◌then◌else◌, min, Option, Some, None, Result, Ok, Err, refl, ap, sym, ◌∙◌, subst, arith, append_assoc, append-nil}
-use Rattle.fs_base.specs.Parts.{parts_of}
-use Rattle.fs_base.specs.declared.config.Config.{Config}
-use Rattle.fs_base.specs.declared.config.Peer.{Peer}
+use Rattle.fs_speaker.proofs.Words.{◌≡◌, ◌⊎◌, inl, inr, ℕ, List, [], ◌∷◌, ◌++◌, length, Bool, true, false, if◌then◌else◌, min, Option, Some, None, Result, Ok, Err, refl, ap, sym, ◌∙◌, subst, arith, append_assoc, append-nil, parts_of, Config, Peer, Message, first_message, wrong_at, message_text, open_body, MessageFault, Open, open_read, text_first, Update, Handed, Point, rests, runs_by, shuts, with_taken, needs_of, at_start, announcer, at_fault, keepalive_to, lacks_of, no_farewell, notice_text, receiver, reply_to, Machine, opened, phase, taken, transition_by, Sending, Closed, Fault, Notified, NoFamily, Memory, State, WaitOpen, WaitKeep, Established, Times, Phase, runs_begun, runs_each, CanArrive, open_fits}
 use Rattle.fs_message.specs.Laws.{own_open}
 use Rattle.fs_message.specs.Open.{open_of}
-use Rattle.fs_message.specs.Stream.{Message, first_message, wrong_at}
-use Rattle.fs_message.specs.Write.{message_text, open_body}
-use Rattle.fs_message.specs.declared.fault.MessageFault.{MessageFault}
-use Rattle.fs_message.specs.declared.open_.Open.{Open}
-use Rattle.fs_message.proofs.OpenReadBack.{open_read}
 use Rattle.fs_message.proofs.StreamLaws.{message_stable}
-use Rattle.fs_message.proofs.TextFirst.{text_first}
-use Rattle.fs_attrs.specs.declared.update.Update.{Update}
-use Rattle.fs_session.specs.Handed.{Handed, Point, rests, runs_by, shuts, with_taken}
-use Rattle.fs_session.specs.Sending.{needs_of}
-use Rattle.fs_session.specs.Session.{at_start}
-use Rattle.fs_session.specs.Side.{announcer, at_fault, keepalive_to, lacks_of, no_farewell, notice_text, receiver, reply_to}
 use Rattle.fs_session.specs.Times.{taken_in}
-use Rattle.fs_session.specs.Transition.{Machine, opened, phase, taken, transition_by}
-use Rattle.fs_session.specs.declared.sending.Sending.{Sending}
 use Rattle.fs_session.specs.declared.side.Needs.{Needs}
-use Rattle.fs_session.specs.declared.state.Closed.{Closed}
-use Rattle.fs_session.specs.declared.state.Closed.TheVariants.{Fault, Notified, NoFamily, Memory}
-use Rattle.fs_session.specs.declared.state.State.{State}
-use Rattle.fs_session.specs.declared.state.State.TheVariants.{WaitOpen, WaitKeep, Established, Closed as IsClosed}
-use Rattle.fs_session.specs.declared.times.Times.{Times}
-use Rattle.fs_session.specs.declared.transition.Phase.{Phase}
-use Rattle.fs_session.proofs.MessageRuns.{runs_begun, runs_each}
+use Rattle.fs_session.specs.declared.state.State.TheVariants.{Closed as IsClosed}
 use Rattle.fs_session.proofs.Transitions.{each_transition}
-use Rattle.fs_speaker.specs.JointLaws.{CanArrive}
-use Rattle.fs_session.proofs.Arriving.{open_fits}
 
 abbrev Made : Type 0
 Made = Result (Phase × Option Update) Closed

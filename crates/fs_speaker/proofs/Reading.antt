@@ -1,32 +1,8 @@
 -- What the receiving end takes of what an announcing end says, message by message.
-use Rattle.std.proofs.Common.{◌≡◌, ℕ, zero, suc, ◌+◌, true, List, [], ◌∷◌, ◌++◌, length, min, take, drop, map, Some, None, Result, Ok, Err, refl, sym, ap, ◌∙◌, subst, arith, append_assoc, append-nil}
-use Rattle.std.specs.List.{AllByRecursion}
-use Rattle.fs_base.specs.declared.config.Config.{Config}
-use Rattle.fs_base.specs.declared.config.Peer.{Peer}
-use Rattle.fs_message.specs.declared.fault.MessageFault.{MessageFault}
-use Rattle.fs_message.specs.declared.open_.Open.{Open}
+use Rattle.fs_speaker.proofs.Words.{◌≡◌, ℕ, zero, suc, ◌+◌, true, List, [], ◌∷◌, ◌++◌, length, min, take, drop, map, Some, None, Result, Ok, Err, refl, sym, ap, ◌∙◌, subst, arith, append_assoc, append-nil, AllByRecursion, Config, Peer, MessageFault, Open, message_text, open_body, text_first, open_read, Update, WaitKeep, Established, Closed, Notified, Sent, Sending, open_sent, step_by, body_by, update_sent, text_sent, Last, at_start, closed, session_by, still, with_update, receiver, as_update, notice_text, Phase, Machine, phase, opened, notified, updates, transition_by, terms_of, at_most, body_long, one_message, open_fits, update_fits, machine_stops, machine_waits, step_found, CanArrive}
 use Rattle.fs_message.specs.Notice.{notice_of}
-use Rattle.fs_message.specs.Write.{message_text, open_body}
-use Rattle.fs_message.proofs.TextFirst.{text_first}
-use Rattle.fs_message.proofs.OpenReadBack.{open_read}
-use Rattle.fs_attrs.specs.declared.update.Update.{Update}
 use Rattle.fs_attrs.specs.declared.update.UpdateFault.{UpdateFault}
-use Rattle.fs_session.specs.declared.state.State.TheVariants.{WaitKeep, Established}
-use Rattle.fs_session.specs.declared.state.Closed.{Closed}
-use Rattle.fs_session.specs.declared.state.Closed.TheVariants.{Notified}
-use Rattle.fs_session.specs.declared.sending.Sent.{Sent}
-use Rattle.fs_session.specs.declared.sending.Sending.{Sending}
-use Rattle.fs_session.specs.Announcer.{open_sent}
 use Rattle.fs_session.specs.Laws.{ComesBack}
-use Rattle.fs_session.specs.Line.{step_by}
-use Rattle.fs_session.specs.Sending.{body_by, update_sent, text_sent}
-use Rattle.fs_session.specs.Session.{Last, at_start, closed, session_by, still, with_update}
-use Rattle.fs_session.specs.Side.{receiver, as_update, notice_text}
-use Rattle.fs_session.specs.declared.transition.Phase.{Phase}
-use Rattle.fs_session.specs.Transition.{Machine, phase, opened, notified, updates, transition_by, terms_of}
-use Rattle.fs_session.proofs.Arriving.{at_most, body_long, one_message, open_fits, update_fits}
-use Rattle.fs_session.proofs.SessionSteps.{machine_stops, machine_waits, step_found}
-use Rattle.fs_speaker.specs.JointLaws.{CanArrive}
 
 pub least : (n : ℕ) → min n n ≡ n
 least n = omega arith

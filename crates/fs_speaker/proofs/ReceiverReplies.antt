@@ -1,34 +1,8 @@
 -- What a receiving end says that hears an announcing end, and what the announcing end comes to that hears all of it.
-use Rattle.std.proofs.Common.{◌≡◌, ◌⊎◌, inl, inr, ◌&&◌, ◌||◌, not, ℕ, List, [], ◌++◌, length, Bool, true, false, if◌then◌else◌, min, Option, Some, None, Result, Ok, Err, refl, ap, sym, ◌∙◌, subst, arith, append_assoc, append-nil}
-use Rattle.fs_base.specs.Parts.{parts_of}
-use Rattle.fs_base.specs.declared.config.Config.{Config}
-use Rattle.fs_base.specs.declared.config.Peer.{Peer}
-use Rattle.fs_message.specs.Stream.{first_message, wrong_at}
-use Rattle.fs_message.specs.Write.{message_text, open_body}
-use Rattle.fs_message.specs.declared.fault.MessageFault.{MessageFault}
-use Rattle.fs_message.specs.declared.open_.Open.{Open}
-use Rattle.fs_message.proofs.OpenReadBack.{open_read}
-use Rattle.fs_attrs.specs.declared.update.Update.{Update}
-use Rattle.fs_session.specs.Handed.{Handed, Point, hand, rests, runs_by, shuts}
-use Rattle.fs_session.specs.Sending.{needs_of}
-use Rattle.fs_session.specs.Session.{at_start, session_by}
-use Rattle.fs_session.specs.Side.{announcer, at_fault, notice_text, receiver, reply_to}
-use Rattle.fs_session.specs.Times.{at_moment, taken_in, tick_at}
-use Rattle.fs_session.specs.Transition.{Machine, faulted, opened, phase, taken, transition_by}
-use Rattle.fs_session.specs.declared.sending.Sending.{Sending}
-use Rattle.fs_session.specs.declared.state.Closed.{Closed}
-use Rattle.fs_session.specs.declared.state.Closed.TheVariants.{Fault, Notified, NoFamily, Memory}
-use Rattle.fs_session.specs.declared.state.State.{State}
-use Rattle.fs_session.specs.declared.state.State.TheVariants.{WaitOpen, WaitKeep, Established, Closed as IsClosed}
-use Rattle.fs_session.specs.declared.times.Tick.{Tick}
-use Rattle.fs_session.specs.declared.times.Tick.TheVariants.{Quiet, Keeps, Expires}
-use Rattle.fs_session.specs.declared.times.Times.{Times}
-use Rattle.fs_session.specs.declared.transition.Phase.{Phase}
-use Rattle.fs_session.proofs.MessageRuns.{hand_each, runs_begun, runs_each}
-use Rattle.fs_speaker.specs.End.{ticked, ticks}
-use Rattle.fs_speaker.specs.JointLaws.{CanArrive}
+use Rattle.fs_speaker.proofs.Words.{◌≡◌, ◌⊎◌, inl, inr, ◌&&◌, ◌||◌, not, ℕ, List, [], ◌++◌, length, Bool, true, false, if◌then◌else◌, min, Option, Some, None, Result, Ok, Err, refl, ap, sym, ◌∙◌, subst, arith, append_assoc, append-nil, parts_of, Config, Peer, first_message, wrong_at, message_text, open_body, MessageFault, Open, open_read, Update, Handed, Point, hand, rests, runs_by, shuts, needs_of, at_start, session_by, announcer, at_fault, notice_text, receiver, reply_to, at_moment, tick_at, Machine, faulted, opened, phase, taken, transition_by, Sending, Closed, Fault, Notified, NoFamily, Memory, State, WaitOpen, WaitKeep, Established, Tick, Quiet, Keeps, Expires, Times, Phase, hand_each, runs_begun, runs_each, ticked, ticks, CanArrive, one_message, open_fits}
+use Rattle.fs_session.specs.Times.{taken_in}
+use Rattle.fs_session.specs.declared.state.State.TheVariants.{Closed as IsClosed}
 use Rattle.fs_speaker.proofs.Opening.{awaits, Past, past}
-use Rattle.fs_session.proofs.Arriving.{one_message, open_fits}
 use Rattle.fs_speaker.proofs.Reading.{Calmly, Hears, calmly_none, hears_calmly, hears_more, hears_none, hears_notice, least, met, up}
 use Rattle.fs_speaker.proofs.Waking.{open_not, tick_each}
 

@@ -1,19 +1,5 @@
 -- A list of events, and one event more.
-use Rattle.std.proofs.Common.{◌≡◌, ℕ, Bool, true, false, List, [], ◌∷◌, ◌++◌, Option, Some, None, Ok, option_map, unwrap_or, refl, ap, sym, ◌∙◌, subst, IfSome}
-use Rattle.fs_base.specs.declared.config.Config.{Config}
-use Rattle.fs_base.specs.declared.config.Peer.{Peer}
-use Rattle.fs_session.specs.declared.sending.Sending.{Sending}
-use Rattle.fs_session.specs.declared.state.Closed.{Closed}
-use Rattle.fs_session.specs.Announcer.{Announcing, announcing, open_sent, StartsOpen}
-use Rattle.fs_session.specs.Line.{fresh, step_by, waits}
-use Rattle.fs_session.specs.Sending.{sender_of}
-use Rattle.fs_session.specs.Session.{Live, live, begins, at_start}
-use Rattle.fs_session.specs.Transition.{Machine}
-use Rattle.fs_speaker.specs.declared.event.Event.{Event}
-use Rattle.fs_speaker.specs.Ends.{Both, both, AreIn, Becomes, SameOnes}
-use Rattle.fs_speaker.specs.Flight.{flying}
-use Rattle.fs_speaker.specs.Joint.{Jointed, jointed, one_more, run_of, IsRun}
-use Rattle.fs_speaker.specs.World.{World, taker_of, teller_of, happens, runs_on, run}
+use Rattle.fs_speaker.proofs.Words.{◌≡◌, ℕ, Bool, true, false, List, [], ◌∷◌, ◌++◌, Option, Some, None, Ok, option_map, unwrap_or, refl, ap, sym, ◌∙◌, subst, IfSome, Config, Peer, Sending, Closed, Announcing, announcing, open_sent, StartsOpen, fresh, step_by, waits, sender_of, Live, live, begins, at_start, Machine, Event, Both, both, AreIn, Becomes, SameOnes, flying, Jointed, jointed, one_more, run_of, IsRun, World, taker_of, teller_of, happens, runs_on, run}
 use Rattle.fs_speaker.proofs.Lowest.{sender_told}
 
 pub run_more : (config : Config) (peer : Peer) (sending : Sending) (w : World) (events : List Event) (event : Event)

@@ -1,19 +1,5 @@
 -- What a session comes to that is handed on, in pieces, and that a front of the octets closed.
-use Rattle.std.proofs.Common.{◌≡◌, ℕ, List, [], ◌++◌, Option, Some, None, refl, ap, sym, ◌∙◌, subst, append_assoc}
-use Rattle.fs_attrs.specs.declared.update.Update.{Update}
-use Rattle.fs_session.specs.Handed.{Handed, Point, hand, runs_by}
-use Rattle.fs_session.specs.Session.{Last, at_start, closed, still, session_by, with_update}
-use Rattle.fs_session.specs.Times.{at_moment, tick_at}
-use Rattle.fs_session.specs.Transition.{Machine}
-use Rattle.fs_session.specs.declared.state.Closed.{Closed}
-use Rattle.fs_session.specs.declared.times.Tick.{Tick}
-use Rattle.fs_session.specs.declared.times.Tick.TheVariants.{Quiet, Keeps, Expires}
-use Rattle.fs_session.specs.declared.times.Times.{Times}
-use Rattle.fs_session.specs.declared.transition.Phase.{Phase}
-use Rattle.fs_session.proofs.MessageRuns.{hand_each, open_hand}
-use Rattle.fs_session.proofs.TwoPieces.{both_by}
-use Rattle.fs_session.proofs.SessionSteps.{last_of, session_seen}
-use Rattle.fs_speaker.specs.End.{ticked, ticks}
+use Rattle.fs_speaker.proofs.Words.{◌≡◌, ℕ, List, [], ◌++◌, Option, Some, None, refl, ap, sym, ◌∙◌, subst, append_assoc, Update, Handed, Point, hand, runs_by, Last, at_start, closed, still, session_by, with_update, at_moment, tick_at, Machine, Closed, Tick, Quiet, Keeps, Expires, Times, Phase, hand_each, open_hand, both_by, last_of, session_seen, ticked, ticks}
 use Rattle.fs_speaker.specs.JointLaws.{taken_in as octets_in}
 use Rattle.fs_speaker.proofs.Waking.{open_not, hand_stays, tick_each}
 

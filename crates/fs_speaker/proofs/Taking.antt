@@ -1,22 +1,5 @@
 -- What the receiving end takes of all that is delivered to it.
-use Rattle.std.proofs.Common.{◌≡◌, ℕ, List, [], ◌++◌, take, Option, Some, None, refl, ap, sym, ◌∙◌, append_assoc, append-nil}
-use Rattle.fs_base.specs.declared.config.Config.{Config}
-use Rattle.fs_base.specs.declared.config.Peer.{Peer}
-use Rattle.fs_attrs.specs.declared.update.Update.{Update}
-use Rattle.fs_session.specs.declared.state.Closed.{Closed}
-use Rattle.fs_session.specs.declared.times.Tick.{Tick}
-use Rattle.fs_session.specs.declared.times.Tick.TheVariants.{Quiet, Keeps, Expires}
-use Rattle.fs_session.specs.declared.sending.Sending.{Sending}
-use Rattle.fs_session.specs.Handed.{Point, Handed, handed, hand}
-use Rattle.fs_session.specs.Session.{Last, at_start, session_by}
-use Rattle.fs_session.specs.Times.{at_moment, tick_at}
-use Rattle.fs_session.specs.Transition.{Machine}
-use Rattle.fs_session.proofs.TwoPieces.{both_hands}
-use Rattle.fs_session.proofs.SessionSteps.{machine_waits, runs_updates}
-use Rattle.fs_speaker.specs.declared.event.Event.{Event}
-use Rattle.fs_speaker.specs.End.{ticks, ticked}
-use Rattle.fs_speaker.specs.JointLaws.{taken_in, handed_over, delivered}
-use Rattle.fs_speaker.specs.World.{World, taker_of, happens, at_first, run}
+use Rattle.fs_speaker.proofs.Words.{◌≡◌, ℕ, List, [], ◌++◌, take, Option, Some, None, refl, ap, sym, ◌∙◌, append_assoc, append-nil, Config, Peer, Update, Closed, Tick, Quiet, Keeps, Expires, Sending, Point, Handed, handed, hand, Last, at_start, session_by, at_moment, tick_at, Machine, both_hands, machine_waits, runs_updates, Event, ticks, ticked, taken_in, handed_over, delivered, World, taker_of, happens, at_first, run}
 use Rattle.fs_speaker.proofs.Handover.{open_hand, closed_hand}
 use Rattle.fs_speaker.proofs.Events.{each_event, each_run}
 use Rattle.fs_speaker.proofs.Waking.{tick_each}

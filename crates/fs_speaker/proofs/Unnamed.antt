@@ -1,33 +1,10 @@
 -- An announcing end whose identifier is 0.0.0.0: its OPEN is refused, and nothing of what it says is taken.
-use Rattle.std.proofs.Common.{◌≡◌, ◌⊎◌, inl, inr, ℕ, ◌==◌, ◌^◌, ◌<◌, true, List, [], ◌∷◌, ◌++◌, length, take, Option, Some, None, Result, Err, refl, ap, sym, ◌∙◌, subst, append_assoc, append-nil, arith}
-use Rattle.fs_base.specs.declared.config.Config.{Config}
-use Rattle.fs_base.specs.declared.config.Peer.{Peer}
-use Rattle.fs_attrs.specs.declared.update.Update.{Update}
-use Rattle.fs_message.specs.Write.{message_text, open_body}
-use Rattle.fs_message.specs.declared.fault.MessageFault.{MessageFault}
-use Rattle.fs_message.specs.declared.open_.Open.{Open}
-use Rattle.fs_message.proofs.OpenReadBack.{open_unnamed}
-use Rattle.fs_message.proofs.TextFirst.{text_first}
-use Rattle.fs_session.specs.Announcer.{open_sent}
-use Rattle.fs_session.specs.Handed.{Point, hand}
-use Rattle.fs_session.specs.Line.{step_by}
-use Rattle.fs_session.specs.Session.{Last, at_start, closed, session_by}
-use Rattle.fs_session.specs.Transition.{Machine, opened}
-use Rattle.fs_session.specs.declared.sending.Sending.{Sending}
-use Rattle.fs_session.specs.declared.state.Closed.{Closed}
-use Rattle.fs_session.specs.declared.state.Closed.TheVariants.{Fault}
-use Rattle.fs_session.proofs.TwoPieces.{front_first}
-use Rattle.fs_session.proofs.SessionSteps.{machine_stops, step_found}
-use Rattle.fs_speaker.specs.declared.event.Event.{Event}
-use Rattle.fs_speaker.specs.declared.event.Event.TheVariants.{Send, Deliver, Tick as TickEvent, Cut}
-use Rattle.fs_speaker.specs.End.{ticked}
-use Rattle.fs_speaker.specs.JointLaws.{ClosesSo, IsUnnamed, delivered, delivered_on, handed_over, taken_in}
-use Rattle.fs_speaker.specs.World.{World, sent, taker_of, teller_of, happens, at_first, runs_on, run}
+use Rattle.fs_speaker.proofs.Words.{◌≡◌, ◌⊎◌, inl, inr, ℕ, ◌==◌, ◌^◌, ◌<◌, true, List, [], ◌∷◌, ◌++◌, length, take, Option, Some, None, Result, Err, refl, ap, sym, ◌∙◌, subst, append_assoc, append-nil, arith, Config, Peer, Update, message_text, open_body, MessageFault, Open, open_unnamed, text_first, open_sent, Point, hand, step_by, Last, at_start, closed, session_by, Machine, opened, Sending, Closed, Fault, front_first, machine_stops, step_found, Event, Send, Deliver, Cut, ticked, ClosesSo, IsUnnamed, delivered, delivered_on, handed_over, taken_in, World, sent, taker_of, teller_of, happens, at_first, runs_on, run, open_fits}
+use Rattle.fs_speaker.specs.declared.event.Event.TheVariants.{Tick as TickEvent}
 use Rattle.fs_speaker.proofs.Closing.{so_later, so_tick, takes_on}
 use Rattle.fs_speaker.proofs.Events.{each_event}
 use Rattle.fs_speaker.proofs.Fronting.{Lines, lines_cut, lines_delivered, lines_same, lines_spoken}
 use Rattle.fs_speaker.proofs.SessionInPieces.{Follows, closes_by, follows_first}
-use Rattle.fs_session.proofs.Arriving.{open_fits}
 use Rattle.fs_speaker.proofs.Running.{run_more}
 use Rattle.fs_speaker.proofs.Taking.{takes_delivered}
 use Rattle.fs_speaker.proofs.Waking.{hand_opens, hand_stays, tick_opens, tick_stays}

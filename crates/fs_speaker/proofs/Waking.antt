@@ -1,19 +1,6 @@
+use Rattle.fs_speaker.proofs.Words.{◌≡◌, ℕ, List, [], ◌++◌, Option, Some, None, Result, Ok, Err, refl, ap, sym, ◌∙◌, subst, append-nil, IfSome, pending, Closed, Fault, Notified, NoFamily, Memory, Tick, Quiet, Keeps, Expires, Times, Phase, Point, Handed, handed, hand, Lined, Refuses, TickDoes, TickCloses, Ticks, TicksOpen, StaysOver, closed_after, notice_text, at_moment, written_now, tick_at, Machine, closed_hand, hand_each, ticks, ticked, IsAt, StandsAt, TicksOver}
+
 -- The clock at an end.
-use Rattle.std.proofs.Common.{◌≡◌, ℕ, List, [], ◌++◌, Option, Some, None, Result, Ok, Err, refl, ap, sym, ◌∙◌, subst, append-nil, IfSome}
-use Rattle.fs_message.specs.Deframer.{pending}
-use Rattle.fs_session.specs.declared.state.Closed.{Closed}
-use Rattle.fs_session.specs.declared.state.Closed.TheVariants.{Fault, Notified, NoFamily, Memory}
-use Rattle.fs_session.specs.declared.times.Tick.{Tick}
-use Rattle.fs_session.specs.declared.times.Tick.TheVariants.{Quiet, Keeps, Expires}
-use Rattle.fs_session.specs.declared.times.Times.{Times}
-use Rattle.fs_session.specs.declared.transition.Phase.{Phase}
-use Rattle.fs_session.specs.Handed.{Point, Handed, handed, hand}
-use Rattle.fs_session.specs.Line.{Lined, Refuses, TickDoes, TickCloses, Ticks, TicksOpen, StaysOver, closed_after}
-use Rattle.fs_session.specs.Side.{notice_text}
-use Rattle.fs_session.specs.Times.{at_moment, written_now, tick_at}
-use Rattle.fs_session.specs.Transition.{Machine}
-use Rattle.fs_session.proofs.MessageRuns.{closed_hand, hand_each}
-use Rattle.fs_speaker.specs.End.{ticks, ticked, IsAt, StandsAt, TicksOver}
 
 abbrev Came : Machine → Lined → (out out' : List ℕ) → Handed → Type 0
 Came machine new out out' made = StandsAt machine new made.point × (out' ≡ out ++ made.text)

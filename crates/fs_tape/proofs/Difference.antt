@@ -1,8 +1,6 @@
+use Rattle.fs_tape.proofs.Words.{◌≡◌, ◌≢◌, ℕ, List, ◌∷◌, Some, true, false, ◌+◌, ◌<◌, ◌==◌, length, get_or, drop, refl, ◌∙◌, arith, drop-cons, add-one, if◌then◌else◌, nat_tests, difference_from}
+
 -- The loop that looks for the first difference of two lists, place by place.
-use Rattle.std.proofs.Common.{◌≡◌, ◌≢◌, ℕ, List, ◌∷◌, Some, true, false, ◌+◌, ◌<◌, ◌==◌, length, get_or, drop, refl, ◌∙◌, arith, drop-cons, add-one}
-use Rattle.std.specs.Prelude.{if◌then◌else◌}
-use Rattle.std.proofs.lemmas.Bool.Decides.{nat_tests}
-use Rattle.fs_tape.specs.Magic.{difference_from}
 
 pub difference_step : (place : ℕ) (xs ys : List ℕ) → place < length xs → place < length ys
     → difference_from place (drop place xs) (drop place ys)

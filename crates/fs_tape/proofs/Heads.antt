@@ -1,25 +1,11 @@
 -- What a whole head says, exactly where its octets are its text.
-use Rattle.std.proofs.Common.{◌≡◌, ℕ, List, [], ◌∷◌, ◌++◌, Option, Some, None, Bool, true, false, ◌<◌, ◌≤◌, ◌+◌, ◌^◌, ◌==◌, length, drop, refl, ap, sym, subst, ◌∙◌, arith, take-append-drop, eqb-true}
-use Rattle.std.specs.Prelude.{IsSome, is_none, nat_lt, if◌then◌else◌}
-use Rattle.std.proofs.lemmas.List.{length-drop}
-use Rattle.std.proofs.lemmas.Bool.Decides.{nat_tests}
+use Rattle.fs_tape.proofs.Words.{◌≡◌, ℕ, List, [], ◌∷◌, ◌++◌, Option, Some, None, Bool, true, false, ◌<◌, ◌≤◌, ◌+◌, ◌^◌, ◌==◌, length, drop, refl, ap, sym, subst, ◌∙◌, arith, take-append-drop, eqb-true, IsSome, is_none, nat_lt, if◌then◌else◌, length-drop, nat_tests, IsOctets, Config, octets_drop, octets_tail, Whole, Wrong, Partial, nothing, Kind, Peer, Length, Moment, Up, Received, Lost, Version, One, Two, IsTimed, allows, behind_peer, head_from, head_size, kind_of, peer_field, size_field, IsNumbered, moment_text}
 use Rattle.byteorder.specs.Endian.{big_bytes, big_number}
 use Rattle.byteorder.specs.Numbers.{big_number-reads_back}
-use Rattle.fs_base.specs.Language.{IsOctets}
 use Rattle.fs_base.specs.Config.{peer_of}
-use Rattle.fs_base.specs.declared.config.Config.{Config}
 use Rattle.fs_base.proofs.Digits.{big_below, big_written}
-use Rattle.fs_base.proofs.Octets.{octets_drop, octets_tail}
-use Rattle.fs_input.specs.declared.head.Head.TheVariants.{Whole, Wrong, Partial}
-use Rattle.fs_input.proofs.Done.{nothing}
-use Rattle.fs_tape.specs.declared.fault.TapeReason.TheVariants.{Kind, Peer, Length, Moment}
 use Rattle.fs_tape.specs.declared.header.Said.{Said}
 use Rattle.fs_tape.specs.declared.item.Kind.{Kind as RecordKind}
-use Rattle.fs_tape.specs.declared.item.Kind.TheVariants.{Up, Received, Lost}
-use Rattle.fs_tape.specs.declared.magic.Version.{Version}
-use Rattle.fs_tape.specs.declared.magic.Version.TheVariants.{One, Two}
-use Rattle.fs_tape.specs.Header.{IsTimed, allows, behind_peer, head_from, head_size, kind_of, peer_field, size_field}
-use Rattle.fs_tape.specs.Laws.{IsNumbered, moment_text}
 
 abbrev pub said : RecordKind → ℕ → ℕ → Said
 said kind peer moment = record { kind = kind; peer = peer; moment = moment }

@@ -1,23 +1,7 @@
 -- A record that is read was written so, and what is written is read back.
-use Rattle.std.proofs.Common.{◌≡◌, ℕ, List, [], ◌∷◌, ◌++◌, Some, true, ◌<◌, ◌≤◌, ◌+◌, ◌^◌, ◌==◌, length, take, drop, refl, ap, sym, subst, ◌∙◌, arith, length-append, take-append-drop, eqb-true}
-use Rattle.std.specs.Prelude.{nat_le, flat_map}
+use Rattle.fs_tape.proofs.Words.{◌≡◌, ℕ, List, [], ◌∷◌, ◌++◌, Some, true, ◌<◌, ◌≤◌, ◌+◌, ◌^◌, ◌==◌, length, take, drop, refl, ap, sym, subst, ◌∙◌, arith, length-append, take-append-drop, eqb-true, nat_le, flat_map, drop-drop, length-drop, length-take, nat_tests, Config, octets_take, At, ReadsText, SpellsText, at, text_from, first_record, Whole, nothing, HasHead, record_found, Up, Received, Lost, Version, One, Two, IsTimed, Stands, allows, head_from, head_size, kind_of, Fits, IsNumbered, IsWritable, after, item_text, item_text_at, record_text, Item, Timed, came_up, item_of, received, records, stands, timed, was_lost}
 use Rattle.std.proofs.Math.Seq.{take-append_seam, drop-append_seam}
-use Rattle.std.proofs.lemmas.List.{drop-drop, length-drop, length-take}
-use Rattle.std.proofs.lemmas.Bool.Decides.{nat_tests}
-use Rattle.fs_base.specs.declared.config.Config.{Config}
-use Rattle.fs_base.proofs.Octets.{octets_take}
-use Rattle.fs_input.specs.Parts.{At, ReadsText, SpellsText, at, text_from}
-use Rattle.fs_input.specs.Records.{first_record}
-use Rattle.fs_input.specs.declared.head.Head.TheVariants.{Whole}
-use Rattle.fs_input.proofs.Done.{nothing}
-use Rattle.fs_input.proofs.Records.{HasHead, record_found}
 use Rattle.fs_tape.specs.declared.item.Kind.{Kind as RecordKind}
-use Rattle.fs_tape.specs.declared.item.Kind.TheVariants.{Up, Received, Lost}
-use Rattle.fs_tape.specs.declared.magic.Version.{Version}
-use Rattle.fs_tape.specs.declared.magic.Version.TheVariants.{One, Two}
-use Rattle.fs_tape.specs.Header.{IsTimed, Stands, allows, head_from, head_size, kind_of}
-use Rattle.fs_tape.specs.Laws.{Fits, IsNumbered, IsWritable, after, item_text, item_text_at, record_text}
-use Rattle.fs_tape.specs.Tape.{Item, Timed, came_up, item_of, received, records, stands, timed, was_lost}
 use Rattle.fs_tape.proofs.Heads.{head_read, head_text, head_told, octet_of, said}
 
 pub has_head : HasHead records

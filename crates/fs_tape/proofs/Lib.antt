@@ -1,3 +1,4 @@
+mod Words
 pub mod Difference
 pub mod Heads
 pub mod Items

@@ -1,24 +1,7 @@
 -- A tape is done exactly where it is the text of its items in one of the versions.
-use Rattle.std.proofs.Common.{◌≡◌, ℕ, List, [], ◌∷◌, ◌++◌, Option, Some, None, Result, Ok, Err, Bool, true, false, ◌<◌, ◌≤◌, ◌+◌, ◌==◌, length, take, drop, refl, ap, sym, subst, ◌∙◌, arith, take-append-drop, eqb-true}
-use Rattle.std.specs.Prelude.{flat_map, nat_le, nat_lt, if◌then◌else◌}
-use Rattle.std.proofs.lemmas.List.{length-drop, length-take, take-take}
-use Rattle.fs_base.specs.Language.{IsOctets}
-use Rattle.fs_base.specs.declared.config.Config.{Config}
-use Rattle.fs_base.proofs.Octets.{octets_drop}
-use Rattle.fs_input.specs.Opening.{opened_by}
-use Rattle.fs_input.specs.Records.{End, done}
+use Rattle.fs_tape.proofs.Words.{◌≡◌, ℕ, List, [], ◌∷◌, ◌++◌, Option, Some, None, Result, Ok, Err, Bool, true, false, ◌<◌, ◌≤◌, ◌+◌, ◌==◌, length, take, drop, refl, ap, sym, subst, ◌∙◌, arith, take-append-drop, eqb-true, flat_map, nat_le, nat_lt, if◌then◌else◌, length-drop, length-take, take-take, IsOctets, Config, octets_drop, opened_by, End, done, Whole, Wrong, Partial, opened_whole, all_taken, done_text, text_done, Cut, Version, One, Two, Stands, Fits, IsTapeOf, ReadsBack, after, item_text, difference_from, first_difference, magic_field, magic_of, version_by, Timed, items_to_come, records, stands, tape_of, version_of}
 use Rattle.fs_input.specs.declared.head.Head.{Head}
-use Rattle.fs_input.specs.declared.head.Head.TheVariants.{Whole, Wrong, Partial}
-use Rattle.fs_input.proofs.Fronts.{opened_whole}
-use Rattle.fs_input.proofs.Done.{all_taken, done_text, text_done}
 use Rattle.fs_tape.specs.declared.fault.TapeReason.{TapeReason}
-use Rattle.fs_tape.specs.declared.fault.TapeReason.TheVariants.{Cut}
-use Rattle.fs_tape.specs.declared.magic.Version.{Version}
-use Rattle.fs_tape.specs.declared.magic.Version.TheVariants.{One, Two}
-use Rattle.fs_tape.specs.Header.{Stands}
-use Rattle.fs_tape.specs.Laws.{Fits, IsTapeOf, ReadsBack, after, item_text}
-use Rattle.fs_tape.specs.Magic.{difference_from, first_difference, magic_field, magic_of, version_by}
-use Rattle.fs_tape.specs.Tape.{Timed, items_to_come, records, stands, tape_of, version_of}
 use Rattle.fs_tape.proofs.Items.{has_head, item_read, item_spelled, texts}
 
 -- the magic of a version is that of no other

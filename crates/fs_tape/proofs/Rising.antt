@@ -1,14 +1,6 @@
 -- The moments of a tape of the second version don't fall.
-use Rattle.std.proofs.Common.{◌≡◌, ℕ, List, [], ◌∷◌, ◌≤◌, take, sym, ◌∙◌, ap, subst, arith}
-use Rattle.fs_base.specs.declared.config.Config.{Config}
-use Rattle.fs_input.specs.Parts.{AllFrom, At, Fitting, at}
-use Rattle.fs_input.specs.Records.{first_record, stop}
+use Rattle.fs_tape.proofs.Words.{◌≡◌, ℕ, List, [], ◌∷◌, ◌≤◌, take, sym, ◌∙◌, ap, subst, arith, Config, AllFrom, At, Fitting, at, first_record, stop, record_found, records_shrink, IsTimed, Stands, head_size, AreFrom, MomentsRise, after, Timed, records, stands, Two}
 use Rattle.fs_input.proofs.PartsOfRecords.{coming_fit}
-use Rattle.fs_input.proofs.Records.{record_found, records_shrink}
-use Rattle.fs_tape.specs.Header.{IsTimed, Stands, head_size}
-use Rattle.fs_tape.specs.Laws.{AreFrom, MomentsRise, after}
-use Rattle.fs_tape.specs.Tape.{Timed, records, stands}
-use Rattle.fs_tape.specs.declared.magic.Version.TheVariants.{Two}
 use Rattle.fs_tape.proofs.Heads.{head_told}
 use Rattle.fs_tape.proofs.Items.{has_head}
 

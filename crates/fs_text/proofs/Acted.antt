@@ -1,26 +1,7 @@
 -- The words of a text up to its actions and among them, and what goes on from there.
-use Rattle.std.proofs.Common.{append_assoc, append-nil, ◌≡◌, ℕ, ◌+◌, ◌==◌, false, List, [], ◌∷◌, ◌++◌, drop, length, length-append, Some, None, refl, sym, ap, subst, ◌∙◌, arith}
-use Rattle.std.specs.Prelude.{codes}
-use Rattle.std.specs.Str.{bytes_eq}
-use Rattle.std.specs.List.{last_or}
-use Rattle.std.specs.List.Sorted.{IsStrictlySortedBy}
-use Rattle.std.specs.Cmp.Lexicographic.{slice_cmp}
-use Rattle.std.specs.Ordering.{nat_cmp}
-use Rattle.fs_base.specs.declared.prefix.Family.{Family}
-use Rattle.fs_base.specs.Language.{IsOctets}
-use Rattle.fs_base.proofs.Lists.{each_append}
-use Rattle.fs_base.proofs.Octets.{each_at}
-use Rattle.fs_nlri.specs.Parts.{Part}
-use Rattle.fs_nlri.specs.Rule.{AreNormal}
-use Rattle.fs_actions.specs.Community.{IsAction}
-use Rattle.fs_actions.specs.Actions.{IsAbove}
+use Rattle.std.proofs.Common.{append-nil}
+use Rattle.fs_text.proofs.Words.{append_assoc, ◌≡◌, ℕ, ◌+◌, ◌==◌, false, List, [], ◌∷◌, ◌++◌, drop, length, length-append, Some, None, refl, sym, ap, subst, ◌∙◌, arith, codes, bytes_eq, last_or, IsStrictlySortedBy, slice_cmp, nat_cmp, Family, IsOctets, each_append, each_at, Part, AreNormal, IsAction, IsAbove, action_name, action_text, component_name, action_words, component_words, then_words, AreActions, AreWords, Begin, IsBadWord, IsWhole, Acts, Continues, Led, Rests, RestsOf, ahead, front, FitsAbove, IsBadName, IsBadValue, IsNext}
 use Rattle.fs_actions.proofs.Behind.{actions_more}
-use Rattle.fs_words.specs.Actions.{action_name, action_text}
-use Rattle.fs_words.specs.Values.{component_name}
-use Rattle.fs_words.specs.Printed.{action_words, component_words, then_words}
-use Rattle.fs_text.specs.Text.{AreActions, AreWords, Begin, IsBadWord, IsWhole}
-use Rattle.fs_text.specs.Progress.{Acts, Continues, Led, Rests, RestsOf, ahead, front}
-use Rattle.fs_text.specs.Steps.{FitsAbove, IsBadName, IsBadValue, IsNext}
 use Rattle.fs_text.proofs.Greatest.{octets_eight}
 use Rattle.fs_text.proofs.Pairs.{chosen}
 use Rattle.fs_text.proofs.Led.{bad_at, bad_end, bad_value, head_is, no_actions, no_words, tail_is}

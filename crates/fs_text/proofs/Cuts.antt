@@ -1,9 +1,6 @@
+use Rattle.fs_text.proofs.Words.{◌≡◌, ℕ, ◌+◌, List, [], ◌∷◌, ◌++◌, Bool, true, not, ◌<◌, if◌then◌else◌, take, drop, length, refl, ap, ◌∙◌, arith, prefix_len, AllByRecursion, take-append_seam, drop-append_seam, Ends, is_plain, is_sign}
+
 -- Where a text is cut.
-use Rattle.std.proofs.Common.{◌≡◌, ℕ, ◌+◌, List, [], ◌∷◌, ◌++◌, Bool, true, not, ◌<◌, if◌then◌else◌, take, drop, length, refl, ap, ◌∙◌, arith}
-use Rattle.std.specs.List.{prefix_len, AllByRecursion}
-use Rattle.std.proofs.Math.Seq.{take-append_seam, drop-append_seam}
-use Rattle.fs_text.specs.Pieces.{Ends, is_plain}
-use Rattle.fs_text.specs.ListWord.{is_sign}
 
 pub cut_behind : (p : ℕ → Bool) (front rest : List ℕ) → AllByRecursion (λ o. p o ≡ true) front → Ends p rest
     → prefix_len p (front ++ rest) ≡ length front

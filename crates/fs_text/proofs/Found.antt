@@ -1,27 +1,8 @@
 -- What is read of the parts of an action's word is the action.
-use Rattle.std.proofs.Common.{◌≡◌, ℕ, ◌<◌, ◌^◌, List, [], ◌∷◌, ◌++◌, Bool, true, false, Option, Some, None, Result, Ok, Err, length, drop, take, refl, sym, ap, subst, ◌∙◌, arith, if◌then◌else◌}
-use Rattle.std.specs.Prelude.{◌==◌, ◌||◌, codes, decimal, slice_index, find, option_map, bit_and}
-use Rattle.std.specs.Option.{option_map_or}
-use Rattle.std.specs.List.{AllByRecursion}
-use Rattle.std.proofs.lemmas.List.{length-drop}
-use Rattle.std.proofs.Math.Seq.{take-length}
-use Rattle.std.proofs.lemmas.Bool.{eqb-true}
-use Rattle.std.proofs.lemmas.Option.{none-some, same_Some}
-use Rattle.byteorder.specs.Endian.{big_bytes, big_number}
-use Rattle.hex.specs.Hex.{encode_lower}
-use Rattle.fs_base.specs.Language.{IsOctets}
-use Rattle.fs_base.proofs.Octets.{octets_at, octets_drop}
-use Rattle.fs_base.proofs.Digits.{big_below, big_written, big_octets}
-use Rattle.fs_actions.specs.Community.{kind_of, listed, significant_of, cleared}
-use Rattle.fs_actions.specs.declared.community.Redirect.{Redirect}
+use Rattle.fs_text.proofs.Words.{◌≡◌, ℕ, ◌<◌, ◌^◌, List, [], ◌∷◌, ◌++◌, Bool, true, false, Option, Some, None, Result, Ok, Err, length, drop, take, refl, sym, ap, subst, ◌∙◌, arith, if◌then◌else◌, codes, decimal, slice_index, find, option_map, option_map_or, AllByRecursion, length-drop, take-length, eqb-true, none-some, same_Some, big_bytes, big_number, encode_lower, IsOctets, octets_at, octets_drop, big_below, big_written, big_octets, kind_of, listed, significant_of, cleared, Redirect, action_text, rate_text, target_text, address_text, parts_of, Gives, GivesPlain, form_parts, ip4_parts, long_octets, pair_parts, rate_parts, short_octets, IfOk, Compared, IsNamed, Reads}
+use Rattle.std.specs.Prelude.{◌==◌, ◌||◌, bit_and}
 use Rattle.fs_actions.specs.declared.community.Redirect.TheVariants.{As2, Ip4, As4}
-use Rattle.fs_words.specs.Actions.{action_text, rate_text, target_text}
-use Rattle.fs_words.specs.Prefixes.{address_text}
-use Rattle.fs_text.specs.Pieces.{Part, parts_of}
-use Rattle.fs_text.specs.ActionParts.{Gives, GivesPlain, form_parts, ip4_parts, long_octets, pair_parts, rate_parts, short_octets}
-use Rattle.std.specs.Result.{IfOk}
-use Rattle.fs_text.specs.ActionWord.{Compared, IsNamed}
-use Rattle.fs_text.specs.Reading.{Reads}
+use Rattle.fs_text.specs.Pieces.{Part}
 use Rattle.fs_text.proofs.WordParts.{ip4_runs, one_run, run_decimal, run_octets, two_runs}
 
 -- a list of eight

@@ -1,25 +1,9 @@
 -- The action of a name whose octets are the highest.
-use Rattle.std.proofs.Common.{◌≡◌, ℕ, ◌+◌, ◌*◌, ◌<◌, ◌≤◌, ◌==◌, List, [], ◌∷◌, Bool, true, false, if◌then◌else◌, Option, Some, None, length, get_or, bit_and, refl, sym, ap, subst, ◌∙◌, arith}
-use Rattle.std.specs.Prelude.{codes, slice_index, nat_lt}
-use Rattle.std.specs.Str.{bytes_eq}
-use Rattle.std.specs.Cmp.Lexicographic.{slice_cmp}
-use Rattle.std.specs.Ordering.{nat_cmp, ordering_then}
+use Rattle.fs_text.proofs.Words.{◌≡◌, ℕ, ◌+◌, ◌*◌, ◌<◌, ◌≤◌, ◌==◌, List, [], ◌∷◌, Bool, true, false, if◌then◌else◌, Option, Some, None, length, get_or, bit_and, refl, sym, ap, subst, ◌∙◌, arith, codes, slice_index, nat_lt, bytes_eq, slice_cmp, nat_cmp, ordering_then, and_le_r, same_Some, lt-ltb, nat_tests, big_number, IsOctets, octets_at, octets_cons, octets_nil, IsAction, cleared, kind_of, listed, IsAbove, action_name, IsNamed, HasGreatest}
 use Rattle.std.specs.declared.cmp.Ordering.{Ordering}
 use Rattle.std.specs.declared.cmp.Ordering.TheVariants.{Less, Equal, Greater}
 use Rattle.std.proofs.lemmas.Cmp.{nat_list_cmp_total}
 use Rattle.std.proofs.lemmas.Map.Lookups.{exact_bytes}
-use Rattle.std.proofs.lemmas.Nat.{and_le_r}
-use Rattle.std.proofs.lemmas.Option.{same_Some}
-use Rattle.std.proofs.lemmas.Bool.{lt-ltb}
-use Rattle.std.proofs.lemmas.Bool.Decides.{nat_tests}
-use Rattle.byteorder.specs.Endian.{big_number}
-use Rattle.fs_base.specs.Language.{IsOctets}
-use Rattle.fs_base.proofs.Octets.{octets_at, octets_cons, octets_nil}
-use Rattle.fs_actions.specs.Community.{IsAction, cleared, kind_of, listed}
-use Rattle.fs_actions.specs.Actions.{IsAbove}
-use Rattle.fs_words.specs.Actions.{action_name}
-use Rattle.fs_text.specs.ActionWord.{IsNamed}
-use Rattle.fs_text.specs.Steps.{HasGreatest}
 use Rattle.fs_text.proofs.Found.{IsEight, each, eight, masked, name_at, normal_at}
 
 abbrev NotAbove : List ℕ → List ℕ → Type 0

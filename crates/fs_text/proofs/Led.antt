@@ -1,20 +1,6 @@
 -- The words of a text that were read, and what goes on from there.
-use Rattle.std.proofs.Common.{append_assoc, append-nil, ◌≡◌, inl, inr, ⊎_elim, ℕ, zero, suc, map, get_or, ◌+◌, ◌<◌, List, [], ◌∷◌, ◌++◌, take, drop, length, length-append, refl, sym, ap, subst, ◌∙◌, arith}
-use Rattle.std.specs.Prelude.{codes, slice_index}
-use Rattle.std.proofs.lemmas.List.{take-append-drop}
-use Rattle.std.proofs.Math.Seq.{take-append_seam}
-use Rattle.std.specs.List.Sorted.{IsStrictlySortedBy}
-use Rattle.std.specs.Cmp.Lexicographic.{slice_cmp}
-use Rattle.std.specs.Ordering.{nat_cmp}
-use Rattle.fs_base.specs.declared.prefix.Family.{Family}
-use Rattle.fs_base.specs.declared.prefix.Family.TheVariants.{V4, V6}
-use Rattle.fs_nlri.specs.Parts.{Part}
-use Rattle.fs_nlri.specs.Rule.{AreNormal}
-use Rattle.fs_words.specs.Values.{component_name, value_text}
-use Rattle.fs_words.specs.Printed.{component_words, family_word, then_words}
-use Rattle.fs_text.specs.Text.{AreActions, AreWords, Begin, IsBadWord, IsWhole}
-use Rattle.fs_text.specs.Progress.{Continues, Goes, Led, front, last_kind}
-use Rattle.fs_text.specs.Steps.{FitsBehind, IsBadName, IsBadValue, IsNext, IsNoEnd, part_name}
+use Rattle.std.proofs.Common.{append-nil}
+use Rattle.fs_text.proofs.Words.{append_assoc, ◌≡◌, inl, inr, ⊎_elim, ℕ, zero, suc, map, get_or, ◌+◌, ◌<◌, List, [], ◌∷◌, ◌++◌, take, drop, length, length-append, refl, sym, ap, subst, ◌∙◌, arith, codes, slice_index, take-append-drop, take-append_seam, IsStrictlySortedBy, slice_cmp, nat_cmp, Family, V4, V6, Part, AreNormal, component_name, value_text, component_words, family_word, then_words, AreActions, AreWords, Begin, IsBadWord, IsWhole, Continues, Goes, Led, front, last_kind, FitsBehind, IsBadName, IsBadValue, IsNext, IsNoEnd, part_name}
 
 pub head_is : {X : Type 0} {x y : X} {xs ys : List X} → x ∷ xs ≡ y ∷ ys → x ≡ y
 head_is e = cc

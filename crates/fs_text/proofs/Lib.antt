@@ -1,4 +1,5 @@
 pub use Rattle.fs_words.proofs.Spaces
+mod Words
 pub mod Runs
 pub mod Numerals
 pub mod WordParts

@@ -1,26 +1,8 @@
 -- Components by their names, and what is read of their words.
-use Rattle.std.proofs.Common.{◌≡◌, ℕ, ◌<◌, ◌≤◌, ◌==◌, zero, suc, List, [], ◌∷◌, Bool, true, false, Option, Some, None, Result, Ok, Err, refl, sym, ap, subst, ◌∙◌, arith, inr}
-use Rattle.std.specs.Prelude.{option_map}
-use Rattle.std.specs.Result.{IfOk}
-use Rattle.std.proofs.lemmas.Bool.{eqb-true}
-use Rattle.std.proofs.lemmas.Option.{none-some, same_Some}
-use Rattle.std.proofs.lemmas.Bool.Decides.{nat_tests}
-use Rattle.fs_base.specs.declared.prefix.Family.{Family}
-use Rattle.fs_base.specs.declared.prefix.Family.TheVariants.{V4, V6}
-use Rattle.fs_ops.specs.declared.kind.Kind.{Kind}
-use Rattle.fs_ops.specs.declared.kind.Kind.TheVariants.{Numeric, Bitmask}
-use Rattle.fs_ops.specs.OperatorList.{IsNormal}
-use Rattle.fs_nlri.specs.declared.component.Component.{Component}
+use Rattle.fs_text.proofs.Words.{◌≡◌, ℕ, ◌<◌, ◌≤◌, ◌==◌, zero, suc, List, [], ◌∷◌, Bool, true, false, Option, Some, None, Result, Ok, Err, refl, sym, ap, subst, ◌∙◌, arith, inr, option_map, IfOk, eqb-true, none-some, same_Some, nat_tests, Family, V4, V6, Kind, Numeric, Bitmask, IsNormal, Component, body_of, part_of, ListForm, form_of, fragment_bits, prefix_form, Body, V4Body, V6Body, ListBody, Part, part, IsNormalAt, IsNormalBody, list_text, body_text, component_name, list_kind, value_text, Reads}
 use Rattle.fs_nlri.specs.declared.component.PrefixForm.{PrefixForm}
-use Rattle.fs_nlri.specs.Component.{body_of, part_of}
-use Rattle.fs_nlri.specs.Forms.{ListForm, form_of, fragment_bits, prefix_form}
 use Rattle.fs_ops.specs.Fault.{all_widths}
-use Rattle.fs_nlri.specs.Parts.{Body, V4Body, V6Body, ListBody, Part, part}
-use Rattle.fs_nlri.specs.Rule.{IsNormalAt, IsNormalBody}
-use Rattle.fs_words.specs.Operators.{list_text}
-use Rattle.fs_words.specs.Values.{body_text, component_name, list_kind, value_text}
 use Rattle.fs_text.specs.Components.{Compared, HasType, IsPart, Loosely, Matched, last_type}
-use Rattle.fs_text.specs.Reading.{Reads}
 
 -- a list of a type
 pub record IsListed (kind : ℕ) (body : Body) : Type 0 where

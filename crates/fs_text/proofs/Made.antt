@@ -1,12 +1,6 @@
+use Rattle.fs_text.proofs.Words.{◌≡◌, ℕ, ◌+◌, ◌<◌, ◌≤◌, ◌==◌, zero, suc, Bool, true, false, if◌then◌else◌, bit_and, refl, sym, subst, arith, and_le_r, eqb-true, nat_tests, Kind, Numeric, Bitmask, ends, meant_bits, plain_of, joined_bit}
+
 -- An operator in normal form is the sum of its bits.
-use Rattle.std.proofs.Common.{◌≡◌, ℕ, ◌+◌, ◌<◌, ◌≤◌, ◌==◌, zero, suc, Bool, true, false, if◌then◌else◌, bit_and, refl, sym, subst, arith}
-use Rattle.std.proofs.lemmas.Nat.{and_le_r}
-use Rattle.std.proofs.lemmas.Bool.{eqb-true}
-use Rattle.std.proofs.lemmas.Bool.Decides.{nat_tests}
-use Rattle.fs_ops.specs.declared.kind.Kind.{Kind}
-use Rattle.fs_ops.specs.declared.kind.Kind.TheVariants.{Numeric, Bitmask}
-use Rattle.fs_ops.specs.Operator.{ends, meant_bits}
-use Rattle.fs_text.specs.ListWord.{plain_of, joined_bit}
 
 abbrev ended_bit : ℕ → ℕ
 ended_bit operator = if ends operator then 128 else 0

@@ -1,22 +1,6 @@
 -- A number's text is read back.
-use Rattle.std.proofs.Common.{◌/◌, ◌≡◌, ℕ, ◌<◌, ◌≤◌, ◌^◌, List, [], ◌∷◌, Bool, true, false, Result, Ok, Err, if◌then◌else◌, length, drop, zero, suc, refl, sym, ap, ◌∙◌, subst, arith}
-use Rattle.std.specs.Prelude.{OkIff, nat_le, nat_lt, cond}
-use Rattle.std.specs.Str.{IsAscii}
-use Rattle.std.specs.Str.Parse.{AllDigits, IsNumeral, ParsesUnsigned, digits_value, without_leading_plus}
+use Rattle.fs_text.proofs.Words.{◌/◌, ◌≡◌, ℕ, ◌<◌, ◌≤◌, ◌^◌, List, [], ◌∷◌, Bool, true, false, Result, Ok, Err, if◌then◌else◌, length, drop, zero, suc, refl, sym, ap, ◌∙◌, subst, arith, OkIff, nat_le, nat_lt, cond, IsAscii, AllDigits, IsNumeral, ParsesUnsigned, digits_value, without_leading_plus, digits, digits_is_IsNumeral, AllByRecursion, slice_index, le-ltb, lt-ltb, ne_eqb, nat_tests, big_bytes, big_number, big_number-reads_back, encode_lower, decode_sized, decode_sized-encode_lower, append-nil, mod-lt, is_plain}
 use Rattle.std.specs.Char.{digit_value}
-use Rattle.std.specs.Fmt.{digits}
-use Rattle.std.proofs.lemmas.Fmt.{digits_is_IsNumeral}
-use Rattle.std.specs.List.{AllByRecursion}
-use Rattle.std.specs.Prelude.{slice_index}
-use Rattle.std.proofs.lemmas.Bool.{le-ltb, lt-ltb, ne_eqb}
-use Rattle.std.proofs.lemmas.Bool.Decides.{nat_tests}
-use Rattle.byteorder.specs.Endian.{big_bytes, big_number}
-use Rattle.byteorder.specs.Numbers.{big_number-reads_back}
-use Rattle.hex.specs.Hex.{encode_lower, decode_sized}
-use Rattle.hex.proofs.HexLemmas.{decode_sized-encode_lower}
-use Rattle.std.proofs.lemmas.List.{append-nil}
-use Rattle.std.proofs.Math.Nat.{mod-lt}
-use Rattle.fs_text.specs.Pieces.{is_plain}
 
 plain : (radix : ℕ) (ds : List ℕ) → radix ≤ 16 → AllDigits radix ds → AllByRecursion (λ c. is_plain c ≡ true) ds
 plain radix [] low d = tt

@@ -1,29 +1,8 @@
 -- The text of a list is that of no other list.
-use Rattle.std.proofs.Common.{◌≡◌, ℕ, ◌+◌, ◌*◌, ◌^◌, ◌<◌, ◌≤◌, ◌==◌, List, [], ◌∷◌, ◌++◌, Bool, true, false, not, if◌then◌else◌, length, bit_and, Result, Ok, Err, refl, sym, ap, subst, ◌∙◌, arith}
-use Rattle.std.specs.Prelude.{codes, decimal, flat_map}
-use Rattle.std.specs.List.{AllByRecursion}
-use Rattle.std.specs.Str.{bytes_eq}
-use Rattle.std.specs.Str.Parse.{digits_value}
-use Rattle.std.specs.Fmt.{digits}
-use Rattle.std.proofs.lemmas.Bool.{eqb-true}
-use Rattle.std.proofs.lemmas.Fmt.{digits_is_IsNumeral}
-use Rattle.std.proofs.lemmas.Nat.{and_le_r}
-use Rattle.byteorder.specs.Endian.{big_bytes, big_number}
-use Rattle.byteorder.specs.Numbers.{big_number-reads_back}
-use Rattle.hex.specs.Hex.{decode_sized}
-use Rattle.hex.specs.declared.error.FromHexError.{FromHexError}
-use Rattle.std.proofs.lemmas.List.{append-nil}
-use Rattle.fs_ops.specs.declared.kind.Kind.{Kind}
-use Rattle.fs_ops.specs.declared.kind.Kind.TheVariants.{Numeric, Bitmask}
-use Rattle.fs_ops.specs.Operator.{ends, joins, meant_bits, width_code, width_of}
-use Rattle.fs_ops.specs.OperatorList.{AreNormal, IsNormal, IsNormalPair}
-use Rattle.fs_words.specs.Figures.{octets_text}
-use Rattle.fs_words.specs.Operators.{joined_text, least_code, list_text, mask_sign, number_sign, operand_text, pair_text, sign, width_text, width_word}
-use Rattle.fs_text.specs.ListWord.{code_at, is_sign, is_within, joined_bit, plain_of, relation_of}
-use Rattle.fs_text.specs.Pieces.{Ends, is_plain}
+use Rattle.fs_text.proofs.Words.{◌≡◌, ℕ, ◌+◌, ◌*◌, ◌^◌, ◌<◌, ◌≤◌, ◌==◌, List, [], ◌∷◌, ◌++◌, Bool, true, false, not, if◌then◌else◌, length, bit_and, Result, Ok, Err, refl, sym, ap, subst, ◌∙◌, arith, codes, decimal, flat_map, AllByRecursion, bytes_eq, digits_value, digits, eqb-true, digits_is_IsNumeral, and_le_r, big_bytes, big_number, big_number-reads_back, decode_sized, FromHexError, append-nil, Kind, Numeric, Bitmask, ends, joins, meant_bits, width_code, width_of, IsNormal, IsNormalPair, octets_text, joined_text, least_code, list_text, mask_sign, number_sign, operand_text, pair_text, sign, width_text, width_word, code_at, is_sign, is_within, joined_bit, plain_of, relation_of, Ends, is_plain, first_normal}
+use Rattle.fs_ops.specs.OperatorList.{AreNormal}
 use Rattle.fs_text.proofs.Led.{head_is, no_words, tail_is}
 use Rattle.fs_text.proofs.Made.{below, made}
-use Rattle.fs_ops.proofs.Normal.{first_normal}
 use Rattle.fs_text.proofs.Pairs.{are_signs, bit_if, code_small, joiner_by, octets_run, others_end, pair_within, value_small, width_ends}
 use Rattle.fs_text.proofs.Wide.{code_back, octets_decoded, octets_len}
 use Rattle.fs_text.proofs.WordParts.{IsRun, run_decimal}

@@ -1,31 +1,7 @@
 -- A text is that of no two rules with actions.
-use Rattle.std.proofs.Common.{◌≡◌, inl, inr, ℕ, ◌+◌, ◌-◌, ◌*◌, ◌/◌, ◌%◌, ◌^◌, ◌<◌, ◌≤◌, ◌==◌, zero, suc, List, [], ◌∷◌, ◌++◌, drop, get_or, Bool, true, false, if◌then◌else◌, Option, Some, Result, refl, sym, ap, subst, ◌∙◌, arith}
-use Rattle.std.specs.Prelude.{codes, decimal}
-use Rattle.std.specs.List.{AllByRecursion}
-use Rattle.std.specs.Str.{bytes_eq}
-use Rattle.std.specs.Str.Parse.{digits_value}
-use Rattle.std.proofs.Math.Nat.{div-le_self, mod-lt}
-use Rattle.std.proofs.lemmas.Bool.{cases_lt, eqb-true}
-use Rattle.std.proofs.lemmas.Option.{same_Some}
-use Rattle.byteorder.specs.Endian.{big_bytes, big_number}
-use Rattle.hex.specs.Hex.{decode_sized, encode_lower}
-use Rattle.hex.specs.declared.error.FromHexError.{FromHexError}
-use Rattle.fs_base.specs.Language.{IsOctets}
-use Rattle.fs_base.specs.declared.prefix.Family.{Family}
-use Rattle.fs_base.specs.declared.prefix.Family.TheVariants.{V4, V6}
-use Rattle.fs_nlri.specs.Forms.{form_of, prefix_form}
-use Rattle.fs_nlri.specs.Parts.{Body, V4Body, V6Body, ListBody, Part as AnyPart, Ruled, part, ruled}
-use Rattle.fs_nlri.specs.Rule.{AreNormal, IsNormalAt, IsNormalBody, IsRule}
-use Rattle.fs_actions.specs.Community.{IsAction}
-use Rattle.fs_words.specs.Printed.{action_words, component_words, text_of, then_words, words_of}
-use Rattle.fs_words.specs.Actions.{action_name, action_text}
-use Rattle.fs_words.specs.Figures.{hexadecimal}
-use Rattle.fs_words.specs.Values.{body_text, component_name, list_kind, value_text}
-use Rattle.fs_text.specs.ActionParts.{Gives, GivesPlain, form_parts, ip4_parts, long_octets, pair_parts, rate_parts, short_octets}
-use Rattle.fs_text.specs.ActionWord.{IsNamed}
-use Rattle.fs_text.specs.Pieces.{Part, Run, Delimiter, parts_of}
-use Rattle.fs_text.specs.PrefixParts.{GivesV4, GivesV6, range_parts, wide_parts}
-use Rattle.fs_text.specs.Text.{AreActions, words_in}
+use Rattle.fs_text.proofs.Words.{◌≡◌, inl, inr, ℕ, ◌+◌, ◌-◌, ◌*◌, ◌/◌, ◌%◌, ◌^◌, ◌<◌, ◌≤◌, ◌==◌, zero, suc, List, [], ◌∷◌, ◌++◌, drop, get_or, Bool, true, false, if◌then◌else◌, Option, Some, Result, refl, sym, ap, subst, ◌∙◌, arith, codes, decimal, AllByRecursion, bytes_eq, digits_value, div-le_self, mod-lt, cases_lt, eqb-true, same_Some, big_bytes, big_number, decode_sized, encode_lower, FromHexError, IsOctets, Family, V4, V6, form_of, prefix_form, Body, V4Body, V6Body, ListBody, Ruled, part, ruled, AreNormal, IsNormalAt, IsNormalBody, IsRule, IsAction, action_words, component_words, text_of, then_words, words_of, action_name, action_text, hexadecimal, body_text, component_name, list_kind, value_text, Gives, GivesPlain, form_parts, ip4_parts, long_octets, pair_parts, rate_parts, short_octets, IsNamed, Run, Delimiter, parts_of, GivesV4, GivesV6, range_parts, wide_parts, AreActions, words_in}
+use Rattle.fs_nlri.specs.Parts.{Part as AnyPart}
+use Rattle.fs_text.specs.Pieces.{Part}
 use Rattle.fs_text.proofs.Acted.{no_then}
 use Rattle.fs_text.proofs.Found.{Readings, found}
 use Rattle.fs_text.proofs.Led.{head_is, no_words, one_family, tail_is}

@@ -1,22 +1,6 @@
 -- The texts of pairs, cut and read.
-use Rattle.std.proofs.Common.{append_assoc, ◌≡◌, ℕ, ◌+◌, ◌*◌, ◌/◌, ◌^◌, ◌<◌, ◌≤◌, ◌==◌, zero, suc, List, [], ◌∷◌, ◌++◌, Option, Some, Bool, true, false, not, ◌||◌, if◌then◌else◌, length, bit_and, refl, sym, ap, subst, ◌∙◌, arith}
-use Rattle.std.specs.Prelude.{codes, decimal, flat_map}
-use Rattle.std.specs.List.{AllByRecursion}
-use Rattle.std.proofs.lemmas.Nat.{and_le_r}
-use Rattle.std.proofs.lemmas.Bool.Decides.{nat_tests}
-use Rattle.std.proofs.lemmas.List.{append-nil}
-use Rattle.std.proofs.lemmas.Option.{same_Some, some_pair_parts}
-use Rattle.fs_base.proofs.Digits.{big_octets}
-use Rattle.fs_base.proofs.Lists.{each_append, each_weaker}
-use Rattle.fs_ops.specs.declared.kind.Kind.{Kind}
-use Rattle.fs_ops.specs.declared.kind.Kind.TheVariants.{Numeric, Bitmask}
-use Rattle.fs_ops.specs.Operator.{joins, ends, meant_bits, width_code, width_of}
-use Rattle.fs_ops.specs.OperatorList.{AreNormal, IsNormal}
-use Rattle.fs_ops.proofs.Normal.{first_normal}
-use Rattle.fs_words.specs.Figures.{octets_text}
-use Rattle.fs_words.specs.Operators.{joined_text, least_code, list_text, mask_sign, number_sign, operand_text, pair_text, sign, width_word}
-use Rattle.fs_text.specs.ListWord.{is_sign, is_within, joined_bit, plain_of, relation_of}
-use Rattle.fs_text.specs.Pieces.{Ends, is_plain}
+use Rattle.fs_text.proofs.Words.{append_assoc, ◌≡◌, ℕ, ◌+◌, ◌*◌, ◌/◌, ◌^◌, ◌<◌, ◌≤◌, ◌==◌, zero, suc, List, [], ◌∷◌, ◌++◌, Option, Some, Bool, true, false, not, ◌||◌, if◌then◌else◌, length, bit_and, refl, sym, ap, subst, ◌∙◌, arith, codes, decimal, flat_map, AllByRecursion, and_le_r, nat_tests, append-nil, same_Some, some_pair_parts, big_octets, each_append, each_weaker, Kind, Numeric, Bitmask, joins, ends, meant_bits, width_code, width_of, IsNormal, first_normal, octets_text, joined_text, least_code, list_text, mask_sign, number_sign, operand_text, pair_text, sign, width_word, is_sign, is_within, joined_bit, plain_of, relation_of, Ends, is_plain}
+use Rattle.fs_ops.specs.OperatorList.{AreNormal}
 use Rattle.fs_text.proofs.WordParts.{IsRun, run_decimal, run_octets}
 use Rattle.fs_text.proofs.Made.{made}
 

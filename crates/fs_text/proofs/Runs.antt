@@ -1,7 +1,6 @@
+use Rattle.fs_text.proofs.Words.{◌≡◌, ℕ, ◌<◌, ◌+◌, suc, List, [], ◌∷◌, ◌++◌, Bool, true, false, if◌then◌else◌, take, drop, length, refl, sym, ap, subst, ◌∙◌, arith, prefix_len, AllByRecursion, Run, Delimiter, with_octet, parts_by, Ends}
+
 -- A run at the front of a text.
-use Rattle.std.proofs.Common.{◌≡◌, ℕ, ◌<◌, ◌+◌, suc, List, [], ◌∷◌, ◌++◌, Bool, true, false, if◌then◌else◌, take, drop, length, refl, sym, ap, subst, ◌∙◌, arith}
-use Rattle.std.specs.List.{prefix_len, AllByRecursion}
-use Rattle.fs_text.specs.Pieces.{Run, Delimiter, with_octet, parts_by, Ends}
 
 onto : (p : ℕ → Bool) (octet : ℕ) (text : List ℕ)
     → with_octet octet (parts_by p text) ≡ Run (octet ∷ take (prefix_len p text) text) ∷ parts_by p (drop (prefix_len p text) text)

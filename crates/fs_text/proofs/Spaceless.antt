@@ -1,38 +1,8 @@
 -- No word of a text has a space, so that a text is cut into its words.
-use Rattle.std.proofs.Common.{◌≡◌, ℕ, ◌/◌, ◌%◌, ◌^◌, ◌<◌, ◌≤◌, ◌==◌, List, [], ◌∷◌, ◌++◌, Bool, true, false, Option, ◌||◌, drop, refl, sym, ap, subst, ◌∙◌, arith}
-use Rattle.std.specs.Prelude.{decimal, flat_map, slice_index}
-use Rattle.std.specs.List.{AllByRecursion, join_with_byte}
-use Rattle.std.specs.Option.{option_map_or}
-use Rattle.std.proofs.lemmas.List.Elements.{All-from_recursion}
-use Rattle.std.proofs.lemmas.List.Splits.{slice_split_at, slice_split_none}
-use Rattle.std.proofs.lemmas.Bool.{eqb-true}
-use Rattle.std.proofs.Math.Nat.{mod-lt}
-use Rattle.byteorder.specs.Endian.{big_number}
-use Rattle.hex.specs.Hex.{encode_lower}
-use Rattle.fs_base.specs.declared.prefix.Family.{Family}
-use Rattle.fs_base.specs.declared.prefix.Family.TheVariants.{V4, V6}
-use Rattle.fs_base.specs.Language.{IsOctets}
-use Rattle.fs_base.proofs.Digits.{big_below}
-use Rattle.fs_base.proofs.Lists.{each_append}
-use Rattle.fs_base.proofs.Octets.{octets_at, octets_drop}
-use Rattle.fs_ops.specs.declared.kind.Kind.{Kind}
-use Rattle.fs_ops.specs.Operator.{joins, width_of}
+use Rattle.fs_text.proofs.Words.{◌≡◌, ℕ, ◌/◌, ◌%◌, ◌^◌, ◌<◌, ◌≤◌, ◌==◌, List, [], ◌∷◌, ◌++◌, Bool, true, false, Option, ◌||◌, drop, refl, sym, ap, subst, ◌∙◌, arith, decimal, flat_map, slice_index, AllByRecursion, join_with_byte, option_map_or, All-from_recursion, slice_split_at, slice_split_none, eqb-true, mod-lt, big_number, encode_lower, Family, V4, V6, IsOctets, big_below, each_append, octets_at, octets_drop, Kind, joins, width_of, form_of, Body, V4Body, V6Body, ListBody, Part, ruled, AreNormal, kind_of, Redirect, action_name, action_text, plain_text, target_text, joined_text, joiner, list_text, pair_text, address_text, groups_text, offset_text, wide_address_text, body_text, component_name, list_kind, action_words, component_words, family_word, text_of, then_words, words_of, is_plain, AreActions, words_in, first_normal}
 use Rattle.fs_ops.specs.OperatorList.{AreNormal as AreNormalPairs}
-use Rattle.fs_nlri.specs.Forms.{form_of}
-use Rattle.fs_nlri.specs.Parts.{Body, V4Body, V6Body, ListBody, Part, ruled}
-use Rattle.fs_nlri.specs.Rule.{AreNormal}
 use Rattle.fs_nlri.specs.Sound.{IsSoundBody}
 use Rattle.fs_nlri.proofs.Sound.{sound_part}
-use Rattle.fs_actions.specs.Community.{kind_of}
-use Rattle.fs_actions.specs.declared.community.Redirect.{Redirect}
-use Rattle.fs_words.specs.Actions.{action_name, action_text, plain_text, target_text}
-use Rattle.fs_words.specs.Operators.{joined_text, joiner, list_text, pair_text}
-use Rattle.fs_words.specs.Prefixes.{address_text, groups_text, offset_text, wide_address_text}
-use Rattle.fs_words.specs.Values.{body_text, component_name, list_kind}
-use Rattle.fs_words.specs.Printed.{action_words, component_words, family_word, text_of, then_words, words_of}
-use Rattle.fs_text.specs.Pieces.{is_plain}
-use Rattle.fs_text.specs.Text.{AreActions, words_in}
-use Rattle.fs_ops.proofs.Normal.{first_normal}
 use Rattle.fs_text.proofs.Pairs.{chosen, pair_all, run_all}
 use Rattle.fs_text.proofs.Prefixed.{eight_groups, range_offset, run_hexadecimal, small_group}
 use Rattle.fs_text.proofs.WordParts.{plain_octets, run_decimal}

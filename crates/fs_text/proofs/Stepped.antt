@@ -1,13 +1,5 @@
 -- Which actions can stand behind others.
-use Rattle.std.proofs.Common.{◌≡◌, inr, ℕ, ◌+◌, List, ◌∷◌, Option, Some, None, refl, sym, ap, subst, ◌∙◌}
-use Rattle.std.specs.Prelude.{IfNone, IfSome}
-use Rattle.std.specs.List.{last_or}
-use Rattle.fs_actions.specs.Actions.{IsAbove}
-use Rattle.fs_words.specs.Actions.{action_text}
-use Rattle.fs_text.specs.ActionWord.{IsNamed}
-use Rattle.fs_text.specs.Reading.{Reads}
-use Rattle.fs_text.specs.Steps.{CanStand, FitsAbove, IsActionFault, IsGreatest, ReadsAbove}
-use Rattle.fs_text.specs.declared.fault.TextFault.TheVariants.{Bad}
+use Rattle.fs_text.proofs.Words.{◌≡◌, inr, ℕ, ◌+◌, List, ◌∷◌, Option, Some, None, refl, sym, ap, subst, ◌∙◌, IfNone, IfSome, last_or, IsAbove, action_text, IsNamed, Reads, CanStand, FitsAbove, IsActionFault, IsGreatest, ReadsAbove, Bad}
 use Rattle.fs_text.proofs.Greatest.{above_too}
 use Rattle.fs_text.proofs.Led.{head_is}
 

@@ -1,21 +1,8 @@
 -- What is answered of whole words, and of texts.
-use Rattle.std.proofs.Common.{◌≡◌, ◌⊎◌, ⊎_elim, ℕ, ◌+◌, ◌<◌, List, [], ◌∷◌, ◌++◌, zero, suc, map, Result, Ok, Err, drop, length, refl, sym, ap, subst, ◌∙◌, arith}
-use Rattle.std.specs.Prelude.{IfOk, codes}
-use Rattle.std.specs.Result.{IsErrAnd}
-use Rattle.std.specs.List.{join_with_byte}
-use Rattle.std.proofs.lemmas.List.{map-append}
-use Rattle.std.proofs.lemmas.List.Splits.{join_with_byte-slice_split}
-use Rattle.fs_base.specs.declared.prefix.Family.{Family}
-use Rattle.fs_nlri.specs.declared.component.Component.{Component}
-use Rattle.fs_nlri.specs.Component.{part_of, parts_of}
-use Rattle.fs_nlri.specs.Parts.{Part, Ruled, ruled}
-use Rattle.fs_nlri.specs.Rule.{IsRule}
-use Rattle.fs_words.specs.Printed.{text_of, words_of}
-use Rattle.fs_text.specs.Progress.{Acts, AreAll, Led}
-use Rattle.fs_text.specs.Steps.{IsActionFault, IsNextPart, IsNoEnd, IsPartFault}
-use Rattle.fs_text.specs.Text.{AreActions, IsBadWord, IsWhole, IsWordFault, Makes, ReadsAs, ReadsWords, words_in}
+use Rattle.fs_text.proofs.Words.{◌≡◌, ◌⊎◌, ⊎_elim, ℕ, ◌+◌, ◌<◌, List, [], ◌∷◌, ◌++◌, zero, suc, map, Result, Ok, Err, drop, length, refl, sym, ap, subst, ◌∙◌, arith, codes, IsErrAnd, join_with_byte, map-append, join_with_byte-slice_split, Family, Component, part_of, Part, Ruled, ruled, IsRule, text_of, words_of, Acts, AreAll, Led, IsActionFault, IsNextPart, IsNoEnd, IsPartFault, AreActions, IsBadWord, IsWhole, IsWordFault, Makes, ReadsAs, ReadsWords, words_in, Bad, TooLong, Memory}
+use Rattle.std.specs.Prelude.{IfOk}
+use Rattle.fs_nlri.specs.Component.{parts_of}
 use Rattle.fs_text.specs.declared.fault.TextFault.{TextFault}
-use Rattle.fs_text.specs.declared.fault.TextFault.TheVariants.{Bad, TooLong, Memory}
 use Rattle.fs_text.proofs.Acted.{acts_first, bad_action_name, bad_action_value, no_action}
 use Rattle.fs_text.proofs.Led.{bad_part_name, bad_part_value, led_next, never_bad, no_words, whole_parts}
 use Rattle.fs_text.proofs.Spaceless.{words_back}

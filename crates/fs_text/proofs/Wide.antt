@@ -1,17 +1,6 @@
 -- Octets in hexadecimal are read back.
-use Rattle.std.proofs.Common.{◌≡◌, ℕ, ◌*◌, ◌%◌, ◌^◌, ◌<◌, ◌≤◌, ◌++◌, zero, suc, List, Option, Some, Result, Ok, Err, length, take, refl, sym, ap, subst, ◌∙◌, arith}
-use Rattle.std.specs.Prelude.{MatchResult, ◌==◌}
-use Rattle.std.proofs.lemmas.Bool.{eqb-true}
-use Rattle.byteorder.specs.Endian.{big_bytes, big_number}
-use Rattle.byteorder.specs.Numbers.{big_from-take, big_number-reads_back, length-bytes_high_first}
-use Rattle.hex.specs.Hex.{decode_sized}
-use Rattle.hex.specs.declared.error.FromHexError.{FromHexError}
-use Rattle.hex.proofs.HexLemmas.{decode_sized-encode_lower, length-encode_with}
-use Rattle.hex.specs.Hex.{lower_digits}
-use Rattle.fs_base.proofs.Digits.{big_octets}
-use Rattle.fs_base.proofs.Octets.{octets_at}
-use Rattle.fs_words.specs.Figures.{octets_text}
-use Rattle.fs_text.specs.ListWord.{code_at}
+use Rattle.fs_text.proofs.Words.{◌≡◌, ℕ, ◌*◌, ◌%◌, ◌^◌, ◌<◌, ◌≤◌, ◌++◌, zero, suc, List, Option, Some, Result, Ok, Err, length, take, refl, sym, ap, subst, ◌∙◌, arith, MatchResult, eqb-true, big_bytes, big_number, big_from-take, big_number-reads_back, length-bytes_high_first, decode_sized, FromHexError, decode_sized-encode_lower, length-encode_with, lower_digits, big_octets, octets_at, octets_text, code_at}
+use Rattle.std.specs.Prelude.{◌==◌}
 use Rattle.fs_text.proofs.Made.{below}
 
 pub octets_decoded : (width n : ℕ) → decode_sized (octets_text width n) width ≡ Ok (big_bytes width n)

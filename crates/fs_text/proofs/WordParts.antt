@@ -1,17 +1,6 @@
 -- The parts of the words of actions.
-use Rattle.std.proofs.Common.{append_assoc, ◌≡◌, ℕ, ◌<◌, ◌/◌, ◌%◌, ◌^◌, List, [], ◌∷◌, ◌++◌, Bool, true, false, length, refl, sym, ap, ◌∙◌, arith, if◌then◌else◌}
-use Rattle.std.proofs.lemmas.List.{append-nil}
-use Rattle.std.proofs.lemmas.List.Elements.{All-from_recursion}
-use Rattle.std.proofs.Math.Nat.{mod-lt}
-use Rattle.std.specs.List.{AllByRecursion}
-use Rattle.std.specs.Prelude.{codes, decimal, slice_index}
-use Rattle.hex.specs.Hex.{encode_lower, encode_with, lower_digits}
-use Rattle.fs_base.specs.Language.{IsOctets}
-use Rattle.fs_base.proofs.Octets.{octets_head, octets_tail}
-use Rattle.fs_text.specs.Pieces.{Part, Run, Delimiter, is_plain, parts_of, with_octet}
-use Rattle.fs_text.specs.ActionParts.{ip4_parts}
-use Rattle.fs_text.specs.PrefixParts.{address_parts, v4_parts}
-use Rattle.fs_words.specs.Prefixes.{address_text, v4_text}
+use Rattle.fs_text.proofs.Words.{append_assoc, ◌≡◌, ℕ, ◌<◌, ◌/◌, ◌%◌, ◌^◌, List, [], ◌∷◌, ◌++◌, Bool, true, false, length, refl, sym, ap, ◌∙◌, arith, if◌then◌else◌, append-nil, All-from_recursion, mod-lt, AllByRecursion, codes, decimal, slice_index, encode_lower, encode_with, lower_digits, IsOctets, octets_head, octets_tail, Run, Delimiter, is_plain, parts_of, with_octet, ip4_parts, address_parts, v4_parts, address_text, v4_text}
+use Rattle.fs_text.specs.Pieces.{Part}
 use Rattle.fs_text.proofs.Runs.{run_first}
 use Rattle.fs_text.proofs.Numerals.{plain_digits}
 

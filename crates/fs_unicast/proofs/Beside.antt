@@ -1,14 +1,5 @@
 -- The routes and the turns beside a place, as ranges of the maps give them.
-use Rattle.std.proofs.Common.{◌≡◌, refl, sym, ap, ◌∙◌, Bool, true, false, not, ◌&&◌, List, map, filter, find, slice_get, Option, Some, None, Less, is_le, is_lt}
-use Rattle.std.specs.List.{last_or}
-use Rattle.std.specs.List.Sorted.{IsStrictlySortedBy}
-use Rattle.std.specs.BTreeMap.Range.{range_contains}
-use Rattle.std.specs.declared.ops.Bound.TheVariants.{Included, Excluded, Unbounded}
-use Rattle.fs_base.proofs.Bools.{and_false, and_true}
-use Rattle.fs_base.proofs.Lists.{each, each_weaker, filter_on, find_on}
-use Rattle.fs_unicast.specs.declared.unicast.Place.{Place}
-use Rattle.fs_unicast.specs.Unicast.{place_cmp}
-use Rattle.fs_unicast.specs.Turns.{find_last, later}
+use Rattle.fs_unicast.proofs.Words.{◌≡◌, refl, sym, ap, ◌∙◌, Bool, true, false, not, ◌&&◌, List, map, filter, find, slice_get, Option, Some, None, Less, is_le, is_lt, last_or, IsStrictlySortedBy, range_contains, Included, Excluded, Unbounded, and_false, and_true, each, each_weaker, filter_on, find_on, Place, place_cmp, find_last, later}
 use Rattle.fs_unicast.proofs.PlaceOrder.{below_not_upto, falsified, upto_below}
 use Rattle.fs_unicast.proofs.Finding.{first_filtered, last_filtered, find_none, none_found, after_found}
 

@@ -1,13 +1,8 @@
 -- The best of some routes is one of them, and none of them is preferred to it.
-use Rattle.std.proofs.Common.{ℕ, ◌≡◌, refl, sym, ap, ◌∙◌, cond, ◌⊎◌, inl, inr, Bool, true, false, true≢false, List, [], ◌∷◌, Option, Some, None, fold, Ordering, Less, Equal, Greater, is_lt, MatchOption}
-use Rattle.std.specs.List.{Contains}
-use Rattle.std.specs.Ordering.{ordering_reverse}
-use Rattle.std.specs.Cmp.{IsTotalOrder, alike_right, tied_itself, on_total, then_total, nat_cmp_total, bool_cmp_total}
+use Rattle.std.proofs.Common.{MatchOption}
+use Rattle.fs_unicast.proofs.Words.{ℕ, ◌≡◌, refl, sym, ap, ◌∙◌, cond, ◌⊎◌, inl, inr, Bool, true, false, true≢false, List, [], ◌∷◌, Option, Some, None, fold, Ordering, Less, Equal, Greater, is_lt, Contains, ordering_reverse, IsTotalOrder, alike_right, tied_itself, on_total, then_total, nat_cmp_total, bool_cmp_total, Path, less_of_is_lt, path_length, preference_cmp, preferred, better, best_of}
 use Rattle.std.proofs.lemmas.Cmp.{back_total}
 use Rattle.std.proofs.lemmas.List.Elements.{Contains-push, Contains-append_left, Contains-append_right, Contains-append_cases}
-use Rattle.fs_base.specs.declared.path.Path.{Path}
-use Rattle.fs_base.proofs.Orderings.{less_of_is_lt}
-use Rattle.fs_unicast.specs.Preference.{path_length, preference_cmp, preferred, better, best_of}
 use Rattle.fs_unicast.specs.Laws.{IsMostPreferred, IsBest}
 
 pub preference_total : IsTotalOrder preference_cmp

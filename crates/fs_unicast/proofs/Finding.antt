@@ -1,13 +1,6 @@
+use Rattle.fs_unicast.proofs.Words.{◌≡◌, refl, sym, ap, subst, ◌∙◌, Bool, true, false, true≢false, cond, ◌&&◌, List, [], ◌∷◌, ◌++◌, map, filter, find, option_map, slice_get, Option, Some, None, Ordering, Less, MatchOption, AllByRecursion, list_any, last_or, IsStrictlySortedBy, sorted_head, sorted_tail, same_Some, and_both, and_first, each, each_weaker, each_of_map, none_each, find_last, later}
+
 -- The first and the last element of a list that pass a test.
-use Rattle.std.proofs.Common.{◌≡◌, refl, sym, ap, subst, ◌∙◌, Bool, true, false, true≢false, cond, ◌&&◌, List, [], ◌∷◌, ◌++◌, map, filter, find, option_map, slice_get, Option, Some, None, Ordering, Less}
-use Rattle.std.specs.Prelude.{MatchOption}
-use Rattle.std.specs.List.{AllByRecursion, list_any, last_or}
-use Rattle.std.specs.List.Sorted.{IsStrictlySortedBy}
-use Rattle.std.proofs.lemmas.Map.Keys.{sorted_head, sorted_tail}
-use Rattle.std.proofs.lemmas.Option.{same_Some}
-use Rattle.fs_base.proofs.Bools.{and_both, and_first}
-use Rattle.fs_base.proofs.Lists.{each, each_weaker, each_of_map, none_each}
-use Rattle.fs_unicast.specs.Turns.{find_last, later}
 
 -- what an iterator's next call shows is the head of what is left
 pub shows_first : {A X : Type 0} (shows : A → X) (s t : List X) (r : Option A) → MatchOption r ((s ≡ []) × (t ≡ [])) (λ x. s ≡ shows x ∷ t) → option_map shows r ≡ slice_get s 0

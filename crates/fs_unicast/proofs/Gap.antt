@@ -1,24 +1,7 @@
 -- Turns that are taken away: from between two routes where it parts no others, and from the gap that a route leaves.
-use Rattle.std.proofs.Common.{ℕ, ◌≡◌, ◌⊎◌, inl, inr, refl, sym, ap, subst, ◌∙◌, Bool, true, false, true≢false, cond, not, ◌&&◌, ◌||◌, List, [], ◌∷◌, find, filter, map-id, Option, Some, None, Ordering, Less, Equal, Greater, is_eq, is_le, is_lt}
-use Rattle.std.specs.Prelude.{IfSome}
-use Rattle.std.specs.List.{AllByRecursion, list_any, list_all}
-use Rattle.std.specs.List.Sorted.{IsStrictlySortedBy}
-use Rattle.std.specs.BTreeMap.{is_at}
-use Rattle.std.specs.BTreeMap.Range.{range_contains}
-use Rattle.std.specs.declared.ops.Bound.TheVariants.{Included, Excluded}
-use Rattle.std.specs.Map.{keys_of, remove_entry, lookup}
+use Rattle.fs_unicast.proofs.Words.{ℕ, ◌≡◌, ◌⊎◌, inl, inr, refl, sym, ap, subst, ◌∙◌, Bool, true, false, true≢false, cond, not, ◌&&◌, ◌||◌, List, [], ◌∷◌, find, filter, map-id, Option, Some, None, Ordering, Less, Equal, Greater, is_eq, is_le, is_lt, IfSome, AllByRecursion, list_any, list_all, IsStrictlySortedBy, is_at, range_contains, Included, Excluded, keys_of, remove_entry, lookup, ap₂, same_Some, or_first, or_second, false_from, each, each_weaker, each_both, each_remove, any_each, all_on, find_on, equal_of_is_eq, Path, Place, neighbour, Route, place_cmp, neighbour_of, is_same, is_before, is_after, is_at_or_after, lies_between, are_parted, is_alone, are_alike, names, without, find_last, PartsAt, IsPartedFrom, IsPartedTo, IsPartedAfter, IsPartedBefore, IsParted, IsLastUpto}
 use Rattle.std.specs.Set.{remove_key}
-use Rattle.std.proofs.Math.Path.{ap₂}
 use Rattle.std.proofs.lemmas.Map.{none_passes_from_lookup}
-use Rattle.std.proofs.lemmas.Option.{same_Some}
-use Rattle.fs_base.proofs.Bools.{or_first, or_second, false_from}
-use Rattle.fs_base.proofs.Lists.{each, each_weaker, each_both, each_remove, any_each, all_on, find_on}
-use Rattle.fs_base.proofs.Orderings.{equal_of_is_eq}
-use Rattle.fs_base.specs.declared.path.Path.{Path}
-use Rattle.fs_unicast.specs.declared.unicast.Place.{Place}
-use Rattle.fs_unicast.specs.Neighbour.{neighbour}
-use Rattle.fs_unicast.specs.Unicast.{Route, place_cmp}
-use Rattle.fs_unicast.specs.Turns.{neighbour_of, is_same, is_before, is_after, is_at_or_after, lies_between, are_parted, is_alone, are_alike, names, without, find_last, PartsAt, IsPartedFrom, IsPartedTo, IsPartedAfter, IsPartedBefore, IsParted, IsLastUpto}
 use Rattle.fs_unicast.proofs.PlaceOrder.{lt, le, lies_in, lies_above, lies_upto, apart, never, exact_place, below_upto, upto_upto, lt_le, upto_itself, below_not_upto, equal_upto, equal_back}
 use Rattle.fs_unicast.proofs.Finding.{found_each, found_passes, last_each, last_passes, no_last, after_found, before_last}
 use Rattle.fs_unicast.proofs.Parting.{same_is, same_itself, wider, Fore, Aft, fores, afts}

@@ -1,14 +1,9 @@
 -- The last address of a prefix and its length tell the prefix.
-use Rattle.std.proofs.Common.{ℕ, ◌≡◌, ◌+◌, ◌-◌, ◌*◌, ◌/◌, ◌%◌, ◌^◌, ◌<◌, ◌≤◌, refl, sym, ap, subst, ◌∙◌, min, arith}
+use Rattle.fs_unicast.proofs.Words.{ℕ, ◌≡◌, ◌+◌, ◌-◌, ◌*◌, ◌/◌, ◌%◌, ◌^◌, ◌<◌, ◌≤◌, refl, sym, ap, subst, ◌∙◌, min, arith, Prefix, width_of, afi_of, cleared, prefix_of, last_address, same_prefix, IsKey, family_of, joined, high_of, low_of, last_of, least}
 use Rattle.std.proofs.lemmas.Nat.{pow_pos, shr_split}
 use Rattle.fs_base.specs.declared.prefix.Family.{Family}
 use Rattle.fs_base.specs.declared.prefix.Family.TheVariants.{V4, V6}
-use Rattle.fs_base.specs.declared.prefix.Prefix.{Prefix}
-use Rattle.fs_base.specs.Bits.{width_of, afi_of, cleared}
-use Rattle.fs_base.specs.Prefix.{prefix_of, last_address}
 use Rattle.fs_base.proofs.Blocks.{IsBlock, block_of, block_meeting}
-use Rattle.fs_base.proofs.SamePrefix.{same_prefix}
-use Rattle.fs_unicast.specs.Key.{IsKey, family_of, joined, high_of, low_of, last_of, least}
 
 -- the last address of a block is a block by itself
 last_block : (w n b : ℕ) → IsBlock w n b → IsBlock w w (b + 2 ^ (w - n) - 1)

@@ -1,16 +1,5 @@
 -- The search for a route with another neighbouring AS, from turn to turn.
-use Rattle.std.proofs.Common.{ℕ, ◌≡◌, ◌+◌, ◌<◌, ◌≤◌, refl, sym, ap, subst, ◌∙◌, Bool, true, false, true≢false, cond, not, ◌&&◌, ◌||◌, List, [], ◌∷◌, find, map-id, Option, Some, None, is_le, is_lt, arith}
-use Rattle.std.specs.List.{AllByRecursion, list_any}
-use Rattle.std.specs.List.Sorted.{IsStrictlySortedBy}
-use Rattle.std.specs.Map.{keys_of}
-use Rattle.fs_base.proofs.Bools.{and_both, and_first, and_second}
-use Rattle.fs_base.proofs.Lists.{each, each_weaker, each_both, each_none, any_each}
-use Rattle.fs_base.specs.declared.path.Path.{Path}
-use Rattle.fs_unicast.specs.declared.unicast.Place.{Place}
-use Rattle.fs_unicast.specs.Neighbour.{neighbour}
-use Rattle.fs_unicast.specs.Search.{is_other}
-use Rattle.fs_unicast.specs.Unicast.{Route, place_cmp}
-use Rattle.fs_unicast.specs.Turns.{neighbour_of, is_same, is_within, is_inside, lies_between, are_parted, IsPartedFrom, IsPartedAfter, IsParted}
+use Rattle.fs_unicast.proofs.Words.{ℕ, ◌≡◌, ◌+◌, ◌<◌, ◌≤◌, refl, sym, ap, subst, ◌∙◌, Bool, true, false, true≢false, cond, not, ◌&&◌, ◌||◌, List, [], ◌∷◌, find, map-id, Option, Some, None, is_le, is_lt, arith, AllByRecursion, list_any, IsStrictlySortedBy, keys_of, and_both, and_first, and_second, each, each_weaker, each_both, each_none, any_each, Path, Place, neighbour, is_other, Route, place_cmp, neighbour_of, is_same, is_within, is_inside, lies_between, are_parted, IsPartedFrom, IsPartedAfter, IsParted}
 use Rattle.fs_unicast.proofs.PlaceOrder.{lt, le, lies_above, lies_upto, below_upto, falsified, upto_below, upto_upto, lt_le, below_itself, upto_itself}
 use Rattle.fs_unicast.proofs.Finding.{found_each, found_passes, none_found, any_found, after_found}
 use Rattle.fs_unicast.proofs.Parting.{same_is}

@@ -8,7 +8,7 @@ ghost use Rattle.fs_words.specs.Operators.{joined_text, joiner, least_code, list
 
 use crate::pieces::{print_decimal, print_wide};
 use fs_base::Memory;
-use fs_ops::{Kind, OfKind, OperatorList, width_of, width_code_of};
+use fs_ops::{Kind, OfKind, OperatorList, width_code_of, width_of};
 
 /// The sign of the bits less, greater, equal.
 fn number_sign(relation: u8) -> &'static str

@@ -1,8 +1,4 @@
-use Rattle.std.proofs.Common.{◌≡◌, ◌⊎◌, inl, le_trans, refl}
-use Rattle.fs_base.specs.Outside.{Rose}
-use Rattle.fs_mrt.specs.Dump.{coming}
-use Rattle.cmd_stages.proofs.Stages.{answered_err, finished_by, rose_earlier}
-use Rattle.cmd_convert.specs.Command.{ConvertsSo, IsOfDump, text_from}
+use Rattle.cmd_convert.proofs.Words.{◌≡◌, ◌⊎◌, inl, le_trans, refl, Rose, coming, answered_err, finished_by, rose_earlier, ConvertsSo, IsOfDump, text_from}
 use Rattle.cmd_convert.proofs.Ending.{dump_ends, finished, never_quiet, outside_quiet, read_verdict}
 use Rattle.cmd_convert.proofs.command.convert.Goals as goal
 

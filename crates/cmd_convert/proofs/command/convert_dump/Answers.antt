@@ -1,9 +1,4 @@
-use Rattle.std.proofs.Common.{◌∙◌, arith, rules}
-use Rattle.fs_base.specs.Outside.{Rose}
-use Rattle.fs_mrt.specs.Dump.{coming, spoken_from}
-use Rattle.cmd_convert.specs.Lives.{lives_of}
-use Rattle.cmd_convert.specs.Making.{items_from}
-use Rattle.cmd_stages.proofs.Stages.{match_err}
+use Rattle.cmd_convert.proofs.Words.{◌∙◌, arith, rules, Rose, coming, spoken_from, lives_of, items_from, match_err}
 use Rattle.cmd_convert.proofs.Converting.{begun_stopped, doing_more, doing_stopped, gives_as}
 use Rattle.cmd_convert.proofs.command.convert_dump.Goals as goal
 

@@ -1,6 +1,4 @@
-use Rattle.std.proofs.Common.{◌≡◌, ◌≤◌, ◌-◌, length, IsTrue, None}
-use Rattle.fs_mrt.specs.Dump.{coming}
-use Rattle.cmd_convert.specs.Lives.{lives_of}
+use Rattle.cmd_convert.proofs.Words.{◌≡◌, ◌≤◌, ◌-◌, length, IsTrue, None, coming, lives_of}
 use Rattle.cmd_convert.proofs.Converting.{Doing}
 use Rattle.cmd_convert.proofs.command.convert_dump.Given as goal
 

@@ -1,9 +1,4 @@
-use Rattle.std.proofs.Common.{◌∙◌, ap, sym, List, ℕ, Bool}
-use Rattle.fs_line.proofs.Outputs.{sends_as}
-use Rattle.fs_tape.specs.Laws.{item_text_at}
-use Rattle.fs_tape.specs.Tape.{received}
-use Rattle.fs_tape.specs.declared.magic.Version.TheVariants.{Two}
-use Rattle.cmd_convert.specs.Greeting.{greeting}
+use Rattle.cmd_convert.proofs.Words.{◌∙◌, ap, sym, List, ℕ, Bool, sends_as, item_text_at, received, Two, greeting}
 use Rattle.cmd_convert.proofs.making.write_greeting.Goals as goal
 
 pub returns-then-wide : goal.returns-then-wide

@@ -1,17 +1,4 @@
-use Rattle.std.proofs.Common.{◌≡◌, ◌⊎◌, inl, inr, ◌∙◌, ℕ, List, [], ap, refl, subst, sym, le_trans}
-use Rattle.fs_base.specs.declared.config.Config.{Config}
-use Rattle.fs_desk.specs.Desk.{Desked}
-use Rattle.cmd_enforce.specs.Moments.{AnswersAt, WroteJudged, packets_of}
-use Rattle.fs_base.specs.Outside.{Rose}
-use Rattle.fs_base.proofs.Grew.{Grew-refl}
-use Rattle.fs_base.specs.Sink.{Grew}
-use Rattle.cmd_enforce.specs.Capture.{Captured, coming, recorded}
-use Rattle.cmd_stages.specs.Load.{Names}
-use Rattle.cmd_stages.specs.Play.{tape_stage}
-use Rattle.cmd_stages.specs.Refusal.{Found, answered}
-use Rattle.cmd_enforce.specs.Command.{EnforcesSo}
-use Rattle.cmd_enforce.specs.Judge.{capture_stage}
-use Rattle.cmd_stages.proofs.Stages.{answered_err, either_rose, rose_earlier}
+use Rattle.cmd_enforce.proofs.Words.{◌≡◌, ◌⊎◌, inl, inr, ◌∙◌, ℕ, List, [], ap, refl, subst, sym, le_trans, Config, Desked, AnswersAt, WroteJudged, packets_of, Rose, Grew-refl, Grew, Captured, coming, recorded, Names, tape_stage, Found, answered, EnforcesSo, capture_stage, answered_err, either_rose, rose_earlier}
 use Rattle.cmd_enforce.proofs.Enforcing.{all_to_come, answers_opened, answers_so, config_ends, found_in, is_second, never_tape, none_judged, tape_ends, unfinished_so, whole_played, wrote_none, wrote_under}
 use Rattle.cmd_enforce.proofs.AtMoments.{packet_wants_none}
 use Rattle.cmd_enforce.proofs.command.enforce.Goals as goal

@@ -1,15 +1,4 @@
-use Rattle.std.proofs.Common.{◌≡◌, ◌⊎◌, ◌∙◌, inr, ap, le_refl, refl, subst, sym}
-use Rattle.fs_base.specs.Outside.{Rose}
-use Rattle.fs_base.proofs.Grew.{Grew-refl}
-use Rattle.cmd_enforce.specs.Capture.{coming, recorded}
-use Rattle.cmd_stages.specs.Player.{PlayerState, Stands}
-use Rattle.cmd_stages.specs.Refusal.{Found, answered}
-use Rattle.cmd_stages.specs.declared.refusal.Refusal.TheVariants.{Memory}
-use Rattle.cmd_stages.proofs.Stages.{answered_err, finished_by, rose_earlier}
-use Rattle.fs_compile.specs.Matcher.{admitted_in}
-use Rattle.fs_compile.specs.Mending.{AreOwn}
-use Rattle.cmd_enforce.specs.Judge.{IsOfPackets}
-use Rattle.cmd_enforce.specs.Moments.{AnswersAt, WroteJudged}
+use Rattle.cmd_enforce.proofs.Words.{◌≡◌, ◌⊎◌, ◌∙◌, inr, ap, le_refl, refl, subst, sym, Rose, Grew-refl, coming, recorded, PlayerState, Stands, Found, answered, Memory, answered_err, finished_by, rose_earlier, admitted_in, AreOwn, IsOfPackets, AnswersAt, WroteJudged}
 use Rattle.cmd_enforce.proofs.Enforcing.{answers_under, memory_of_packets, moments_finished, none_by_memory, outside_of_packets, rose_wider, wrote_judged, wrote_none, wrote_under}
 use Rattle.cmd_enforce.proofs.AtMoments.{stands_at}
 use Rattle.cmd_enforce.proofs.judge.judge_capture.Goals as goal

@@ -1,12 +1,4 @@
-use Rattle.std.proofs.Common.{◌≡◌, ◌∙◌, inl, ℕ, refl, subst, sym, arith, rules, []}
-use Rattle.fs_input.specs.Records.{done}
-use Rattle.cmd_enforce.specs.Capture.{coming, packet_from}
-use Rattle.fs_base.specs.Outside.{Rose}
-use Rattle.cmd_stages.specs.Play.{until}
-use Rattle.cmd_stages.specs.Player.{Stands}
-use Rattle.cmd_enforce.specs.Judge.{Ceases, IsOfCapture, admitted_rules}
-use Rattle.cmd_enforce.specs.Matcher.{HasRoom}
-use Rattle.cmd_stages.proofs.Stages.{answered_err, match_err, rose_earlier}
+use Rattle.cmd_enforce.proofs.Words.{◌≡◌, ◌∙◌, inl, ℕ, refl, subst, sym, arith, rules, [], done, coming, packet_from, Rose, until, Stands, Ceases, IsOfCapture, admitted_rules, HasRoom, answered_err, match_err, rose_earlier}
 use Rattle.cmd_enforce.proofs.AtMoments.{awaits, followed_ceased, followed_more, followed_read, followed_stopped, followed_wanting, leaves_as, number_fits, packet_wants_none, read_on}
 use Rattle.cmd_enforce.proofs.judge.judge_on.Goals as goal
 

@@ -1,10 +1,4 @@
-use Rattle.std.proofs.Common.{◌≡◌, ◌≤◌, ◌-◌, length, IsTrue, None}
-use Rattle.std.specs.Prelude.{vec_capacity}
-use Rattle.cmd_enforce.specs.Capture.{coming}
-use Rattle.fs_pcap.specs.Head.{longest_record}
-use Rattle.cmd_stages.specs.Player.{Stands}
-use Rattle.cmd_enforce.specs.Matcher.{HasRoom}
-use Rattle.cmd_enforce.specs.Moments.{Follows, Judging, progress}
+use Rattle.cmd_enforce.proofs.Words.{◌≡◌, ◌≤◌, ◌-◌, length, IsTrue, None, vec_capacity, coming, longest_record, Stands, HasRoom, Follows, Judging, progress}
 use Rattle.cmd_enforce.proofs.judge.judge_on.Given as goal
 
 abbrev pub invariant-packets : goal.invariant-packets

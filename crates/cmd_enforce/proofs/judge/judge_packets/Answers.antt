@@ -1,11 +1,4 @@
-use Rattle.std.proofs.Common.{◌≡◌, ◌∙◌, ◌∷◌, inl, inr, ap, refl, sym, arith, rules, le_trans}
-use Rattle.fs_base.specs.Parts.{with_part}
-use Rattle.cmd_enforce.specs.Capture.{coming, packet_from}
-use Rattle.cmd_stages.specs.Play.{until}
-use Rattle.cmd_stages.specs.Refusal.{status_of}
-use Rattle.cmd_stages.proofs.Stages.{answered_err, match_err, rose_earlier}
-use Rattle.cmd_enforce.specs.Judge.{IsOfPackets, admitted_rules}
-use Rattle.cmd_enforce.specs.Moments.{judging}
+use Rattle.cmd_enforce.proofs.Words.{◌≡◌, ◌∙◌, ◌∷◌, inl, inr, ap, refl, sym, arith, rules, le_trans, with_part, coming, packet_from, until, status_of, answered_err, match_err, rose_earlier, IsOfPackets, admitted_rules, judging}
 use Rattle.cmd_enforce.proofs.AtMoments.{breaks_wider, capture_apart, followed_done, followed_first, followed_more, followed_stopped, followed_unplayed, followed_wanting, leaves_as, never_due, number_fits, rose_back, six_of, stands_at}
 use Rattle.cmd_enforce.proofs.judge.judge_packets.Goals as goal
 

@@ -1,14 +1,4 @@
-use Rattle.std.proofs.Common.{◌≡◌, ◌≤◌, ◌-◌, length, List, IsTrue, None}
-use Rattle.cmd_enforce.specs.Capture.{coming}
-use Rattle.fs_pcap.specs.Head.{longest_record}
-use Rattle.fs_tape.specs.Tape.{Timed}
-use Rattle.cmd_stages.specs.Play.{IsOpenOrDone}
-use Rattle.cmd_stages.specs.Player.{Stands}
-use Rattle.fs_compile.specs.Matcher.{admitted_in}
-use Rattle.fs_compile.specs.Mending.{AreOwn}
-use Rattle.cmd_enforce.specs.Judge.{admitted_rules}
-use Rattle.cmd_enforce.specs.Matcher.{StandsFor}
-use Rattle.cmd_enforce.specs.Moments.{Follows, judging, progress}
+use Rattle.cmd_enforce.proofs.Words.{◌≡◌, ◌≤◌, ◌-◌, length, List, IsTrue, None, coming, longest_record, Timed, IsOpenOrDone, Stands, admitted_in, AreOwn, admitted_rules, StandsFor, Follows, judging, progress}
 use Rattle.cmd_enforce.proofs.judge.judge_packets.Given as goal
 
 abbrev pub invariant-changes : goal.invariant-changes

@@ -1,7 +1,4 @@
-use Rattle.std.proofs.Common.{ap, ◌∙◌}
-use Rattle.fs_line.proofs.Outputs.{sends_as}
-use Rattle.fs_line.specs.Line.{line_of}
-use Rattle.fs_line.specs.Walked.{entries}
+use Rattle.cmd_enforce.proofs.Words.{ap, ◌∙◌, sends_as, line_of, entries}
 use Rattle.cmd_enforce.proofs.lines.write_walk.Goals as goal
 
 pub returns-clause-sends : goal.returns-clause-sends

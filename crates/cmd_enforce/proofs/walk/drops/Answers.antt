@@ -1,7 +1,6 @@
-use Rattle.std.proofs.Common.{ap, ◌∙◌}
+use Rattle.cmd_enforce.proofs.Words.{ap, ◌∙◌, actions_walked, entries}
 use Rattle.std.specs.List.{list_any}
 use Rattle.fs_actions.specs.Community.{is_discard}
-use Rattle.fs_line.specs.Walked.{actions_walked, entries}
 use Rattle.cmd_enforce.proofs.walk.drops.Goals as goal
 
 pub returns-clause-drops : goal.returns-clause-drops

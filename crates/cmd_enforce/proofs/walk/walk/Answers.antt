@@ -1,9 +1,4 @@
-use Rattle.std.proofs.Common.{◌≡◌, ◌≤◌, ℕ, List, Option, Some, ◌+◌, ap, sym, subst, ◌∙◌, arith}
-use Rattle.fs_compile.specs.Matches.{Matching}
-use Rattle.fs_compile.specs.Reach.{reaching, reaching_behind, reaching_from}
-use Rattle.fs_line.specs.declared.walked.Walked.{Walked}
-use Rattle.fs_line.specs.Walked.{entries}
-use Rattle.fs_rules.specs.Walk.{goes_on, walk_of}
+use Rattle.cmd_enforce.proofs.Words.{◌≡◌, ◌≤◌, ℕ, List, Option, Some, ◌+◌, ap, sym, subst, ◌∙◌, arith, Matching, reaching, reaching_behind, reaching_from, Walked, entries, goes_on, walk_of}
 use Rattle.cmd_enforce.proofs.Walking.{FindsFrom, WalkGoesOn, fewer_steps, matches_on, place_among, walk_ends, walk_on, walk_over}
 use Rattle.cmd_enforce.proofs.walk.walk.Goals as goal
 

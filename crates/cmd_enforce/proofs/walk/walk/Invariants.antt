@@ -1,9 +1,4 @@
-use Rattle.std.proofs.Common.{◌≡◌, ◌≤◌, ◌+◌, ◌-◌, length, List}
-use Rattle.std.specs.Prelude.{vec_capacity, vec_len}
-use Rattle.fs_rules.specs.Lent.{Listed}
-use Rattle.fs_compile.specs.Matches.{AreMatchesOf}
-use Rattle.fs_compile.specs.Reach.{reaching, reaching_from}
-use Rattle.cmd_enforce.specs.Matcher.{WalksWith}
+use Rattle.cmd_enforce.proofs.Words.{◌≡◌, ◌≤◌, ◌+◌, ◌-◌, length, List, vec_capacity, vec_len, Listed, AreMatchesOf, reaching, reaching_from, WalksWith}
 use Rattle.cmd_enforce.proofs.Walking.{WalkGoesOn}
 use Rattle.cmd_enforce.proofs.walk.walk.Given as goal
 

@@ -1,10 +1,6 @@
-use Rattle.std.proofs.Common.{◌≡◌, ◌∙◌, ◌+◌, ap, sym, subst, arith}
+use Rattle.cmd_gen.proofs.Words.{◌≡◌, ◌∙◌, ◌+◌, ap, sym, subst, arith, is_dropped, is_passed, behind_pair, behind_pairs, pair_behind, packet_of, HasRoom}
 use Rattle.fs_base.specs.declared.link.Link.TheVariants.{Raw}
 use Rattle.fs_packet.specs.Reading.{view_of}
-use Rattle.cmd_gen.specs.Command.{is_dropped, is_passed}
-use Rattle.cmd_gen.specs.Draws.{behind_pair, behind_pairs, pair_behind}
-use Rattle.cmd_gen.specs.Generator.{packet_of}
-use Rattle.cmd_enforce.specs.Matcher.{HasRoom}
 use Rattle.cmd_gen.proofs.Generating.{counted_after, counted_none, few_more, packet_is, packet_state}
 use Rattle.cmd_gen.proofs.command.count_packets.Goals as goal
 

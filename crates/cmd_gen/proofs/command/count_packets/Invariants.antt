@@ -1,10 +1,5 @@
-use Rattle.std.proofs.Common.{◌≡◌, ◌≤◌, ◌+◌}
+use Rattle.cmd_gen.proofs.Words.{◌≡◌, ◌≤◌, ◌+◌, behind_pairs, packets, AdmittedRules, HasRoom, StandsFor, dropped_of, passed_of}
 use Rattle.std.specs.Prelude.{vec_capacity}
-use Rattle.cmd_gen.specs.Draws.{behind_pairs}
-use Rattle.cmd_gen.specs.Generator.{packets}
-use Rattle.cmd_enforce.specs.Judge.{AdmittedRules}
-use Rattle.cmd_enforce.specs.Matcher.{HasRoom, StandsFor}
-use Rattle.cmd_gen.specs.Command.{dropped_of, passed_of}
 use Rattle.cmd_gen.proofs.command.count_packets.Given as goal
 
 abbrev pub invariant-packets : goal.invariant-packets

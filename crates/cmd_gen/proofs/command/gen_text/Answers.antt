@@ -1,5 +1,4 @@
-use Rattle.std.proofs.Common.{◌≡◌, ℕ, List, IfOk, subst}
-use Rattle.cmd_enforce.specs.Judge.{admitted_rules}
+use Rattle.cmd_gen.proofs.Words.{◌≡◌, ℕ, List, IfOk, subst, admitted_rules}
 use Rattle.cmd_enforce.proofs.Walking.{stands_for}
 use Rattle.cmd_gen.proofs.Generating.{line_is}
 use Rattle.cmd_gen.proofs.command.gen_text.Goals as goal

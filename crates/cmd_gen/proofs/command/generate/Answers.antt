@@ -1,10 +1,6 @@
-use Rattle.std.proofs.Common.{◌≡◌, IfOk, inr, subst}
+use Rattle.cmd_gen.proofs.Words.{◌≡◌, IfOk, inr, subst, Held, gen_text, three_peers, tape_of_seed}
 use Rattle.fs_desk.proofs.Leaves.{played_leaves}
-use Rattle.fs_rules.specs.Table.{Held}
 use Rattle.cmd_stages.proofs.Texts.{said_so}
-use Rattle.cmd_gen.specs.Command.{gen_text}
-use Rattle.cmd_gen.specs.Configuration.{three_peers}
-use Rattle.cmd_gen.specs.Generator.{tape_of_seed}
 use Rattle.cmd_gen.proofs.command.generate.Goals as goal
 
 pub returns-clause-generates : goal.returns-clause-generates

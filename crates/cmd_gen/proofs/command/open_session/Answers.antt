@@ -1,7 +1,4 @@
-use Rattle.std.proofs.Common.{List, ℕ, OnOk, subst}
-use Rattle.fs_desk.specs.Desk.{Plays}
-use Rattle.cmd_gen.specs.Messages.{keepalive, open_of}
-use Rattle.fs_tape.specs.Tape.{came_up, received}
+use Rattle.cmd_gen.proofs.Words.{List, ℕ, OnOk, subst, Plays, keepalive, open_of, came_up, received}
 use Rattle.std.proofs.lemmas.Result.{on_ok_weaker}
 use Rattle.cmd_gen.proofs.Generating.{opened}
 use Rattle.cmd_gen.proofs.command.open_session.Goals as goal

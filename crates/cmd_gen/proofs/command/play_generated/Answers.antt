@@ -1,8 +1,4 @@
-use Rattle.std.proofs.Common.{[], subst}
-use Rattle.fs_base.specs.declared.config.Config.{Config}
-use Rattle.fs_desk.specs.Desk.{Played}
-use Rattle.cmd_gen.specs.Configuration.{three_peers}
-use Rattle.cmd_gen.specs.Generator.{opening}
+use Rattle.cmd_gen.proofs.Words.{[], subst, Config, Played, three_peers, opening}
 use Rattle.cmd_gen.proofs.command.play_generated.Goals as goal
 
 pub returns-clause-played : goal.returns-clause-played

@@ -1,8 +1,4 @@
-use Rattle.std.proofs.Common.{◌≡◌, ◌++◌, ◌∙◌, ℕ, ap, sym, subst, arith}
-use Rattle.fs_desk.specs.Desk.{Played, Plays}
-use Rattle.cmd_gen.specs.Draws.{behind_pair, pair_behind}
-use Rattle.cmd_gen.specs.Generator.{step_of, steps}
-use Rattle.fs_tape.specs.Tape.{Item}
+use Rattle.cmd_gen.proofs.Words.{◌≡◌, ◌++◌, ◌∙◌, ℕ, ap, sym, subst, arith, Played, Plays, behind_pair, pair_behind, step_of, steps, Item}
 use Rattle.cmd_gen.proofs.Generating.{played_more, played_none, state_more, state_none, step_is}
 use Rattle.cmd_gen.proofs.command.play_steps.Goals as goal
 

@@ -1,5 +1,4 @@
-use Rattle.std.proofs.Common.{◌≡◌, ◌⊎◌, inl, inr, ℕ, ◌+◌, List, [], ◌∷◌, refl}
-use Rattle.cmd_gen.specs.Messages.{open_of}
+use Rattle.cmd_gen.proofs.Words.{◌≡◌, ◌⊎◌, inl, inr, ℕ, ◌+◌, List, [], ◌∷◌, refl, open_of}
 use Rattle.cmd_gen.proofs.message.open_message.Goals as goal
 
 pub returns : goal.returns

@@ -1,7 +1,4 @@
-use Rattle.std.proofs.Common.{◌≡◌, ◌≤◌, ◌-◌, length, IsTrue, None}
-use Rattle.fs_base.specs.Files.{OnlySlot}
-use Rattle.fs_tape.specs.Header.{longest_payload}
-use Rattle.fs_tape.specs.Tape.{coming}
+use Rattle.cmd_stages.proofs.Words.{◌≡◌, ◌≤◌, ◌-◌, length, IsTrue, None, OnlySlot, longest_payload, coming}
 use Rattle.cmd_stages.proofs.Playing.{Playing}
 use Rattle.cmd_stages.proofs.play.play_items.Given as goal
 

@@ -1,8 +1,4 @@
-use Rattle.std.proofs.Common.{ℕ, subst}
-use Rattle.fs_base.specs.Outside.{Rose}
-use Rattle.fs_tape.specs.Tape.{coming}
-use Rattle.cmd_stages.specs.Play.{PlaysOn, played_to, tape_stage}
-use Rattle.cmd_stages.specs.Refusal.{HasReason}
+use Rattle.cmd_stages.proofs.Words.{ℕ, subst, Rose, coming, PlaysOn, played_to, tape_stage, HasReason}
 use Rattle.cmd_stages.proofs.LookingAhead.{slots_then}
 use Rattle.cmd_stages.proofs.Playing.{played_whole, refused_whole}
 use Rattle.cmd_stages.proofs.play.play_whole.Goals as goal

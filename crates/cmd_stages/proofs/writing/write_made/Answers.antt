@@ -1,7 +1,4 @@
-use Rattle.std.proofs.Common.{◌∙◌, ℕ, List, inl, refl, subst}
-use Rattle.fs_base.specs.Outside.{Rose}
-use Rattle.fs_base.proofs.Grew.{Grew-refl}
-use Rattle.cmd_stages.specs.Writing.{Writes}
+use Rattle.cmd_stages.proofs.Words.{◌∙◌, ℕ, List, inl, refl, subst, Rose, Grew-refl, Writes}
 use Rattle.cmd_stages.proofs.writing.write_made.Goals as goal
 
 pub returns-in-Ok-clause-written : goal.returns-in-Ok-clause-written

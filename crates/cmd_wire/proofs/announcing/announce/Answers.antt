@@ -1,5 +1,4 @@
-use Rattle.std.proofs.Common.{inl}
-use Rattle.cmd_stages.proofs.Stages.{rose_earlier}
+use Rattle.cmd_wire.proofs.Words.{inl, rose_earlier}
 use Rattle.cmd_wire.proofs.FromStages.{broken_session, ends_handed, rules_reason}
 use Rattle.cmd_wire.proofs.announcing.announce.Goals as goal
 

@@ -1,7 +1,4 @@
-use Rattle.std.proofs.Common.{inl, inr}
-use Rattle.fs_base.specs.Happened.{happened, with_wire}
-use Rattle.cmd_stages.proofs.Stages.{reason_then}
-use Rattle.cmd_wire.specs.Listening.{with_peer}
+use Rattle.cmd_wire.proofs.Words.{inl, inr, happened, with_wire, reason_then, with_peer}
 use Rattle.cmd_wire.proofs.FromStages.{broken_session, ends_handed, next_reason}
 use Rattle.cmd_wire.proofs.Hearing.{heard_as, hearing_found, session_heard}
 use Rattle.cmd_wire.proofs.listening.listen.Goals as goal

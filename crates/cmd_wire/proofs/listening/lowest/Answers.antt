@@ -1,5 +1,4 @@
-use Rattle.std.proofs.Common.{sym}
-use Rattle.fs_speaker.proofs.Lowest.{is_told}
+use Rattle.cmd_wire.proofs.Words.{sym, is_told}
 use Rattle.cmd_wire.proofs.listening.lowest.Goals as goal
 
 pub new-requires : goal.new-requires

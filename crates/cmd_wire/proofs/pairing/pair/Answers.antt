@@ -1,6 +1,4 @@
-use Rattle.std.proofs.Common.{inl, inr}
-use Rattle.fs_base.specs.Happened.{happened, with_wire}
-use Rattle.cmd_stages.proofs.Stages.{reason_then, rose_earlier}
+use Rattle.cmd_wire.proofs.Words.{inl, inr, happened, with_wire, reason_then, rose_earlier}
 use Rattle.cmd_wire.proofs.FromPairing.{never_three, pair_told}
 use Rattle.cmd_wire.proofs.FromStages.{broken_session, broken_three, ends_handed, rules_reason, sending_found}
 use Rattle.cmd_wire.proofs.pairing.pair.Goals as goal

@@ -1,5 +1,4 @@
-use Rattle.std.proofs.Common.{◌≡◌, length}
-use Rattle.fs_attrs.specs.Attributes.{attributes_of, are_attributes, lent_values}
+use Rattle.fs_attrs.proofs.Words.{◌≡◌, length, attributes_of, are_attributes, lent_values}
 use Rattle.fs_attrs.proofs.AttributeScans.{SoFar}
 use Rattle.fs_attrs.proofs.attributes.read_values.Given as goal
 

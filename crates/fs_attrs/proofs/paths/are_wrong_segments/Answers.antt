@@ -1,5 +1,4 @@
-use Rattle.std.proofs.Common.{not, sym, ap, ◌∙◌}
-use Rattle.fs_attrs.specs.Segments.{lent_segment}
+use Rattle.fs_attrs.proofs.Words.{not, sym, ap, ◌∙◌, lent_segment}
 use Rattle.fs_attrs.proofs.AttributeScans.{wrong_found, wrong_more, wrong_end}
 use Rattle.fs_attrs.proofs.paths.are_wrong_segments.Goals as goal
 

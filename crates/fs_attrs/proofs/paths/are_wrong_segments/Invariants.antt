@@ -1,5 +1,4 @@
-use Rattle.std.proofs.Common.{◌≡◌, length}
-use Rattle.fs_attrs.specs.Paths.{path_wrong}
+use Rattle.fs_attrs.proofs.Words.{◌≡◌, length, path_wrong}
 use Rattle.fs_attrs.proofs.paths.are_wrong_segments.Given as goal
 
 abbrev pub invariant-loop-segment : goal.invariant-loop-segment

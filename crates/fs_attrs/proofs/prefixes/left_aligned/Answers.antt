@@ -1,6 +1,4 @@
-use Rattle.std.proofs.Common.{length, arith}
-use Rattle.fs_nlri.proofs.BodyReaders.{aligned_fits, number_small}
-use Rattle.byteorder.specs.Endian.{big_number}
+use Rattle.fs_attrs.proofs.Words.{length, arith, aligned_fits, number_small, big_number}
 use Rattle.fs_attrs.proofs.prefixes.left_aligned.Goals as goal
 
 pub returns : goal.returns

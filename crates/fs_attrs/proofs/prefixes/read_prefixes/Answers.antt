@@ -1,10 +1,4 @@
-use Rattle.std.proofs.Common.{List, sym, ap, ◌∙◌}
-use Rattle.std.specs.Prelude.{map}
-use Rattle.std.proofs.lemmas.List.{map_push}
-use Rattle.fs_base.specs.declared.prefix.Prefix.{Prefix}
-use Rattle.fs_base.specs.Parts.{parts_of}
-use Rattle.fs_nlri.specs.Rule.{shown}
-use Rattle.fs_attrs.specs.Prefixes.{Shown, first_prefix}
+use Rattle.fs_attrs.proofs.Words.{List, sym, ap, ◌∙◌, map, map_push, Prefix, parts_of, shown, Shown, first_prefix}
 use Rattle.fs_attrs.proofs.PartSizes.{prefix_shrinks}
 use Rattle.fs_attrs.proofs.PartLists.{behind, gathered_more, gathered_all, if_whole}
 use Rattle.fs_attrs.proofs.prefixes.read_prefixes.Goals as goal

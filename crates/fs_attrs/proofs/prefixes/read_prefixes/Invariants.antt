@@ -1,8 +1,4 @@
-use Rattle.std.proofs.Common.{◌≡◌, length}
-use Rattle.std.specs.Prelude.{map}
-use Rattle.fs_base.specs.Parts.{parts_of}
-use Rattle.fs_nlri.specs.Rule.{shown}
-use Rattle.fs_attrs.specs.Prefixes.{first_prefix}
+use Rattle.fs_attrs.proofs.Words.{◌≡◌, length, map, parts_of, shown, first_prefix}
 use Rattle.fs_attrs.proofs.PartLists.{behind}
 use Rattle.fs_attrs.proofs.prefixes.read_prefixes.Given as goal
 

@@ -1,8 +1,4 @@
-use Rattle.std.proofs.Common.{ℕ, ◌<◌, Err, subst, sym, arith}
-use Rattle.std.proofs.lemmas.List.Elements.{All-from_get_or}
-use Rattle.fs_base.specs.Language.{IsOctets}
-use Rattle.fs_attrs.specs.declared.update.UpdateFault.{UpdateFault}
-use Rattle.fs_attrs.specs.Routes.{ReadsAs, flow_routes}
+use Rattle.fs_attrs.proofs.Words.{ℕ, ◌<◌, Err, subst, sym, arith, All-from_get_or, IsOctets, UpdateFault, ReadsAs, flow_routes}
 use Rattle.fs_attrs.proofs.FieldOutcome.{flow_found, flow_bad}
 use Rattle.fs_attrs.proofs.routes.read_flow.Goals as goal
 

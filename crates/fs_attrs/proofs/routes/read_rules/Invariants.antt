@@ -1,5 +1,4 @@
-use Rattle.std.proofs.Common.{[], length}
-use Rattle.fs_nlri.specs.Feed.{Appends}
+use Rattle.fs_attrs.proofs.Words.{[], length, Appends}
 use Rattle.fs_attrs.proofs.routes.read_rules.Given as goal
 
 abbrev pub invariant-loop-rest : goal.invariant-loop-rest

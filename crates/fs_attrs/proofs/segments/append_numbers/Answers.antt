@@ -1,5 +1,4 @@
-use Rattle.std.proofs.Common.{ℕ, ◌^◌, ◌<◌, arith}
-use Rattle.std.proofs.lemmas.List.Elements.{All-from_get_or}
+use Rattle.fs_attrs.proofs.Words.{ℕ, ◌^◌, ◌<◌, arith, All-from_get_or}
 use Rattle.fs_attrs.proofs.segments.append_numbers.Goals as goal
 
 pub returns-clause-sound : goal.returns-clause-sound

@@ -1,6 +1,4 @@
-use Rattle.std.proofs.Common.{◌≡◌, ◌++◌, take}
-use Rattle.std.specs.Prelude.{flat_map}
-use Rattle.fs_attrs.specs.Segments.{as_text}
+use Rattle.fs_attrs.proofs.Words.{◌≡◌, ◌++◌, take, flat_map, as_text}
 use Rattle.fs_attrs.proofs.segments.append_numbers.Given as goal
 
 abbrev pub invariant-loop-number : goal.invariant-loop-number

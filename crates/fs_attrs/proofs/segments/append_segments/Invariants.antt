@@ -1,5 +1,4 @@
-use Rattle.std.proofs.Common.{◌≡◌, ◌++◌, take, All}
-use Rattle.fs_attrs.specs.Segments.{AreNumbers, segments_text}
+use Rattle.fs_attrs.proofs.Words.{◌≡◌, ◌++◌, take, All, AreNumbers, segments_text}
 use Rattle.fs_attrs.proofs.segments.append_segments.Given as goal
 
 abbrev pub invariant-loop-segment : goal.invariant-loop-segment

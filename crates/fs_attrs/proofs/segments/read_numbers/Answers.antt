@@ -1,6 +1,4 @@
-use Rattle.std.proofs.Common.{ℕ, List, sym, ap, ◌∙◌}
-use Rattle.fs_base.specs.Parts.{parts_of}
-use Rattle.fs_attrs.specs.Segments.{first_as}
+use Rattle.fs_attrs.proofs.Words.{ℕ, List, sym, ap, ◌∙◌, parts_of, first_as}
 use Rattle.fs_attrs.proofs.PartSizes.{as_shrinks}
 use Rattle.fs_attrs.proofs.PartLists.{behind, gathered_more, gathered_all}
 use Rattle.fs_attrs.proofs.segments.read_numbers.Goals as goal

@@ -1,6 +1,4 @@
-use Rattle.std.proofs.Common.{◌≡◌, length}
-use Rattle.fs_base.specs.Parts.{parts_of}
-use Rattle.fs_attrs.specs.Segments.{first_as}
+use Rattle.fs_attrs.proofs.Words.{◌≡◌, length, parts_of, first_as}
 use Rattle.fs_attrs.proofs.PartLists.{behind}
 use Rattle.fs_attrs.proofs.segments.read_numbers.Given as goal
 

@@ -1,7 +1,4 @@
-use Rattle.std.proofs.Common.{ℕ, List, [], ◌∷◌, ◌++◌, sym, ap, ap₂, ◌∙◌}
-use Rattle.fs_base.specs.declared.path.Segment.{Segment}
-use Rattle.fs_base.specs.Parts.{parts_of}
-use Rattle.fs_attrs.specs.Segments.{first_segment, segment, lent_segment}
+use Rattle.fs_attrs.proofs.Words.{ℕ, List, [], ◌∷◌, ◌++◌, sym, ap, ap₂, ◌∙◌, Segment, parts_of, first_segment, segment, lent_segment}
 use Rattle.fs_attrs.proofs.PartSizes.{segment_shrinks}
 use Rattle.fs_attrs.proofs.PartLists.{behind, gathered_more, gathered_all}
 use Rattle.fs_attrs.proofs.segments.read_segments.Goals as goal

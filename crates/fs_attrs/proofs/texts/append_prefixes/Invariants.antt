@@ -1,7 +1,4 @@
-use Rattle.std.proofs.Common.{◌≡◌, ◌++◌, take}
-use Rattle.std.specs.Prelude.{map}
-use Rattle.fs_nlri.specs.Rule.{shown}
-use Rattle.fs_attrs.specs.Texts.{prefixes_text}
+use Rattle.fs_attrs.proofs.Words.{◌≡◌, ◌++◌, take, map, shown, prefixes_text}
 use Rattle.fs_attrs.proofs.texts.append_prefixes.Given as goal
 
 abbrev pub invariant-loop-prefix : goal.invariant-loop-prefix

@@ -1,9 +1,4 @@
-use Rattle.std.proofs.Common.{◌≡◌, ◌++◌, ◌∷◌, [], ℕ, List, ◌+◌, take, sym, ap, subst, ◌∙◌, arith}
-use Rattle.std.proofs.lemmas.List.{flat_map_more, take_more}
-use Rattle.std.proofs.lemmas.List.Elements.{All-more}
-use Rattle.fs_nlri.specs.Parts.{Ruled}
-use Rattle.fs_nlri.specs.Rule.{IsRule, canonical_frame}
-use Rattle.fs_attrs.specs.Texts.{rules_text}
+use Rattle.fs_attrs.proofs.Words.{◌≡◌, ◌++◌, ◌∷◌, [], ℕ, List, ◌+◌, take, sym, ap, subst, ◌∙◌, arith, flat_map_more, take_more, All-more, Ruled, IsRule, canonical_frame, rules_text}
 use Rattle.fs_attrs.proofs.texts.append_rules.Goals as goal
 
 pub loop-rule-preserved : goal.loop-rule-preserved

@@ -1,6 +1,4 @@
-use Rattle.std.proofs.Common.{◌≡◌, ◌++◌, take, All}
-use Rattle.fs_nlri.specs.Rule.{IsRule}
-use Rattle.fs_attrs.specs.Texts.{rules_text}
+use Rattle.fs_attrs.proofs.Words.{◌≡◌, ◌++◌, take, All, IsRule, rules_text}
 use Rattle.fs_attrs.proofs.texts.append_rules.Given as goal
 
 abbrev pub invariant-loop-rule : goal.invariant-loop-rule

@@ -1,9 +1,4 @@
-use Rattle.std.proofs.Common.{◌==◌, List, sym, ap, ◌∙◌}
-use Rattle.std.proofs.lemmas.List.Folds.{list_all-map}
-use Rattle.fs_base.specs.Bits.{afi_of}
-use Rattle.fs_nlri.specs.Rule.{shown}
-use Rattle.fs_attrs.specs.Prefixes.{Shown}
-use Rattle.fs_attrs.specs.Writable.{are_prefixes_of}
+use Rattle.fs_attrs.proofs.Words.{◌==◌, List, sym, ap, ◌∙◌, list_all-map, afi_of, shown, Shown, are_prefixes_of}
 use Rattle.fs_attrs.proofs.writable.are_of.Goals as goal
 
 pub returns : goal.returns

@@ -1,5 +1,4 @@
-use Rattle.std.proofs.Common.{◌≡◌, ◌-◌, ◌^◌, ap, ◌∙◌, arith}
-use Rattle.std.proofs.lemmas.Nat.Bits.{ones_shr}
+use Rattle.fs_base.proofs.Words.{◌≡◌, ◌-◌, ◌^◌, ap, ◌∙◌, arith, ones_shr}
 use Rattle.fs_base.proofs.bits.ones.Goals as goal
 
 pub returns : goal.returns

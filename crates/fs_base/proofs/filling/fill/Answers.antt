@@ -1,5 +1,4 @@
-use Rattle.std.proofs.Common.{rules, arith}
-use Rattle.fs_base.specs.Draws.{PassesIn}
+use Rattle.fs_base.proofs.Words.{rules, arith, PassesIn}
 use Rattle.fs_base.proofs.Filled.{fills_more}
 use Rattle.fs_base.proofs.Passing.{passes_in}
 use Rattle.fs_base.proofs.filling.fill.Goals as goal

@@ -1,5 +1,4 @@
-use Rattle.std.proofs.Common.{rules, arith, sym, inl, inr, refl, ◌≡◌, ◌≤◌, ◌+◌}
-use Rattle.fs_base.specs.Draws.{PassesIn}
+use Rattle.fs_base.proofs.Words.{rules, arith, sym, inl, inr, refl, ◌≡◌, ◌≤◌, ◌+◌, PassesIn}
 use Rattle.fs_base.proofs.Filled.{dropped_more, filled_more, none_read}
 use Rattle.fs_base.proofs.Passing.{passes_in}
 use Rattle.fs_base.proofs.filling.fill_rest.Goals as goal

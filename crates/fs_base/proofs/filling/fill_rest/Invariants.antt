@@ -1,5 +1,4 @@
-use Rattle.std.proofs.Common.{◌≡◌, ◌≤◌, ◌+◌, ◌-◌, ◌++◌, [], drop, length, IsTrue}
-use Rattle.fs_base.specs.Draws.{PassesIn}
+use Rattle.fs_base.proofs.Words.{◌≡◌, ◌≤◌, ◌+◌, ◌-◌, ◌++◌, [], drop, length, IsTrue, PassesIn}
 use Rattle.fs_base.proofs.Filled.{Filled}
 use Rattle.fs_base.proofs.filling.fill_rest.Given as goal
 

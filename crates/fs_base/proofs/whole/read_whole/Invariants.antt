@@ -1,5 +1,4 @@
-use Rattle.std.proofs.Common.{◌≡◌, ◌≤◌, ◌-◌, ◌++◌, [], length, IsTrue}
-use Rattle.fs_base.specs.Draws.{Passed}
+use Rattle.fs_base.proofs.Words.{◌≡◌, ◌≤◌, ◌-◌, ◌++◌, [], length, IsTrue, Passed}
 use Rattle.fs_base.specs.Files.{OnlySlot}
 use Rattle.fs_base.proofs.whole.read_whole.Given as goal
 

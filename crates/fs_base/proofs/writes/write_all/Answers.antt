@@ -1,5 +1,4 @@
-use Rattle.std.proofs.Common.{rules}
-use Rattle.std.proofs.lemmas.List.{take_rest}
+use Rattle.fs_base.proofs.Words.{rules, take_rest}
 use Rattle.fs_base.proofs.Grew.{on_err}
 use Rattle.fs_base.proofs.Writing.{writing_more, writing_part, writing_some}
 use Rattle.fs_base.proofs.writes.write_all.Goals as goal

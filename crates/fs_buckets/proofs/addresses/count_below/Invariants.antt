@@ -1,5 +1,4 @@
-use Rattle.std.proofs.Common.{◌+◌, ◌≤◌, min}
-use Rattle.fs_buckets.specs.Between.{IsPlaceOf}
+use Rattle.fs_buckets.proofs.Words.{◌+◌, ◌≤◌, min, IsPlaceOf}
 use Rattle.fs_buckets.proofs.addresses.count_below.Given as goal
 
 abbrev pub invariant-loop-number : goal.invariant-loop-number

@@ -1,5 +1,4 @@
-use Rattle.std.proofs.Common.{◌+◌}
-use Rattle.fs_buckets.specs.Between.{IsBetween}
+use Rattle.fs_buckets.proofs.Words.{◌+◌, IsBetween}
 use Rattle.fs_buckets.proofs.addresses.find_in_width.Given as goal
 
 abbrev pub invariant-halves : goal.invariant-halves

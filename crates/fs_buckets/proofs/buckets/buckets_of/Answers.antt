@@ -1,7 +1,4 @@
-use Rattle.std.proofs.Common.{length}
-use Rattle.std.proofs.lemmas.Result.{IfOk-weaker}
-use Rattle.fs_rules.specs.Lent.{all_admitted}
-use Rattle.fs_buckets.specs.Destinations.{spans_of}
+use Rattle.fs_buckets.proofs.Words.{length, IfOk-weaker, all_admitted, spans_of}
 use Rattle.fs_buckets.proofs.Widths.{narrow}
 use Rattle.fs_buckets.proofs.buckets.buckets_of.Goals as goal
 

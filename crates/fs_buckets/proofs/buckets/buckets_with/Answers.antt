@@ -1,7 +1,4 @@
-use Rattle.std.proofs.Common.{ℕ, ◌<◌, List, get_or, length, refl, subst, arith}
-use Rattle.fs_buckets.specs.Addresses.{numbers_in, nodes_in}
-use Rattle.fs_buckets.specs.Buckets.{IsSubnet}
-use Rattle.fs_buckets.specs.Runs.{AreNodes, ArePlain}
+use Rattle.fs_buckets.proofs.Words.{ℕ, ◌<◌, List, get_or, length, refl, subst, arith, numbers_in, nodes_in, IsSubnet, AreNodes, ArePlain}
 use Rattle.fs_buckets.proofs.Running.{housed_from, buckets_from}
 use Rattle.fs_buckets.proofs.buckets.buckets_with.Goals as goal
 

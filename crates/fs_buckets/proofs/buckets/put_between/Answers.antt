@@ -1,5 +1,4 @@
-use Rattle.std.proofs.Common.{ap, ◌∙◌}
-use Rattle.std.specs.List.{splice}
+use Rattle.fs_buckets.proofs.Words.{ap, ◌∙◌, splice}
 use Rattle.std.proofs.IntoIterSteps.{All-taken}
 use Rattle.fs_buckets.proofs.buckets.put_between.Goals as goal
 

@@ -1,5 +1,4 @@
-use Rattle.std.proofs.Common.{◌+◌}
-use Rattle.fs_buckets.specs.Buckets.{AreChanged}
+use Rattle.fs_buckets.proofs.Words.{◌+◌, AreChanged}
 use Rattle.fs_buckets.proofs.buckets.raise.Given as goal
 
 abbrev pub invariant-loop-place : goal.invariant-loop-place

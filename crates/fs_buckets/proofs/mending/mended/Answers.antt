@@ -1,9 +1,4 @@
-use Rattle.std.proofs.Common.{◌≡◌, ℕ, ◌≤◌, Option, Some, is_some, length, sym, ap, subst, ◌∙◌, arith, ◌+◌, ◌-◌}
-use Rattle.std.proofs.lemmas.Result.{IfOk-weaker}
-use Rattle.std.specs.List.{splice}
-use Rattle.fs_rules.specs.Lent.{all_admitted}
-use Rattle.fs_buckets.specs.Destinations.{spans_of, AreTo, target_of}
-use Rattle.fs_buckets.specs.Housed.{AreBucketsOf, HasStretch}
+use Rattle.fs_buckets.proofs.Words.{◌≡◌, ℕ, ◌≤◌, Option, Some, is_some, length, sym, ap, subst, ◌∙◌, arith, ◌+◌, ◌-◌, IfOk-weaker, splice, all_admitted, spans_of, AreTo, target_of, AreBucketsOf, HasStretch}
 use Rattle.fs_buckets.proofs.Replacing.{mended, none_stay, rules_size, same_stay, spans_size, subnet_to}
 use Rattle.fs_buckets.proofs.Stretching.{rest_bare}
 use Rattle.fs_buckets.proofs.mending.mended.Goals as goal

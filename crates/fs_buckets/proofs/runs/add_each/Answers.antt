@@ -1,12 +1,6 @@
-use Rattle.std.proofs.Common.{◌≡◌, ℕ, ◌+◌, ◌-◌, ◌^◌, ◌<◌, Option, Some, None, option_map, List, length, get_or, sym, ap, subst, ◌∙◌, arith}
-use Rattle.std.proofs.lemmas.List.{get_or-map, length-map}
+use Rattle.fs_buckets.proofs.Words.{◌≡◌, ℕ, ◌+◌, ◌-◌, ◌^◌, ◌<◌, Option, Some, None, option_map, List, length, get_or, sym, ap, subst, ◌∙◌, arith, get_or-map, length-map, Ruled, destination_of, shown, Listed, all_admitted, shown_lent, LentRule, span_by, span_of, spans_of}
 use Rattle.fs_base.specs.declared.prefix.Prefix.{Prefix}
 use Rattle.fs_base.specs.Prefix.{last_address}
-use Rattle.fs_nlri.specs.Parts.{Ruled}
-use Rattle.fs_nlri.specs.Rule.{destination_of, shown}
-use Rattle.fs_rules.specs.Lent.{Listed, all_admitted, shown_lent}
-use Rattle.fs_rules.specs.declared.lent.LentRule.{LentRule}
-use Rattle.fs_buckets.specs.Destinations.{span_by, span_of, spans_of}
 use Rattle.fs_buckets.proofs.runs.add_each.Goals as goal
 use Rattle.fs_buckets.proofs.Replacing.{spans_size}
 

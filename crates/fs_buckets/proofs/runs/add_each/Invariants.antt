@@ -1,9 +1,4 @@
-use Rattle.std.proofs.Common.{◌≡◌, ℕ, ◌+◌, Option, List, length}
-use Rattle.fs_rules.specs.Lent.{all_admitted}
-use Rattle.fs_buckets.specs.Addresses.{width_in}
-use Rattle.fs_buckets.specs.Destinations.{spans_of}
-use Rattle.fs_buckets.specs.Housed.{Adds}
-use Rattle.fs_buckets.specs.Runs.{RunsOf}
+use Rattle.fs_buckets.proofs.Words.{◌≡◌, ℕ, ◌+◌, Option, List, length, all_admitted, width_in, spans_of, Adds, RunsOf}
 use Rattle.fs_buckets.proofs.runs.add_each.Given as goal
 
 abbrev pub invariant-loop-admitted : goal.invariant-loop-admitted

@@ -1,5 +1,4 @@
-use Rattle.std.proofs.Common.{◌≡◌, ◌≤◌, length}
-use Rattle.fs_buckets.specs.Runs.{ArePlain}
+use Rattle.fs_buckets.proofs.Words.{◌≡◌, ◌≤◌, length, ArePlain}
 use Rattle.fs_buckets.proofs.runs.fill_parents.Given as goal
 
 abbrev pub invariant-loop-run : goal.invariant-loop-run

@@ -1,10 +1,4 @@
-use Rattle.std.proofs.Common.{◌≡◌, ℕ, ◌+◌, ◌-◌, ◌^◌, ◌<◌, ◌≤◌, Option, Some, None, length, get_or, sym, ap, ap₂, subst, ◌∙◌, arith}
-use Rattle.std.proofs.lemmas.List.{get_or_default}
-use Rattle.fs_buckets.specs.declared.buckets.Buckets.{Buckets}
-use Rattle.fs_buckets.specs.declared.nodes.Node.{Node}
-use Rattle.fs_buckets.specs.Addresses.{numbers_in, nodes_in}
-use Rattle.fs_buckets.specs.Buckets.{node_at}
-use Rattle.fs_buckets.specs.Housed.{span_at}
+use Rattle.fs_buckets.proofs.Words.{◌≡◌, ℕ, ◌+◌, ◌-◌, ◌^◌, ◌<◌, ◌≤◌, Option, Some, None, length, get_or, sym, ap, ap₂, subst, ◌∙◌, arith, get_or_default, Buckets, Node, numbers_in, nodes_in, node_at, span_at}
 use Rattle.fs_buckets.proofs.runs.keep_runs.Goals as goal
 
 -- the addresses of a rule's bucket, as they are read

@@ -1,7 +1,4 @@
-use Rattle.std.proofs.Common.{◌≡◌, ℕ, ◌+◌, Option, List, length}
-use Rattle.fs_buckets.specs.Addresses.{width_in}
-use Rattle.fs_buckets.specs.Housed.{Keeps}
-use Rattle.fs_buckets.specs.Runs.{RunsOf}
+use Rattle.fs_buckets.proofs.Words.{◌≡◌, ℕ, ◌+◌, Option, List, length, width_in, Keeps, RunsOf}
 use Rattle.fs_buckets.proofs.runs.keep_runs.Given as goal
 
 abbrev pub invariant-loop-number : goal.invariant-loop-number

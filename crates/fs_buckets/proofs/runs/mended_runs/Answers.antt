@@ -1,10 +1,4 @@
-use Rattle.std.proofs.Common.{◌≡◌, ◌⊎◌, inl, inr, ℕ, ◌+◌, ◌-◌, ◌<◌, ◌≤◌, Option, None, List, length, get_or, sym, ap, subst, ◌∙◌, arith}
-use Rattle.std.proofs.lemmas.Bool.{cases_lt}
-use Rattle.fs_rules.specs.Lent.{all_admitted}
-use Rattle.fs_rules.specs.declared.lent.LentRule.{LentRule}
-use Rattle.fs_buckets.specs.declared.buckets.Buckets.{Buckets}
-use Rattle.fs_buckets.specs.Destinations.{AreAll, AreNarrow, spans_of}
-use Rattle.fs_buckets.specs.Housed.{Adds, Keeps}
+use Rattle.fs_buckets.proofs.Words.{◌≡◌, ◌⊎◌, inl, inr, ℕ, ◌+◌, ◌-◌, ◌<◌, ◌≤◌, Option, None, List, length, get_or, sym, ap, subst, ◌∙◌, arith, cases_lt, all_admitted, LentRule, Buckets, AreAll, AreNarrow, spans_of, Adds, Keeps}
 use Rattle.fs_buckets.proofs.Replacing.{spans_size}
 use Rattle.fs_buckets.proofs.runs.mended_runs.Goals as goal
 

@@ -1,5 +1,4 @@
-use Rattle.std.proofs.Common.{ℕ, ◌<◌, ◌^◌, get_or, length}
-use Rattle.fs_buckets.specs.Addresses.{node_width, nodes_in}
+use Rattle.fs_buckets.proofs.Words.{ℕ, ◌<◌, ◌^◌, get_or, length, node_width, nodes_in}
 use Rattle.fs_buckets.proofs.Running.{AreNodesTo}
 use Rattle.fs_buckets.proofs.runs.nodes_of.Given as goal
 

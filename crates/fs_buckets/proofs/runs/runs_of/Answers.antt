@@ -1,7 +1,4 @@
-use Rattle.std.proofs.Common.{◌≡◌, ℕ, ◌+◌, Option, None, List, length, get_or, sym, ap, subst, arith}
-use Rattle.fs_rules.specs.Lent.{all_admitted}
-use Rattle.fs_buckets.specs.Destinations.{spans_of, AreNarrow}
-use Rattle.fs_buckets.specs.Housed.{Adds}
+use Rattle.fs_buckets.proofs.Words.{◌≡◌, ℕ, ◌+◌, Option, None, List, length, get_or, sym, ap, subst, arith, all_admitted, spans_of, AreNarrow, Adds}
 use Rattle.fs_buckets.proofs.runs.runs_of.Goals as goal
 
 -- behind no rules stand all

@@ -1,9 +1,4 @@
-use Rattle.std.proofs.Common.{◌∙◌, ◌∷◌, [], ap, refl, sym}
-use Rattle.fs_base.specs.Happened.{happened, with_wire}
-use Rattle.fs_cli.specs.Command.{form_shown}
-use Rattle.cmd_enforce.specs.Command.{Wants}
-use Rattle.cmd_stages.specs.Load.{OpensBoth}
-use Rattle.cmd_wire.specs.Conversation.{conversation}
+use Rattle.fs_cli.proofs.Words.{◌∙◌, ◌∷◌, [], ap, refl, sym, happened, with_wire, form_shown, Wants, OpensBoth, conversation}
 use Rattle.fs_cli.proofs.Running.{enforce_as, one_but, runs_as, survey_as, wants_enforce}
 use Rattle.fs_cli.proofs.program.perform.Goals as goal
 

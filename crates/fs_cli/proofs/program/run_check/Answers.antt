@@ -1,7 +1,4 @@
-use Rattle.std.proofs.Common.{List, ℕ, inl, inr, subst}
-use Rattle.fs_base.specs.Sink.{Grew}
-use Rattle.cmd_stages.proofs.Texts.{said_by}
-use Rattle.fs_cli.specs.Program.{checked}
+use Rattle.fs_cli.proofs.Words.{List, ℕ, inl, inr, subst, Grew, said_by, checked}
 use Rattle.fs_cli.proofs.program.run_check.Goals as goal
 
 pub returns-in-Ok-write_all-clause-checks : goal.returns-in-Ok-write_all-clause-checks

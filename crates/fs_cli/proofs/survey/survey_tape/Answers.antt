@@ -1,13 +1,6 @@
-use Rattle.std.proofs.Common.{◌⊎◌, inl, inr}
+use Rattle.fs_cli.proofs.Words.{◌⊎◌, inl, inr, Rose, Grew-trans, ListsSo, text_for, OpensBoth, untimed, rose_earlier, answered_err, never_zero}
 use Rattle.std.proofs.lemmas.Result.{IfOk-weaker}
-use Rattle.fs_base.specs.Outside.{Rose}
-use Rattle.fs_base.proofs.Grew.{Grew-trans}
-use Rattle.fs_cli.specs.Survey.{ListsSo, text_for}
-use Rattle.cmd_stages.specs.Load.{OpensBoth}
-use Rattle.cmd_stages.specs.Play.{untimed}
-use Rattle.cmd_stages.proofs.Stages.{rose_earlier, answered_err}
 use Rattle.fs_cli.proofs.Surveying.{config_unlisted, tape_unlisted, desk_listed}
-use Rattle.cmd_wire.proofs.Statuses.{never_zero}
 use Rattle.fs_cli.proofs.survey.survey_tape.Goals as goal
 
 pub returns-in_err-config-clause-lists : goal.returns-in_err-config-clause-lists

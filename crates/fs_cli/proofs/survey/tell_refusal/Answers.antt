@@ -1,9 +1,5 @@
-use Rattle.std.proofs.Common.{subst, sym}
-use Rattle.fs_base.specs.Outside.{Rose}
+use Rattle.fs_cli.proofs.Words.{subst, sym, Rose, Fails, Refusal, stopped_text}
 use Rattle.fs_reports.specs.TapeFault.{tape_fault_line}
-use Rattle.cmd_stages.specs.Writing.{Fails}
-use Rattle.cmd_stages.specs.declared.refusal.Refusal.{Refusal}
-use Rattle.fs_cli.specs.Survey.{stopped_text}
 use Rattle.fs_cli.proofs.Surveying.{says_failing}
 use Rattle.fs_cli.proofs.survey.tell_refusal.Goals as goal
 

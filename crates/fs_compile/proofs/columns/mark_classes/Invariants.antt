@@ -1,5 +1,4 @@
-use Rattle.std.proofs.Common.{◌≡◌, ◌<◌, ◌≤◌, ℕ}
-use Rattle.fs_compile.specs.Columns.{Grown, bit_in}
+use Rattle.fs_compile.proofs.Words.{◌≡◌, ◌<◌, ◌≤◌, ℕ, Grown, bit_in}
 use Rattle.fs_compile.proofs.columns.mark_classes.Given as goal
 
 abbrev pub invariant-loop-class : goal.invariant-loop-class

@@ -1,5 +1,4 @@
-use Rattle.std.proofs.Common.{◌≡◌, length}
-use Rattle.fs_compile.specs.Columns.{ArePortsMarked}
+use Rattle.fs_compile.proofs.Words.{◌≡◌, length, ArePortsMarked}
 use Rattle.fs_compile.proofs.columns.mark_ports.Given as goal
 
 abbrev pub invariant-loop-number : goal.invariant-loop-number

@@ -1,6 +1,5 @@
-use Rattle.std.proofs.Common.{◌≡◌, ℕ, true, List, take, sym, ap, subst, ◌∙◌, arith}
+use Rattle.fs_compile.proofs.Words.{◌≡◌, ℕ, true, List, take, sym, ap, subst, ◌∙◌, arith, contains}
 use Rattle.std.proofs.Math.Seq.{take-length}
-use Rattle.fs_ranges.specs.Spans.{contains}
 use Rattle.fs_compile.proofs.Marking.{grown_on, range_more}
 use Rattle.fs_compile.proofs.columns.mark_ranges.Goals as goal
 

@@ -1,6 +1,4 @@
-use Rattle.std.proofs.Common.{◌≡◌, ℕ, true, take}
-use Rattle.fs_compile.specs.Columns.{Grown, IsClass, bit_in}
-use Rattle.fs_ranges.specs.Spans.{contains}
+use Rattle.fs_compile.proofs.Words.{◌≡◌, ℕ, true, take, Grown, IsClass, bit_in, contains}
 use Rattle.fs_compile.proofs.columns.mark_ranges.Given as goal
 
 abbrev pub invariant-loop-range : goal.invariant-loop-range

@@ -1,5 +1,4 @@
-use Rattle.std.proofs.Common.{◌≡◌, length}
-use Rattle.fs_compile.specs.Columns.{AreMarked}
+use Rattle.fs_compile.proofs.Words.{◌≡◌, length, AreMarked}
 use Rattle.fs_compile.proofs.columns.mark_rules.Given as goal
 
 abbrev pub invariant-loop-number : goal.invariant-loop-number

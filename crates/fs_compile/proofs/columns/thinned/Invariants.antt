@@ -1,5 +1,4 @@
-use Rattle.std.proofs.Common.{◌<◌, ◌≤◌, ℕ, get_or, length}
-use Rattle.fs_buckets.specs.Buckets.{AreRising}
+use Rattle.fs_compile.proofs.Words.{◌<◌, ◌≤◌, ℕ, get_or, length, AreRising}
 use Rattle.fs_compile.proofs.columns.thinned.Given as goal
 
 abbrev pub invariant-loop-number : goal.invariant-loop-number

@@ -1,11 +1,4 @@
-use Rattle.std.proofs.Common.{List, IfOk, sym, ap, subst, ◌∙◌}
-use Rattle.std.specs.List.{AllByRecursion}
-use Rattle.fs_rules.specs.Lent.{Listed, all_admitted}
-use Rattle.fs_rules.specs.Table.{admitted}
-use Rattle.fs_compile.specs.Index.{IsIndexOf}
-use Rattle.fs_buckets.specs.Destinations.{IsOfFamily, spans_of}
-use Rattle.fs_buckets.specs.Runs.{AreNesting}
-use Rattle.fs_buckets.proofs.Nesting.{all_of_family, nesting}
+use Rattle.fs_compile.proofs.Words.{List, IfOk, sym, ap, subst, ◌∙◌, AllByRecursion, Listed, all_admitted, admitted, IsIndexOf, IsOfFamily, spans_of, AreNesting, all_of_family, nesting}
 use Rattle.fs_compile.proofs.MatcherMending.{if_ok}
 use Rattle.fs_compile.proofs.compiled.admitted_index.Goals as goal
 

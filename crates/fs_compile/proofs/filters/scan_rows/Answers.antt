@@ -1,6 +1,4 @@
-use Rattle.std.proofs.Common.{◌≡◌, ℕ, ◌+◌, ◌-◌, ◌*◌, ◌/◌, ◌^◌, ◌<◌, ◌≤◌, min, inl, inr, ◌⊎◌, false, get_or, arith}
-use Rattle.std.proofs.lemmas.Bool.{cases_lt}
-use Rattle.fs_compile.specs.Search.{Found, hits}
+use Rattle.fs_compile.proofs.Words.{◌≡◌, ℕ, ◌+◌, ◌-◌, ◌*◌, ◌/◌, ◌^◌, ◌<◌, ◌≤◌, min, inl, inr, ◌⊎◌, false, get_or, arith, cases_lt, Found, hits}
 use Rattle.fs_compile.proofs.Sieving.{set_in_all}
 use Rattle.fs_compile.proofs.Skipping.{words_missed}
 use Rattle.fs_compile.proofs.filters.scan_rows.Goals as goal

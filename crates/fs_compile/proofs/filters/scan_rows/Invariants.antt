@@ -1,5 +1,4 @@
-use Rattle.std.proofs.Common.{◌+◌, ◌-◌, ◌*◌, ◌/◌, ◌^◌, ◌<◌, ◌≤◌, min}
-use Rattle.fs_compile.specs.Search.{Missed, hits}
+use Rattle.fs_compile.proofs.Words.{◌+◌, ◌-◌, ◌*◌, ◌/◌, ◌^◌, ◌<◌, ◌≤◌, min, Missed, hits}
 use Rattle.fs_compile.proofs.filters.scan_rows.Given as goal
 
 abbrev pub invariant-words : goal.invariant-words

@@ -1,7 +1,4 @@
-use Rattle.std.proofs.Common.{◌≡◌, ℕ, ◌+◌, ◌-◌, ◌/◌, ◌^◌, min, ap, sym, subst, ◌∙◌, w64, arith}
-use Rattle.std.specs.Int.{bit_at, trailing_zeros}
-use Rattle.fs_ranges.specs.Fast.{facts_hold}
-use Rattle.fs_compile.specs.Search.{Missed, hits}
+use Rattle.fs_compile.proofs.Words.{◌≡◌, ℕ, ◌+◌, ◌-◌, ◌/◌, ◌^◌, min, ap, sym, subst, ◌∙◌, w64, arith, bit_at, trailing_zeros, facts_hold, Missed, hits}
 use Rattle.fs_compile.proofs.Climbing.{missed_more, test_fails}
 use Rattle.fs_compile.proofs.Sieving.{fits_shifted, left_first, left_next, lowest, missed_all, missed_on, none_marked, test_passes}
 use Rattle.fs_compile.proofs.filters.scan_word.Goals as goal

@@ -1,9 +1,5 @@
-use Rattle.std.proofs.Common.{◌≡◌, length, take, ◌∙◌, length-take-le, arith}
-use Rattle.std.proofs.lemmas.List.{length-map}
-use Rattle.fs_rules.specs.Lent.{all_admitted, shown_lent}
-use Rattle.fs_ranges.specs.Fast.{StandsFor}
+use Rattle.fs_compile.proofs.Words.{◌≡◌, length, take, ◌∙◌, length-take-le, arith, length-map, all_admitted, shown_lent, StandsFor, each_pushed}
 use Rattle.fs_compile.proofs.Indexing.{stand_size}
-use Rattle.fs_buckets.proofs.Pairing.{each_pushed}
 use Rattle.fs_compile.proofs.index.compiled_rules.Goals as goal
 
 pub loop-admitted-preserved : goal.loop-admitted-preserved

@@ -1,6 +1,4 @@
-use Rattle.std.proofs.Common.{take}
-use Rattle.fs_rules.specs.Lent.{all_admitted}
-use Rattle.fs_compile.specs.Index.{StandForEach}
+use Rattle.fs_compile.proofs.Words.{take, all_admitted, StandForEach}
 use Rattle.fs_compile.proofs.index.compiled_rules.Given as goal
 
 abbrev pub invariant-loop-admitted : goal.invariant-loop-admitted

@@ -1,5 +1,4 @@
-use Rattle.std.specs.List.{All}
-use Rattle.fs_compile.specs.Filters.{IsFilter}
+use Rattle.fs_compile.proofs.Words.{All, IsFilter}
 use Rattle.fs_compile.proofs.index.filters_of.Given as goal
 
 abbrev pub invariant-loop-bucket : goal.invariant-loop-bucket

@@ -1,11 +1,5 @@
-use Rattle.std.proofs.Common.{◌≡◌, ◌+◌, ◌++◌, ◌∷◌, [], List, length, sym, ap, subst, arith, ℕ, ◌≤◌}
-use Rattle.std.specs.List.{All, splice}
-use Rattle.std.proofs.lemmas.List.Elements.{All-head, All-push, All-tail}
-use Rattle.fs_ranges.specs.declared.Fast.{Fast}
-use Rattle.fs_compile.specs.declared.filters.Filter.{Filter}
-use Rattle.fs_compile.specs.Filters.{IsFilter}
+use Rattle.fs_compile.proofs.Words.{◌≡◌, ◌+◌, ◌++◌, ◌∷◌, [], List, length, sym, ap, subst, arith, ℕ, ◌≤◌, All, splice, All-head, All-push, All-tail, Fast, Filter, IsFilter, spliced_size}
 use Rattle.fs_compile.proofs.Filtering.{filter_kept, filter_moved}
-use Rattle.fs_buckets.proofs.Splicing.{spliced_size}
 use Rattle.fs_compile.proofs.index.mended_filters.Goals as goal
 
 all_none : (P : Filter → Type 0) → All P []

@@ -1,8 +1,5 @@
-use Rattle.std.proofs.Common.{List}
-use Rattle.std.specs.List.{All}
+use Rattle.fs_compile.proofs.Words.{List, All, Fast, IsFilter}
 use Rattle.std.specs.Vec.Iter.{into_iter_items}
-use Rattle.fs_ranges.specs.declared.Fast.{Fast}
-use Rattle.fs_compile.specs.Filters.{IsFilter}
 use Rattle.fs_compile.proofs.index.mended_filters.Given as goal
 
 abbrev pub invariant-loop-filter : goal.invariant-loop-filter

@@ -1,8 +1,4 @@
-use Rattle.std.proofs.Common.{◌∷◌, List, drop, sym, subst, take}
-use Rattle.std.proofs.lemmas.List.Elements.{All-append, All-cons, All-drop, All-take}
-use Rattle.std.specs.List.{All}
-use Rattle.fs_compile.specs.declared.filters.Filter.{Filter}
-use Rattle.fs_compile.specs.Filters.{IsFilter}
+use Rattle.fs_compile.proofs.Words.{◌∷◌, List, drop, sym, subst, take, All-append, All-cons, All-drop, All-take, All, Filter, IsFilter}
 use Rattle.fs_compile.proofs.index.put_filter.Goals as goal
 
 pub returns-in_ok-insert : goal.returns-in_ok-insert

@@ -1,6 +1,4 @@
-use Rattle.std.proofs.Common.{◌≡◌, ◌++◌, drop}
-use Rattle.fs_rules.specs.Lent.{all_admitted}
-use Rattle.fs_compile.specs.Index.{actions_of}
+use Rattle.fs_compile.proofs.Words.{◌≡◌, ◌++◌, drop, all_admitted, actions_of}
 use Rattle.fs_compile.proofs.index.shared_actions.Given as goal
 
 abbrev pub invariant-loop-admitted : goal.invariant-loop-admitted

@@ -1,8 +1,4 @@
-use Rattle.std.proofs.Common.{◌≡◌, ◌+◌, ◌<◌, ◌≤◌, ℕ, Option, Some, None, length, get_or, max, sym, rules, subst, arith}
-use Rattle.fs_buckets.specs.declared.Node.{Node}
-use Rattle.fs_compile.specs.declared.search.Hit.{Hit}
-use Rattle.fs_buckets.specs.Addresses.{numbers_in, nodes_in}
-use Rattle.fs_compile.specs.Search.{Missed, hit_number, hits, marked, start_at, tested_to}
+use Rattle.fs_compile.proofs.Words.{◌≡◌, ◌+◌, ◌<◌, ◌≤◌, ℕ, Option, Some, None, length, get_or, max, sym, rules, subst, arith, Node, Hit, numbers_in, nodes_in, Missed, hit_number, hits, marked, start_at, tested_to}
 use Rattle.fs_compile.proofs.Counts.{marked_later}
 use Rattle.fs_compile.proofs.Climbing.{climbed_cost, missed_none, parent_ends}
 use Rattle.fs_compile.proofs.search.climb.Goals as goal

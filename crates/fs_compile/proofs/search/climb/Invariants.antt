@@ -1,6 +1,4 @@
-use Rattle.std.proofs.Common.{◌+◌, ◌-◌, ◌<◌, ◌≤◌, List, Bool, get_or, length, max}
-use Rattle.fs_buckets.specs.Addresses.{numbers_in}
-use Rattle.fs_compile.specs.Search.{IsNear, Missed, Within, hits, marked, start_at}
+use Rattle.fs_compile.proofs.Words.{◌+◌, ◌-◌, ◌<◌, ◌≤◌, List, Bool, get_or, length, max, numbers_in, IsNear, Missed, Within, hits, marked, start_at}
 use Rattle.fs_compile.proofs.search.climb.Given as goal
 
 abbrev pub invariant-loop-bucket : goal.invariant-loop-bucket

@@ -1,6 +1,4 @@
-use Rattle.std.proofs.Common.{◌<◌, ◌≤◌, length, ap, ◌∙◌, arith}
-use Rattle.fs_ranges.specs.Fast.{facts_hold}
-use Rattle.fs_compile.specs.Search.{hits}
+use Rattle.fs_compile.proofs.Words.{◌<◌, ◌≤◌, length, ap, ◌∙◌, arith, facts_hold, hits}
 use Rattle.fs_compile.proofs.Climbing.{missed_more, test_fails}
 use Rattle.fs_compile.proofs.search.scan.Goals as goal
 

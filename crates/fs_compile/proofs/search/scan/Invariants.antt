@@ -1,5 +1,4 @@
-use Rattle.std.proofs.Common.{◌+◌, ◌-◌, ◌≤◌, min}
-use Rattle.fs_compile.specs.Search.{Missed, hits}
+use Rattle.fs_compile.proofs.Words.{◌+◌, ◌-◌, ◌≤◌, min, Missed, hits}
 use Rattle.fs_compile.proofs.search.scan.Given as goal
 
 abbrev pub invariant-loop-number : goal.invariant-loop-number

@@ -1,7 +1,4 @@
-use Rattle.std.proofs.Common.{◌<◌, ◌≤◌, ℕ, length, max, ap, subst, arith}
-use Rattle.fs_buckets.specs.declared.Node.{Node}
-use Rattle.fs_buckets.specs.Addresses.{numbers_in, nodes_in}
-use Rattle.fs_compile.specs.Search.{hits, marked, parent_at, start_at}
+use Rattle.fs_compile.proofs.Words.{◌<◌, ◌≤◌, ℕ, length, max, ap, subst, arith, Node, numbers_in, nodes_in, hits, marked, parent_at, start_at}
 use Rattle.fs_compile.proofs.Climbing.{found_inside, next_starts, searched_found, searched_steps, skipped_cost, skipped_up}
 use Rattle.fs_compile.proofs.search.scan_bucket.Goals as goal
 

@@ -1,5 +1,4 @@
-use Rattle.std.proofs.Common.{◌≡◌, length}
-use Rattle.fs_conf.specs.Config.{are_distinct}
+use Rattle.fs_conf.proofs.Words.{◌≡◌, length, are_distinct}
 use Rattle.fs_conf.proofs.config.have_distinct_numbers.Given as goal
 
 -- the peers passed have no double, of themselves and of those left

@@ -1,5 +1,4 @@
-use Rattle.std.proofs.Common.{sym, ◌∙◌, arith}
-use Rattle.fs_conf.specs.Config.{peer_of_data}
+use Rattle.fs_conf.proofs.Words.{sym, ◌∙◌, arith, peer_of_data}
 use Rattle.fs_conf.proofs.Items.{item_read}
 use Rattle.fs_conf.proofs.config.read_peers.Goals as goal
 

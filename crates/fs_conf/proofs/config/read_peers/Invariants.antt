@@ -1,6 +1,4 @@
-use Rattle.std.proofs.Common.{◌≡◌, ◌++◌, drop, option_map}
-use Rattle.toml.specs.View.{items_view}
-use Rattle.fs_conf.specs.Config.{peers_of_items}
+use Rattle.fs_conf.proofs.Words.{◌≡◌, ◌++◌, drop, option_map, items_view, peers_of_items}
 use Rattle.fs_conf.proofs.config.read_peers.Given as goal
 
 -- the peers so far stand before those of the items left

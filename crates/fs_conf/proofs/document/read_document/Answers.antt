@@ -1,11 +1,7 @@
 -- The octets are UTF-8 by std's relation where they are by its test.
-use Rattle.std.proofs.Common.{◌≡◌, Bool, true, false, List, ℕ, Some, None, refl}
+use Rattle.fs_conf.proofs.Words.{◌≡◌, Bool, true, false, List, ℕ, Some, None, refl, IsUtf8, is_utf8, Members, table_view, document_of}
 use Rattle.std.proofs.lemmas.Str.{is_utf8-from_IsUtf8, IsUtf8-from_is_utf8}
-use Rattle.std.specs.Str.{IsUtf8, is_utf8}
-use Rattle.toml.specs.Data.{Members}
 use Rattle.toml.specs.Parse.{parse_document}
-use Rattle.toml.specs.View.{table_view}
-use Rattle.fs_conf.specs.Document.{document_of}
 use Rattle.fs_conf.proofs.document.read_document.Goals as goal
 
 by_test : (octets : List ℕ) → ¬ (IsUtf8 octets) → (b : Bool) → is_utf8 octets ≡ b → document_of octets ≡ None

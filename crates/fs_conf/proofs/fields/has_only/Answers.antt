@@ -1,11 +1,6 @@
 -- The map's keys are the members' keys.
-use Rattle.std.proofs.Common.{◌≡◌, ℕ, ◌∙◌, ap, ◌||◌, List, [], ◌∷◌, map, String, Global, string_bytes, Bor, refl}
-use Rattle.std.specs.List.{list_all, list_any}
+use Rattle.fs_conf.proofs.Words.{◌≡◌, ℕ, ◌∙◌, ap, ◌||◌, List, [], ◌∷◌, map, String, Global, string_bytes, Bor, refl, list_all, list_any, bytes_eq, members_view, Value, keys_among}
 use Rattle.std.specs.Map.{keys_of}
-use Rattle.std.specs.Str.{bytes_eq}
-use Rattle.toml.specs.View.{members_view}
-use Rattle.toml.specs.declared.value.Value.{Value}
-use Rattle.fs_conf.specs.Fields.{keys_among}
 use Rattle.fs_conf.proofs.fields.has_only.Goals as goal
 
 any_now : (names : List (Bor (List ℕ))) (key : List ℕ)

@@ -1,10 +1,6 @@
-use Rattle.std.proofs.Common.{◌≡◌, ◌+◌, Bool, false, true, rules, arith, refl, sym, ap, ◌∙◌, List, [], ◌∷◌, drop}
+use Rattle.fs_conf.proofs.Words.{◌≡◌, ◌+◌, Bool, false, true, rules, arith, refl, sym, ap, ◌∙◌, List, [], ◌∷◌, drop, drop_more, Ruled, Sent, has_seen}
 use Rattle.std.specs.BTreeSet.{BTreeSet}
-use Rattle.std.proofs.lemmas.List.{drop_more}
-use Rattle.fs_nlri.specs.Parts.{Ruled}
 use Rattle.fs_order.specs.declared.ranked.Ranked.{Ranked}
-use Rattle.fs_speaker.specs.declared.Sent.{Sent}
-use Rattle.fs_conf.specs.Rules.{has_seen}
 use Rattle.fs_conf.proofs.Single.{are_fresh, fresh_none, fresh_more}
 use Rattle.fs_conf.proofs.rules.are_single.Goals as goal
 

@@ -1,5 +1,4 @@
-use Rattle.std.proofs.Common.{◌≡◌, drop}
-use Rattle.fs_conf.specs.Rules.{are_single, has_seen}
+use Rattle.fs_conf.proofs.Words.{◌≡◌, drop, are_single, has_seen}
 use Rattle.fs_conf.proofs.Single.{are_fresh}
 use Rattle.fs_conf.proofs.rules.are_single.Given as goal
 

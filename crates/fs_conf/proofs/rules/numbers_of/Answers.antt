@@ -1,5 +1,4 @@
-use Rattle.std.proofs.Common.{sym, ◌∙◌, arith}
-use Rattle.fs_conf.specs.Rules.{number_of}
+use Rattle.fs_conf.proofs.Words.{sym, ◌∙◌, arith, number_of}
 use Rattle.fs_conf.proofs.Items.{item_read}
 use Rattle.fs_conf.proofs.rules.numbers_of.Goals as goal
 

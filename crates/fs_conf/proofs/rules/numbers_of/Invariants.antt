@@ -1,7 +1,4 @@
-use Rattle.std.proofs.Common.{◌≡◌, ◌++◌, drop, option_map}
-use Rattle.toml.specs.View.{items_view}
-use Rattle.fs_conf.specs.Document.{each_item}
-use Rattle.fs_conf.specs.Rules.{number_of}
+use Rattle.fs_conf.proofs.Words.{◌≡◌, ◌++◌, drop, option_map, items_view, each_item, number_of}
 use Rattle.fs_conf.proofs.rules.numbers_of.Given as goal
 
 -- the numbers so far stand before those of the items left

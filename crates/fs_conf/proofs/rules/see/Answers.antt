@@ -1,8 +1,4 @@
-use Rattle.std.proofs.Common.{◌≡◌, Bool, true, false, cond, not, ◌||◌, refl, ap, ◌∙◌}
-use Rattle.std.specs.Ordering.{is_eq}
-use Rattle.fs_nlri.specs.Parts.{Ruled}
-use Rattle.fs_order.specs.Comparison.{rule_cmp}
-use Rattle.fs_conf.specs.Rules.{has_seen}
+use Rattle.fs_conf.proofs.Words.{◌≡◌, Bool, true, false, cond, not, ◌||◌, refl, ap, ◌∙◌, is_eq, Ruled, rule_cmp, has_seen}
 use Rattle.fs_conf.proofs.rules.see.Goals as goal
 
 either : (b x : Bool) → cond b true x ≡ (b || x)

@@ -1,5 +1,4 @@
-use Rattle.std.proofs.Common.{◌∙◌, arith}
-use Rattle.fs_conf.specs.Sent.{sent_of_data}
+use Rattle.fs_conf.proofs.Words.{◌∙◌, arith, sent_of_data}
 use Rattle.fs_conf.proofs.Items.{item_read}
 use Rattle.fs_conf.proofs.rules.sents_of.Goals as goal
 

@@ -1,7 +1,4 @@
-use Rattle.std.proofs.Common.{◌≡◌, ◌++◌, drop, option_map}
-use Rattle.toml.specs.View.{items_view}
-use Rattle.fs_conf.specs.Document.{each_item}
-use Rattle.fs_conf.specs.Sent.{sent_of_data}
+use Rattle.fs_conf.proofs.Words.{◌≡◌, ◌++◌, drop, option_map, items_view, each_item, sent_of_data}
 use Rattle.fs_conf.proofs.rules.sents_of.Given as goal
 
 -- the rules so far stand before those of the items left

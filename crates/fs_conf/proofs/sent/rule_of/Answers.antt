@@ -1,6 +1,4 @@
-use Rattle.std.proofs.Common.{ℕ, ◌<◌, rules, arith}
-use Rattle.std.proofs.lemmas.List.Elements.{All-from_get_or}
-use Rattle.fs_base.specs.Language.{IsOctets}
+use Rattle.fs_conf.proofs.Words.{ℕ, ◌<◌, rules, arith, All-from_get_or, IsOctets}
 use Rattle.fs_conf.proofs.OneRule.{one_frame, goes_on, bad_frame}
 use Rattle.fs_conf.proofs.sent.rule_of.Goals as goal
 

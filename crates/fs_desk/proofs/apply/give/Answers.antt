@@ -1,10 +1,5 @@
-use Rattle.std.proofs.Common.{◌++◌, Option, Some, sym, subst}
-use Rattle.std.specs.List.{AllByRecursion}
-use Rattle.fs_base.proofs.Lists.{each_append}
-use Rattle.fs_attrs.specs.Lists.{IsPrefix}
+use Rattle.fs_desk.proofs.Words.{◌++◌, Option, Some, sym, subst, AllByRecursion, each_append, IsPrefix, unicast_in, flows_in, Announces, rules_given}
 use Rattle.fs_attrs.specs.declared.update.Routes.{Routes}
-use Rattle.fs_attrs.specs.Update.{unicast_in, flows_in}
-use Rattle.fs_desk.specs.Apply.{Announces, rules_given}
 use Rattle.fs_desk.proofs.ChangesJoined.{on_ok, given_join}
 use Rattle.fs_desk.proofs.Telling.{tells_then}
 use Rattle.fs_desk.proofs.apply.give.Goals as goal

@@ -1,5 +1,4 @@
-use Rattle.fs_desk.specs.Apply.{Changes, same, rules_given}
-use Rattle.fs_desk.specs.Watched.{Tells}
+use Rattle.fs_desk.proofs.Words.{Changes, same, rules_given, Tells}
 use Rattle.fs_desk.proofs.apply.give_copies.Given as goal
 
 abbrev pub invariant-loop-rule : goal.invariant-loop-rule

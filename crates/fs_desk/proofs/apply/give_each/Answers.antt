@@ -1,7 +1,4 @@
-use Rattle.std.proofs.Common.{List, map, take, Some, subst, sym, refl}
-use Rattle.fs_nlri.specs.Rule.{shown}
-use Rattle.fs_attrs.specs.Prefixes.{Shown}
-use Rattle.fs_desk.specs.Apply.{Changes, same, given_at}
+use Rattle.fs_desk.proofs.Words.{List, map, take, Some, subst, sym, refl, shown, Shown, Changes, same, given_at}
 use Rattle.fs_desk.proofs.Telling.{tells_none, tells_then}
 use Rattle.fs_desk.proofs.ChangesJoined.{changes_none, prefixes_more, shown_more}
 use Rattle.fs_desk.proofs.TableChanges.{given_to}

@@ -1,7 +1,4 @@
-use Rattle.std.proofs.Common.{map, take}
-use Rattle.fs_nlri.specs.Rule.{shown}
-use Rattle.fs_desk.specs.Apply.{Changes, same, taken_of}
-use Rattle.fs_desk.specs.Watched.{Tells}
+use Rattle.fs_desk.proofs.Words.{map, take, shown, Changes, same, taken_of, Tells}
 use Rattle.fs_desk.proofs.apply.withdraw_each.Given as goal
 
 abbrev pub invariant-loop-prefix : goal.invariant-loop-prefix

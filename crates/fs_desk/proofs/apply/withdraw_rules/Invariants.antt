@@ -1,5 +1,4 @@
-use Rattle.fs_desk.specs.Apply.{Changes, same, rules_taken}
-use Rattle.fs_desk.specs.Watched.{Tells}
+use Rattle.fs_desk.proofs.Words.{Changes, same, rules_taken, Tells}
 use Rattle.fs_desk.proofs.apply.withdraw_rules.Given as goal
 
 abbrev pub invariant-loop-rule : goal.invariant-loop-rule

@@ -1,8 +1,4 @@
-use Rattle.std.proofs.Common.{◌++◌, List, ℕ, sym, subst, ap, ◌∙◌, is_some}
-use Rattle.std.proofs.lemmas.List.{take_rest}
-use Rattle.fs_base.proofs.Options.{some_there, none_there}
-use Rattle.fs_desk.specs.Limit.{bounded_replies_from}
-use Rattle.fs_desk.specs.Receive.{Comes, IsReplyingMore, HasTaken}
+use Rattle.fs_desk.proofs.Words.{◌++◌, List, ℕ, sym, subst, ap, ◌∙◌, is_some, take_rest, some_there, none_there, bounded_replies_from, Comes, IsReplyingMore, HasTaken}
 use Rattle.fs_desk.proofs.Coming.{comes_all, comes_none, comes_shut, comes_then}
 use Rattle.fs_desk.proofs.Pieces.{taken_none, taken_more_of, taken_all, up_ended}
 use Rattle.fs_desk.proofs.Replies.{replying_none, replying_more, replying_all, replied_to, replied_ended, extends_none, extends_then}

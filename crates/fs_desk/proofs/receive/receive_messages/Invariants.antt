@@ -1,10 +1,4 @@
-use Rattle.std.proofs.Common.{◌≡◌, ℕ, List, ◌++◌, length, None}
-use Rattle.fs_base.specs.declared.config.Config.{Config}
-use Rattle.fs_base.specs.declared.config.Peer.{Peer}
-use Rattle.fs_desk.specs.Leaves.{IsListed}
-use Rattle.fs_desk.specs.Limit.{bounded_replies_from}
-use Rattle.fs_desk.specs.Receive.{IsUp, HasTaken, Extends, IsReplyingMore, Comes}
-use Rattle.fs_desk.specs.Watched.{Tells}
+use Rattle.fs_desk.proofs.Words.{◌≡◌, ℕ, List, ◌++◌, length, None, Config, Peer, IsListed, bounded_replies_from, IsUp, HasTaken, Extends, IsReplyingMore, Comes, Tells}
 use Rattle.fs_desk.proofs.receive.receive_messages.Given as goal
 
 abbrev pub invariant-messages : goal.invariant-messages

@@ -1,8 +1,4 @@
-use Rattle.std.proofs.Common.{Option, refl, subst, sym, ◌∙◌}
-use Rattle.fs_attrs.specs.declared.update.Update.{Update}
-use Rattle.fs_speaker.specs.Side.{reply_at}
-use Rattle.fs_speaker.specs.Session.{Does, step_with}
-use Rattle.fs_desk.specs.Limit.{too_many}
+use Rattle.fs_desk.proofs.Words.{Option, refl, subst, sym, ◌∙◌, Update, reply_at, Does, step_with, too_many}
 use Rattle.fs_desk.proofs.Coming.{comes_applied, comes_fed, comes_nothing, comes_shut}
 use Rattle.fs_desk.proofs.Pieces.{fed_none, fed_update, fed_ceased, fed_closed, not_memory}
 use Rattle.fs_desk.proofs.Replies.{replies_taken, replies_update, replies_ceased, replies_closed, replies_nothing, extends_fed, extends_then}

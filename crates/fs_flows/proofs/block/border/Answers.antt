@@ -1,7 +1,4 @@
-use Rattle.std.proofs.Common.{◌≡◌, ◌≤◌, ◌/◌, sym, ap, subst, ◌∙◌, length, take, drop, arith}
-use Rattle.fs_validate.specs.declared.route.FlowRoute.{FlowRoute}
-use Rattle.fs_flows.specs.Blocks.{AllBefore}
-use Rattle.fs_flows.specs.Group.{place_in}
+use Rattle.fs_flows.proofs.Words.{◌≡◌, ◌≤◌, ◌/◌, sym, ap, subst, ◌∙◌, length, take, drop, arith, FlowRoute, AllBefore, place_in}
 use Rattle.fs_flows.proofs.BlockOfRule.{apart_at, place_up_to}
 use Rattle.fs_flows.proofs.block.border.Goals as goal
 

@@ -1,5 +1,4 @@
-use Rattle.std.proofs.Common.{rules, of_calls}
-use Rattle.std.proofs.lemmas.List.Sorted.{IsPartitionPoint-from_clause}
+use Rattle.fs_flows.proofs.Words.{rules, of_calls, IsPartitionPoint-from_clause}
 use Rattle.fs_flows.proofs.KeyPlaces.{is_after, partitioned, place_from}
 use Rattle.fs_flows.proofs.block.place_of.Goals as goal
 

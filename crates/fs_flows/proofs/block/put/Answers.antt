@@ -1,6 +1,4 @@
-use Rattle.std.proofs.Common.{not, ◌≡◌, sym, ◌∙◌, ap, ap₂, insert, set, slice_get}
-use Rattle.fs_validate.specs.declared.route.FlowRoute.{FlowRoute}
-use Rattle.fs_flows.specs.Group.{has_key_at, place_in}
+use Rattle.fs_flows.proofs.Words.{not, ◌≡◌, sym, ◌∙◌, ap, ap₂, insert, set, slice_get, FlowRoute, has_key_at, place_in}
 use Rattle.fs_flows.proofs.Placing.{put_over, put_into, any_here}
 use Rattle.fs_flows.proofs.block.put.Goals as goal
 

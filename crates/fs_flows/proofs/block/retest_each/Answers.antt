@@ -1,7 +1,4 @@
-use Rattle.std.proofs.Common.{◌↔◌, ◌||◌, false, refl, subst, ◌≡◌, ◌<◌, ◌+◌, ap, ◌∙◌, set, get_or, length, take, map, drop, ◌++◌, arith}
-use Rattle.std.proofs.lemmas.List.{take_all}
-use Rattle.std.proofs.lemmas.List.Edits.{map_over_more}
-use Rattle.fs_flows.specs.Group.{IsJudged, AreJudged, rejudged}
+use Rattle.fs_flows.proofs.Words.{◌↔◌, ◌||◌, false, refl, subst, ◌≡◌, ◌<◌, ◌+◌, ap, ◌∙◌, set, get_or, length, take, map, drop, ◌++◌, arith, take_all, map_over_more, IsJudged, AreJudged, rejudged}
 use Rattle.fs_flows.proofs.Mending.{told_next}
 use Rattle.fs_flows.proofs.Placing.{get_or_again}
 use Rattle.fs_flows.proofs.block.retest_each.Goals as goal

@@ -1,5 +1,4 @@
-use Rattle.std.proofs.Common.{◌≡◌, ◌↔◌, false, map, take, drop, ◌++◌}
-use Rattle.fs_flows.specs.Group.{AreJudged, rejudged}
+use Rattle.fs_flows.proofs.Words.{◌≡◌, ◌↔◌, false, map, take, drop, ◌++◌, AreJudged, rejudged}
 use Rattle.fs_flows.proofs.block.retest_each.Given as goal
 
 abbrev pub invariant-loop-k : goal.invariant-loop-k

@@ -1,6 +1,4 @@
-use Rattle.std.proofs.Common.{rules, of_calls}
-use Rattle.std.proofs.lemmas.List.Sorted.{IsPartitionPoint-from_clause}
-use Rattle.fs_flows.specs.Blocks.{begins_by}
+use Rattle.fs_flows.proofs.Words.{rules, of_calls, IsPartitionPoint-from_clause, begins_by}
 use Rattle.fs_flows.proofs.BlockOfRule.{later_parts, later_from}
 use Rattle.fs_flows.proofs.KeyPlaces.{tail_is}
 use Rattle.fs_flows.proofs.group.block_of.Goals as goal

@@ -1,5 +1,4 @@
-use Rattle.std.proofs.Common.{sym, ap, subst, ◌∙◌, arith}
-use Rattle.fs_flows.specs.Blocks.{flat, IsCut}
+use Rattle.fs_flows.proofs.Words.{sym, ap, subst, ◌∙◌, arith, flat, IsCut}
 use Rattle.fs_flows.proofs.Cutting.{sorted_each, sorted_at, can_cut, border_at, flat_cut, cut_cut, either_way}
 use Rattle.fs_flows.proofs.group.cut.Goals as goal
 

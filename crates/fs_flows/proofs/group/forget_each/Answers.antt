@@ -1,7 +1,6 @@
-use Rattle.std.proofs.Common.{rules}
+use Rattle.fs_flows.proofs.Words.{rules, is_of_other}
 use Rattle.fs_flows.proofs.Cutting.{retained_blocks}
 use Rattle.fs_flows.proofs.group.forget_each.Goals as goal
-use Rattle.fs_flows.specs.Group.{is_of_other}
 
 pub returns : goal.returns
 returns c = retained_blocks _ (is_of_other c.args.peer) _ (λ v b f' w k. search rules) _ _ c.retain_mut.ensures.filtered

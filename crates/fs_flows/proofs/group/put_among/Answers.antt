@@ -1,8 +1,4 @@
-use Rattle.std.proofs.Common.{◌<◌, sym, ap, subst, ◌∙◌, not, length, set, arith}
-use Rattle.std.proofs.lemmas.Grind.{common_steps}
-use Rattle.fs_validate.specs.declared.route.FlowRoute.{FlowRoute}
-use Rattle.fs_flows.specs.Group.{AreSorted, routes_of}
-use Rattle.fs_flows.specs.Blocks.{flat, IsCut}
+use Rattle.fs_flows.proofs.Words.{◌<◌, sym, ap, subst, ◌∙◌, not, length, set, arith, common_steps, FlowRoute, AreSorted, routes_of, flat, IsCut}
 use Rattle.fs_flows.proofs.Cutting.{Around, sorted_each, sorted_at, around_from, flat_put, cut_put, sorted_put, any_block}
 use Rattle.fs_flows.proofs.group.put_among.Goals as goal
 

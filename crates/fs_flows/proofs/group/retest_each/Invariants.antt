@@ -1,6 +1,4 @@
-use Rattle.std.proofs.Common.{◌≡◌, ◌↔◌, false, map, take, drop, ◌++◌}
-use Rattle.std.specs.List.{AllByRecursion}
-use Rattle.fs_flows.specs.Group.{AreJudged, rejudged}
+use Rattle.fs_flows.proofs.Words.{◌≡◌, ◌↔◌, false, map, take, drop, ◌++◌, AllByRecursion, AreJudged, rejudged}
 use Rattle.fs_flows.proofs.group.retest_each.Given as goal
 
 abbrev pub invariant-loop-block : goal.invariant-loop-block

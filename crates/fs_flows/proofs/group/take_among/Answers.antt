@@ -1,9 +1,6 @@
-use Rattle.std.proofs.Common.{◌≡◌, ◌<◌, true, false, refl, sym, ap, subst, ◌∙◌, length, filter, set, remove, ◌==◌, arith}
-use Rattle.std.proofs.lemmas.Grind.{common_steps}
-use Rattle.fs_flows.specs.Blocks.{flat, IsCut}
+use Rattle.fs_flows.proofs.Words.{◌≡◌, ◌<◌, true, false, refl, sym, ap, subst, ◌∙◌, length, filter, set, remove, ◌==◌, arith, common_steps, flat, IsCut, is_other_key}
 use Rattle.fs_flows.proofs.Cutting.{Around, sorted_each, sorted_at, around_from, flat_take, flat_remove, cut_left, cut_remove, any_block}
 use Rattle.fs_flows.proofs.group.take_among.Goals as goal
-use Rattle.fs_flows.specs.Group.{is_other_key}
 
 pub take-held-requires : goal.take-held-requires
 take-held-requires c = sorted_at c.args.blocks.now.items c.block_of-number.result c.index_mut-block.result.now (sorted_each c.args.blocks.now.items c.requires.sorted) inside c.index_mut-block.ensures.value where

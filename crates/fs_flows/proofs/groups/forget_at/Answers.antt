@@ -1,10 +1,6 @@
-use Rattle.std.proofs.Common.{◌≡◌, true, false, sym, ◌∙◌, ap, length, filter, ◌==◌}
-use Rattle.std.specs.BTreeMap.{is_at}
-use Rattle.std.specs.Map.{set_value, remove_entry}
-use Rattle.fs_base.specs.Prefix.{prefix_cmp}
+use Rattle.fs_flows.proofs.Words.{◌≡◌, true, false, sym, ◌∙◌, ap, length, filter, ◌==◌, is_at, set_value, remove_entry, prefix_cmp, is_of_other}
 use Rattle.fs_flows.proofs.TakingFromGroups.{taken_some, taken_all, taken_none}
 use Rattle.fs_flows.proofs.groups.forget_at.Goals as goal
-use Rattle.fs_flows.specs.Group.{is_of_other}
 
 pub returns-in_default : goal.returns-in_default
 returns-in_default c = ap (λ m. m.entries) c.get_mut.follows.holds-at-none ∙ taken_none c.args.destination.now (is_of_other c.args.peer) c.args.groups.now.entries (sym c.in_default.ensures.value)

@@ -1,8 +1,4 @@
-use Rattle.std.proofs.Common.{◌≡◌, true, false, sym, ◌∙◌, ap, length, filter, ◌==◌}
-use Rattle.std.specs.BTreeMap.{is_at}
-use Rattle.std.specs.Map.{set_value, remove_entry}
-use Rattle.fs_base.specs.Prefix.{prefix_cmp}
-use Rattle.fs_flows.specs.Group.{AreSorted, routes_of, is_other_key}
+use Rattle.fs_flows.proofs.Words.{◌≡◌, true, false, sym, ◌∙◌, ap, length, filter, ◌==◌, is_at, set_value, remove_entry, prefix_cmp, AreSorted, routes_of, is_other_key}
 use Rattle.fs_flows.proofs.PuttingInGroups.{each_lookup}
 use Rattle.fs_flows.proofs.TakingFromGroups.{taken_some, taken_all, taken_none}
 use Rattle.fs_flows.proofs.groups.take_at.Goals as goal

@@ -1,7 +1,4 @@
-use Rattle.std.proofs.Common.{ap, option_map, ◌∙◌}
-use Rattle.fs_base.specs.declared.path.Path.{Path}
-use Rattle.fs_unicast.specs.Preference.{peer_path}
-use Rattle.fs_validate.specs.Validity.{flow_route, judged}
+use Rattle.fs_flows.proofs.Words.{ap, option_map, ◌∙◌, Path, peer_path, flow_route, judged}
 use Rattle.fs_flows.proofs.route.judged.Goals as goal
 
 pub returns : goal.returns

@@ -1,6 +1,4 @@
-use Rattle.std.proofs.Common.{ap, ◌∙◌}
-use Rattle.fs_base.specs.declared.path.Path.{Path}
-use Rattle.fs_validate.specs.Validity.{flow_route, validity}
+use Rattle.fs_flows.proofs.Words.{ap, ◌∙◌, Path, flow_route, validity}
 use Rattle.fs_flows.proofs.route.validate.Goals as goal
 
 pub returns-clause-validity : goal.returns-clause-validity

@@ -1,7 +1,4 @@
-use Rattle.std.proofs.Common.{◌≡◌, subst}
-use Rattle.std.specs.BTreeMap.Range.{entries_between}
-use Rattle.std.specs.declared.ops.Bound.TheVariants.{Included, Unbounded}
-use Rattle.fs_base.specs.Prefix.{prefix_cmp}
+use Rattle.fs_flows.proofs.Words.{◌≡◌, subst, entries_between, Included, Unbounded, prefix_cmp}
 use Rattle.fs_flows.proofs.Searching.{first_in_range, none_in_range}
 use Rattle.fs_flows.proofs.search.first_from.Goals as goal
 

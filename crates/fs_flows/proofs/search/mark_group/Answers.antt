@@ -1,13 +1,4 @@
-use Rattle.std.proofs.Common.{List, ap, inl, inr, map, subst, sym, ◌∙◌}
-use Rattle.std.specs.BTreeMap.{is_at}
-use Rattle.std.specs.Map.{set_value}
-use Rattle.fs_base.specs.declared.config.Config.{Config}
-use Rattle.fs_base.specs.Prefix.{prefix_cmp}
-use Rattle.fs_unicast.specs.Unicast.{Route}
-use Rattle.fs_flows.specs.Changes.{IsNotedAt}
-use Rattle.fs_flows.specs.Group.{AreRightTo, retested_to}
-use Rattle.fs_flows.specs.Kept.{Kept}
-use Rattle.fs_flows.specs.Search.{moment}
+use Rattle.fs_flows.proofs.Words.{List, ap, inl, inr, map, subst, sym, ◌∙◌, is_at, set_value, Config, prefix_cmp, Route, IsNotedAt, AreRightTo, retested_to, Kept, moment}
 use Rattle.fs_flows.proofs.Mending.{mends_found, mends_missing}
 use Rattle.fs_flows.proofs.search.mark_group.Goals as goal
 

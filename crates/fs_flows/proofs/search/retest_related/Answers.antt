@@ -1,16 +1,4 @@
-use Rattle.std.proofs.Common.{◌≡◌, ◌<◌, ◌≤◌, ◌||◌, Option, Some, None, sym, ◌∙◌, subst, ℕ, true, is_le, List, [], ◌∷◌, Bool, false, length, arith}
-use Rattle.std.specs.Map.{keys_of}
-use Rattle.std.specs.BTreeMap.{is_at}
-use Rattle.std.specs.List.{AllByRecursion}
-use Rattle.fs_base.specs.declared.config.Config.{Config}
-use Rattle.fs_base.specs.declared.prefix.Prefix.{Prefix}
-use Rattle.fs_base.specs.Prefix.{covers, prefix_cmp}
-use Rattle.fs_base.proofs.Bools.{or_false}
-use Rattle.fs_unicast.specs.Unicast.{Route}
-use Rattle.fs_validate.specs.Laws.{is_related}
-use Rattle.fs_flows.specs.Groups.{Entry}
-use Rattle.fs_flows.specs.Changes.{Noted}
-use Rattle.fs_flows.specs.Search.{Mends, IsNextRelated, Moment, moment}
+use Rattle.fs_flows.proofs.Words.{◌≡◌, ◌<◌, ◌≤◌, ◌||◌, Option, Some, None, sym, ◌∙◌, subst, ℕ, true, is_le, List, [], ◌∷◌, Bool, false, length, arith, keys_of, is_at, AllByRecursion, Config, Prefix, covers, prefix_cmp, or_false, Route, is_related, Entry, Noted, Mends, IsNextRelated, Moment, moment}
 use Rattle.fs_flows.proofs.Mending.{Same, mends_none, mends_on, mends_both, mends_keys, along_keys}
 use Rattle.fs_flows.proofs.Searching.{done, none_done, from_first, first_there, all_done, apart_now, one_more_done, none_between, behind_now, next_from, next_there, left, left_falls, IsFrom, IsThere}
 use Rattle.fs_flows.proofs.search.retest_related.Goals as goal

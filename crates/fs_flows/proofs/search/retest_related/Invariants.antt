@@ -1,5 +1,4 @@
-use Rattle.std.specs.Map.{keys_of}
-use Rattle.fs_flows.specs.Search.{Mends, moment}
+use Rattle.fs_flows.proofs.Words.{keys_of, Mends, moment}
 use Rattle.fs_flows.proofs.Searching.{done, IsFrom, IsThere, left}
 use Rattle.fs_flows.proofs.search.retest_related.Given as goal
 

@@ -1,14 +1,8 @@
-use Rattle.std.proofs.Common.{rules, ◌≡◌, ◌+◌, ◌++◌, [], List, ℕ, Option, Ok, Err, true, false, length, refl, ap, subst}
+use Rattle.fs_input.proofs.Words.{rules, ◌≡◌, ◌+◌, ◌++◌, [], List, ℕ, Option, Ok, Err, true, false, length, refl, ap, subst, with_part, straight_draws, Advances, part_in, parts_to_come, IsOver, ahead, passes_as, passes_in}
 use Rattle.std.specs.Option.{option_map}
-use Rattle.fs_base.specs.Parts.{with_part}
-use Rattle.fs_base.proofs.Drawing.{straight_draws}
-use Rattle.fs_input.specs.NextRecord.{Advances}
-use Rattle.fs_input.specs.Coming.{part_in, parts_to_come}
-use Rattle.fs_input.specs.Reads.{IsOver, ahead}
 use Rattle.fs_input.proofs.Advancing.{first_advances, later_advances, over_advances, part_advances, part_reads, some_taken}
 use Rattle.fs_input.proofs.Again.{ahead_here, reads_ahead}
 use Rattle.fs_input.proofs.Lifting.{starts_as}
-use Rattle.fs_base.proofs.Passing.{passes_as, passes_in}
 use Rattle.fs_input.proofs.reading.advance.Goals as goal
 
 pub returns-in-Ok-clause-advances : goal.returns-in-Ok-clause-advances

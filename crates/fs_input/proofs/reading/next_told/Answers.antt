@@ -1,5 +1,4 @@
-use Rattle.std.proofs.Common.{rules}
-use Rattle.fs_base.proofs.Passing.{passes_in}
+use Rattle.fs_input.proofs.Words.{rules, passes_in}
 use Rattle.fs_input.proofs.reading.next_told.Goals as goal
 
 pub parts-preserved : goal.parts-preserved

@@ -1,6 +1,4 @@
-use Rattle.std.proofs.Common.{◌≡◌, ◌≤◌, ◌++◌, ◌-◌, [], None, length, IsTrue}
-use Rattle.fs_input.specs.Coming.{part_in, told_to_come}
-use Rattle.fs_input.specs.Reads.{PassesIn}
+use Rattle.fs_input.proofs.Words.{◌≡◌, ◌≤◌, ◌++◌, ◌-◌, [], None, length, IsTrue, part_in, told_to_come, PassesIn}
 use Rattle.fs_input.proofs.reading.next_told.Given as goal
 
 abbrev pub invariant-parts : goal.invariant-parts

@@ -1,11 +1,7 @@
-use Rattle.std.proofs.Common.{rules, arith, ◌≡◌, ◌∙◌, refl, ◌+◌, ◌-◌, ◌<◌, ◌≤◌, ◌++◌, length, take, drop}
-use Rattle.std.proofs.lemmas.List.{take-append-le, length-take}
-use Rattle.fs_base.specs.Parts.{with_part}
+use Rattle.fs_input.proofs.Words.{rules, arith, ◌≡◌, ◌∙◌, refl, ◌+◌, ◌-◌, ◌<◌, ◌≤◌, ◌++◌, length, take, drop, take-append-le, length-take, with_part, records_to_come, passes_in}
 use Rattle.fs_base.proofs.Filled.{fills_straight, none_left}
-use Rattle.fs_input.specs.Records.{records_to_come}
 use Rattle.fs_input.specs.declared.head.Found.{Found}
 use Rattle.fs_input.proofs.AdvancingRecords.{short_advances, cut_advances}
-use Rattle.fs_base.proofs.Passing.{passes_in}
 use Rattle.fs_input.proofs.Records.{wrong_comes, short_comes, cut_comes, record_comes}
 use Rattle.fs_input.proofs.record.advance.Goals as goal
 

@@ -1,5 +1,4 @@
-use Rattle.std.proofs.Common.{◌≡◌, ◌≤◌, ◌+◌, ◌*◌, ◌++◌, length, take}
-use Rattle.fs_line.specs.declared.kept.TheConstants.{RULE}
+use Rattle.fs_line.proofs.Words.{◌≡◌, ◌≤◌, ◌+◌, ◌*◌, ◌++◌, length, take, RULE}
 use Rattle.fs_line.proofs.Walks.{others_of}
 use Rattle.fs_line.proofs.kept.keep_others.Given as goal
 

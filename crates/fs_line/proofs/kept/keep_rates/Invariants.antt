@@ -1,5 +1,4 @@
-use Rattle.std.proofs.Common.{◌≡◌, ◌≤◌, ◌+◌, ◌*◌, ◌++◌, length, take, drop}
-use Rattle.fs_line.specs.declared.kept.TheConstants.{RATE}
+use Rattle.fs_line.proofs.Words.{◌≡◌, ◌≤◌, ◌+◌, ◌*◌, ◌++◌, length, take, drop, RATE}
 use Rattle.fs_line.proofs.Walks.{acting, rates_of}
 use Rattle.fs_line.proofs.kept.keep_rates.Given as goal
 

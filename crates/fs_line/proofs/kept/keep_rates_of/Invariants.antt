@@ -1,6 +1,4 @@
-use Rattle.std.proofs.Common.{◌≡◌, ◌≤◌, ◌+◌, ◌*◌, ◌++◌, length, take}
-use Rattle.fs_line.specs.declared.kept.TheConstants.{RATE}
-use Rattle.fs_line.specs.Line.{rates_text}
+use Rattle.fs_line.proofs.Words.{◌≡◌, ◌≤◌, ◌+◌, ◌*◌, ◌++◌, length, take, RATE, rates_text}
 use Rattle.fs_line.proofs.kept.keep_rates_of.Given as goal
 
 abbrev pub invariant-loop-action : goal.invariant-loop-action

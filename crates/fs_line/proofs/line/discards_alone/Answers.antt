@@ -1,6 +1,4 @@
-use Rattle.std.proofs.Common.{subst, arith}
-use Rattle.std.proofs.lemmas.List.{take_all}
-use Rattle.fs_line.specs.Line.{SaysDiscard}
+use Rattle.fs_line.proofs.Words.{subst, arith, take_all, SaysDiscard}
 use Rattle.fs_line.proofs.Discarding.{AllDiscard, nonempty, says_discard}
 use Rattle.fs_line.proofs.line.discards_alone.Goals as goal
 

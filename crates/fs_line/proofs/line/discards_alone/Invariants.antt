@@ -1,6 +1,4 @@
-use Rattle.std.proofs.Common.{◌≡◌, true, take}
-use Rattle.std.specs.List.{AllByRecursion}
-use Rattle.fs_actions.specs.Community.{is_discard}
+use Rattle.fs_line.proofs.Words.{◌≡◌, true, take, AllByRecursion, is_discard}
 use Rattle.fs_line.proofs.line.discards_alone.Given as goal
 
 abbrev pub invariant-loop-action : goal.invariant-loop-action

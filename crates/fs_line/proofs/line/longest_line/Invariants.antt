@@ -1,5 +1,4 @@
-use Rattle.std.proofs.Common.{◌≤◌, ◌+◌, ◌*◌, length, take}
-use Rattle.fs_line.specs.declared.kept.TheConstants.{LINE, RATE, RULE}
+use Rattle.fs_line.proofs.Words.{◌≤◌, ◌+◌, ◌*◌, length, take, LINE, RATE, RULE}
 use Rattle.fs_line.specs.declared.output.TheConstants.{CAPACITY}
 use Rattle.fs_line.proofs.Walks.{acting}
 use Rattle.fs_line.proofs.line.longest_line.Given as goal

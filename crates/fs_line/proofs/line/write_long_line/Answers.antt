@@ -1,5 +1,4 @@
-use Rattle.fs_line.specs.Line.{line_of}
-use Rattle.fs_line.specs.Walked.{entries}
+use Rattle.fs_line.proofs.Words.{line_of, entries}
 use Rattle.fs_line.proofs.Outputs.{sends_as, sends_kept, sends_stopped, sends_then}
 use Rattle.fs_line.proofs.Parts.{line_parts}
 use Rattle.fs_line.proofs.line.write_long_line.Goals as goal

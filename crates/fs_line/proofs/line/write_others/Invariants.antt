@@ -1,6 +1,4 @@
-use Rattle.std.proofs.Common.{take}
-use Rattle.fs_line.specs.Line.{others_text}
-use Rattle.fs_line.specs.Walked.{entries, numbers_walked}
+use Rattle.fs_line.proofs.Words.{take, others_text, entries, numbers_walked}
 use Rattle.fs_line.proofs.Outputs.{SentSo}
 use Rattle.fs_line.proofs.line.write_others.Given as goal
 

@@ -1,5 +1,4 @@
-use Rattle.std.proofs.Common.{[]}
-use Rattle.fs_line.specs.Line.{line_of}
+use Rattle.fs_line.proofs.Words.{[], line_of}
 use Rattle.fs_line.proofs.Outputs.{sends_stopped}
 use Rattle.fs_line.proofs.line.write_passed.Goals as goal
 

@@ -1,6 +1,4 @@
-use Rattle.std.proofs.Common.{take}
-use Rattle.fs_line.specs.Line.{rates_text}
-use Rattle.fs_line.specs.Walked.{actions_walked, entries}
+use Rattle.fs_line.proofs.Words.{take, rates_text, actions_walked, entries}
 use Rattle.fs_line.proofs.Outputs.{SentSo}
 use Rattle.fs_line.proofs.line.write_rates.Given as goal
 

@@ -1,5 +1,4 @@
-use Rattle.std.proofs.Common.{[], ◌∷◌, sym, ◌∙◌, ap}
-use Rattle.fs_line.specs.Line.{rates_text}
+use Rattle.fs_line.proofs.Words.{[], ◌∷◌, sym, ◌∙◌, ap, rates_text}
 use Rattle.fs_line.proofs.Outputs.{sends_as, sends_more, sends_nothing, sends_within}
 use Rattle.fs_line.proofs.Walks.{rates_text-append, rates_text-one, rates_text-none}
 use Rattle.fs_line.proofs.line.write_rates_of.Goals as goal

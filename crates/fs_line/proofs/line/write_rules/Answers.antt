@@ -1,5 +1,4 @@
-use Rattle.fs_line.specs.Line.{numbers_text}
-use Rattle.fs_line.specs.Walked.{entries, numbers_walked}
+use Rattle.fs_line.proofs.Words.{numbers_text, entries, numbers_walked}
 use Rattle.fs_line.proofs.Walks.{numbers_from}
 use Rattle.fs_line.proofs.Outputs.{sends_as, sends_kept, sends_stopped, sends_then}
 use Rattle.fs_line.proofs.line.write_rules.Goals as goal

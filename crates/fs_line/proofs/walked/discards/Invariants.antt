@@ -1,7 +1,4 @@
-use Rattle.std.proofs.Common.{◌≡◌, drop}
-use Rattle.std.specs.List.{list_any}
-use Rattle.fs_actions.specs.Community.{is_discard}
-use Rattle.fs_line.specs.Walked.{actions_walked, entries}
+use Rattle.fs_line.proofs.Words.{◌≡◌, drop, list_any, is_discard, actions_walked, entries}
 use Rattle.fs_line.proofs.walked.discards.Given as goal
 
 abbrev pub invariant-loop-rule : goal.invariant-loop-rule

@@ -1,5 +1,4 @@
-use Rattle.std.proofs.Common.{sym, ◌∙◌}
-use Rattle.fs_actions.specs.Community.{mark_of}
+use Rattle.fs_line.proofs.Words.{sym, ◌∙◌, mark_of}
 use Rattle.fs_line.proofs.Walks.{said_there, not_said_there}
 use Rattle.fs_line.proofs.walked.first_mark.Goals as goal
 

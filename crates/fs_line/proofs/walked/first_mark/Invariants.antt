@@ -1,7 +1,4 @@
-use Rattle.std.proofs.Common.{◌≡◌, drop}
-use Rattle.fs_actions.specs.Actions.{first_of}
-use Rattle.fs_actions.specs.Community.{mark_of}
-use Rattle.fs_line.specs.Walked.{actions_walked, entries}
+use Rattle.fs_line.proofs.Words.{◌≡◌, drop, first_of, mark_of, actions_walked, entries}
 use Rattle.fs_line.proofs.walked.first_mark.Given as goal
 
 abbrev pub invariant-loop-rule : goal.invariant-loop-rule

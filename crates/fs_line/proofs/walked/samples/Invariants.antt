@@ -1,7 +1,4 @@
-use Rattle.std.proofs.Common.{◌≡◌, drop}
-use Rattle.std.specs.List.{list_any}
-use Rattle.fs_actions.specs.Community.{has_flag}
-use Rattle.fs_line.specs.Walked.{actions_walked, entries}
+use Rattle.fs_line.proofs.Words.{◌≡◌, drop, list_any, has_flag, actions_walked, entries}
 use Rattle.fs_line.proofs.walked.samples.Given as goal
 
 abbrev pub invariant-loop-rule : goal.invariant-loop-rule

@@ -1,5 +1,4 @@
-use Rattle.std.proofs.Common.{◌≡◌, length}
-use Rattle.fs_message.specs.Capabilities.{gathered}
+use Rattle.fs_message.proofs.Words.{◌≡◌, length, gathered}
 use Rattle.fs_message.proofs.capabilities.read_capabilities.Given as goal
 
 abbrev pub invariant-loop-capability : goal.invariant-loop-capability

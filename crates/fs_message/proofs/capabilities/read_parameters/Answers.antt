@@ -1,7 +1,4 @@
-use Rattle.std.proofs.Common.{◌≡◌, ◌==◌, ◌&&◌, Bool, false, sym, ap, ◌∙◌, arith}
-use Rattle.std.proofs.lemmas.Bool.{ne_eqb}
-use Rattle.fs_message.specs.Capabilities.{Field, field_of, are_fields, is_capability, fields_of}
-use Rattle.std.specs.List.{list_all}
+use Rattle.fs_message.proofs.Words.{◌≡◌, ◌==◌, ◌&&◌, Bool, false, sym, ap, ◌∙◌, arith, ne_eqb, Field, field_of, are_fields, is_capability, fields_of, list_all}
 use Rattle.fs_message.proofs.CapabilityLists.{all_more, all_not, none_gathered, all_end}
 use Rattle.fs_message.proofs.capabilities.read_parameters.Goals as goal
 

@@ -1,5 +1,4 @@
-use Rattle.std.proofs.Common.{◌≡◌, length, []}
-use Rattle.fs_message.specs.Capabilities.{found_in, all_gathered}
+use Rattle.fs_message.proofs.Words.{◌≡◌, length, [], found_in, all_gathered}
 use Rattle.fs_message.proofs.capabilities.read_parameters.Given as goal
 
 abbrev pub invariant-loop-parameter : goal.invariant-loop-parameter

@@ -1,8 +1,4 @@
-use Rattle.std.proofs.Common.{◌≡◌, Some, ap, sym, ◌∙◌, arith}
-use Rattle.std.proofs.lemmas.Bool.Decides.{nat_tests}
-use Rattle.std.proofs.lemmas.Grind.{common_steps}
-use Rattle.fs_message.specs.Header.{fault}
-use Rattle.fs_message.specs.Open.{fields_fault}
+use Rattle.fs_message.proofs.Words.{◌≡◌, Some, ap, sym, ◌∙◌, arith, nat_tests, common_steps, fault, fields_fault}
 use Rattle.fs_message.proofs.CapabilityLists.{fields_right, fields_sized}
 use Rattle.fs_message.proofs.open_.fault_of_fields.Goals as goal
 

@@ -1,5 +1,4 @@
-use Rattle.std.proofs.Common.{rules, ◌≡◌, ◌≤◌, ap, drop, sym, ◌∙◌}
-use Rattle.byteorder.specs.Endian.{big_number}
+use Rattle.fs_mrt.proofs.Words.{rules, ◌≡◌, ◌≤◌, ap, drop, sym, ◌∙◌, big_number}
 use Rattle.fs_mrt.proofs.Messages.{behind_first, message_ends, message_reads}
 use Rattle.fs_mrt.proofs.fields.take_message.Goals as goal
 

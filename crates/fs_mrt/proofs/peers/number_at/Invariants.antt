@@ -1,5 +1,4 @@
-use Rattle.std.proofs.Common.{◌≡◌, None, drop}
-use Rattle.fs_mrt.specs.Peers.{lowest}
+use Rattle.fs_mrt.proofs.Words.{◌≡◌, None, drop, lowest}
 use Rattle.fs_mrt.proofs.peers.number_at.Given as goal
 
 abbrev pub invariant-loop-peer : goal.invariant-loop-peer

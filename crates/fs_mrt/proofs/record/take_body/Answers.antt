@@ -1,8 +1,4 @@
-use Rattle.std.proofs.Common.{rules, ◌≡◌, ap, max, ◌-◌}
-use Rattle.std.specs.Option.{option_map}
-use Rattle.fs_input.proofs.Lifting.{reads_as, reads_ends, reads_then}
-use Rattle.fs_mrt.specs.Dump.{spoken_from}
-use Rattle.fs_mrt.specs.Record.{heard_in, said_at}
+use Rattle.fs_mrt.proofs.Words.{rules, ◌≡◌, ap, max, ◌-◌, option_map, reads_as, reads_ends, reads_then, spoken_from, heard_in, said_at}
 use Rattle.fs_mrt.proofs.Bodies.{body_reads}
 use Rattle.fs_mrt.proofs.record.take_body.Goals as goal
 

@@ -1,10 +1,4 @@
-use Rattle.std.proofs.Common.{rules, ◌≡◌, ◌≤◌, ◌+◌, Some, take, drop, subst, ap, sym, ◌∙◌, Ok}
-use Rattle.byteorder.specs.Endian.{big_number}
-use Rattle.fs_input.specs.Reads.{Reads, calls_of, whole}
-use Rattle.fs_input.specs.Scan.{field}
-use Rattle.fs_mrt.specs.Record.{ends_size}
-use Rattle.fs_mrt.specs.Shape.{family_of, front_size, states_size}
-use Rattle.fs_mrt.specs.declared.fault.DumpReason.TheVariants.{Cut}
+use Rattle.fs_mrt.proofs.Words.{rules, ◌≡◌, ◌≤◌, ◌+◌, Some, take, drop, subst, ap, sym, ◌∙◌, Ok, big_number, Reads, calls_of, whole, field, ends_size, family_of, front_size, states_size, Cut}
 use Rattle.fs_mrt.proofs.Bodies.{front_reads}
 use Rattle.fs_mrt.proofs.Messages.{behind_first}
 use Rattle.fs_mrt.proofs.record.take_front.Goals as goal

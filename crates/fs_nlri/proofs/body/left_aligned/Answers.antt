@@ -1,6 +1,5 @@
-use Rattle.std.proofs.Common.{length, arith}
+use Rattle.fs_nlri.proofs.Words.{length, arith, big_number}
 use Rattle.fs_nlri.proofs.BodyReaders.{aligned_fits, number_small}
-use Rattle.byteorder.specs.Endian.{big_number}
 use Rattle.fs_nlri.proofs.body.left_aligned.Goals as goal
 
 pub returns : goal.returns

@@ -1,11 +1,4 @@
-use Rattle.std.proofs.Common.{◌≡◌, ℕ, List, Some, refl, ap, sym, ◌∙◌}
-use Rattle.fs_base.specs.declared.prefix.Family.{Family}
-use Rattle.fs_base.specs.declared.prefix.Family.TheVariants.{V4, V6}
-use Rattle.fs_nlri.specs.declared.component.Component.{Component}
-use Rattle.fs_nlri.specs.Component.{part_of}
-use Rattle.fs_nlri.specs.Forms.{fragment_bits, kept_bits}
-use Rattle.fs_nlri.specs.Making.{cleared_part}
-use Rattle.fs_nlri.specs.Parts.{ListBody, part}
+use Rattle.fs_nlri.proofs.Words.{◌≡◌, ℕ, List, Some, refl, ap, sym, ◌∙◌, Family, V4, V6, Component, part_of, fragment_bits, kept_bits, cleared_part, ListBody, part}
 use Rattle.fs_nlri.proofs.clearing.clear.Goals as goal
 
 kept : (family : Family) (pairs : List (ℕ × ℕ)) → part 12 (ListBody (kept_bits (Some (fragment_bits family)) pairs)) ≡ cleared_part family (part 12 (ListBody pairs))

@@ -1,6 +1,4 @@
-use Rattle.std.proofs.Common.{◌≡◌}
-use Rattle.fs_nlri.specs.Component.{parts_of}
-use Rattle.fs_nlri.specs.Making.{cleared_parts}
+use Rattle.fs_nlri.proofs.Words.{◌≡◌, parts_of, cleared_parts}
 use Rattle.fs_nlri.proofs.clearing.clear_all.Given as goal
 
 abbrev pub invariant-loop-component : goal.invariant-loop-component

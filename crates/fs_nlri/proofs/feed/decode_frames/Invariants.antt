@@ -1,5 +1,4 @@
-use Rattle.std.proofs.Common.{length}
-use Rattle.fs_nlri.specs.Feed.{Appends}
+use Rattle.fs_nlri.proofs.Words.{length, Appends}
 use Rattle.fs_nlri.proofs.feed.decode_frames.Given as goal
 
 abbrev pub invariant-frames : goal.invariant-frames

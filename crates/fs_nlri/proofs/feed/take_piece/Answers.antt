@@ -1,5 +1,4 @@
-use Rattle.std.proofs.Common.{◌++◌}
-use Rattle.std.proofs.lemmas.Result.{err_from_is_err_and}
+use Rattle.fs_nlri.proofs.Words.{◌++◌, err_from_is_err_and}
 use Rattle.fs_nlri.proofs.Fed.{stops_at_once}
 use Rattle.fs_nlri.proofs.feed.take_piece.Goals as goal
 

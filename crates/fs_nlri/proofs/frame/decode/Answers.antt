@@ -1,5 +1,4 @@
-use Rattle.std.proofs.Common.{arith}
-use Rattle.fs_base.proofs.Octets.{octets_from}
+use Rattle.fs_nlri.proofs.Words.{arith, octets_from}
 use Rattle.fs_nlri.proofs.Frames.{only_read, is_read}
 use Rattle.fs_nlri.proofs.frame.decode.Goals as goal
 

@@ -1,7 +1,4 @@
-use Rattle.std.proofs.Common.{arith}
-use Rattle.std.proofs.lemmas.Result.{err_from_is_err_and}
-use Rattle.fs_base.proofs.Octets.{octets_from}
-use Rattle.fs_nlri.specs.Component.{parts_of}
+use Rattle.fs_nlri.proofs.Words.{arith, err_from_is_err_and, octets_from, parts_of}
 use Rattle.fs_nlri.proofs.Frames.{frame_found, frame_bad, frame_rule}
 use Rattle.fs_nlri.proofs.frame.read_frame.Goals as goal
 

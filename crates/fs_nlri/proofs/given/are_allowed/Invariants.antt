@@ -1,5 +1,4 @@
-use Rattle.std.proofs.Common.{◌≡◌, drop}
-use Rattle.fs_nlri.specs.Forms.{all_allowed}
+use Rattle.fs_nlri.proofs.Words.{◌≡◌, drop, all_allowed}
 use Rattle.fs_nlri.proofs.given.are_allowed.Given as goal
 
 abbrev pub invariant-loop-operator : goal.invariant-loop-operator

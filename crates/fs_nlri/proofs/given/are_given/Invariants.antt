@@ -1,7 +1,4 @@
-use Rattle.std.proofs.Common.{◌≡◌, drop, take}
-use Rattle.std.specs.List.{AllByRecursion}
-use Rattle.fs_nlri.specs.Component.{parts_of}
-use Rattle.fs_nlri.specs.Making.{IsTyped, all_given}
+use Rattle.fs_nlri.proofs.Words.{◌≡◌, drop, take, AllByRecursion, parts_of, IsTyped, all_given}
 use Rattle.fs_nlri.proofs.given.are_given.Given as goal
 
 abbrev pub invariant-loop-component : goal.invariant-loop-component

@@ -1,6 +1,4 @@
-use Rattle.std.proofs.Common.{◌≡◌, drop}
-use Rattle.fs_nlri.specs.Component.{parts_of}
-use Rattle.fs_nlri.specs.Making.{rises}
+use Rattle.fs_nlri.proofs.Words.{◌≡◌, drop, parts_of, rises}
 use Rattle.fs_nlri.proofs.given.rise.Given as goal
 
 abbrev pub invariant-loop-component : goal.invariant-loop-component

@@ -1,10 +1,5 @@
-use Rattle.std.proofs.Common.{◌≡◌, ℕ, ◌+◌, ◌-◌, ap, sym, ◌∙◌, arith, length, ◌/◌, ◌^◌, ◌*◌}
-use Rattle.byteorder.specs.Numbers.{length-bytes_high_first}
-use Rattle.fs_nlri.specs.declared.component.PrefixForm.{PrefixForm}
+use Rattle.fs_nlri.proofs.Words.{◌≡◌, ℕ, ◌+◌, ◌-◌, ap, sym, ◌∙◌, arith, length, ◌/◌, ◌^◌, ◌*◌, length-bytes_high_first, PrefixForm, body_of, canonical_body, octets_for}
 use Rattle.fs_nlri.specs.declared.component.PrefixForm.TheVariants.{V6}
-use Rattle.fs_nlri.specs.Component.{body_of}
-use Rattle.fs_nlri.specs.Rule.{canonical_body}
-use Rattle.fs_nlri.specs.Spelling.{octets_for}
 use Rattle.fs_nlri.proofs.size.prefix_len.Goals as goal
 
 v6_len : (form : PrefixForm) (len offset pattern count : ℕ) → form ≡ V6 len offset pattern → count ≡ octets_for (len - offset) → 2 + count ≡ length (canonical_body (body_of form))

@@ -1,6 +1,4 @@
-use Rattle.std.proofs.Common.{◌≡◌, ◌+◌, drop, length}
-use Rattle.fs_nlri.specs.Component.{parts_of}
-use Rattle.fs_nlri.specs.Rule.{canonical_value}
+use Rattle.fs_nlri.proofs.Words.{◌≡◌, ◌+◌, drop, length, parts_of, canonical_value}
 use Rattle.fs_nlri.proofs.size.value_len.Given as goal
 
 abbrev pub invariant-loop-component : goal.invariant-loop-component

@@ -1,5 +1,4 @@
-use Rattle.std.proofs.lemmas.Bool.{both_ways}
-use Rattle.fs_nlri.specs.Component.{parts_of}
+use Rattle.fs_nlri.proofs.Words.{both_ways, parts_of}
 use Rattle.fs_nlri.proofs.ValueSteps.{finished, no_type, not_above, bad_body, more}
 use Rattle.fs_nlri.proofs.value.read_components.Goals as goal
 

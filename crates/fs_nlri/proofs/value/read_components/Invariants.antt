@@ -1,5 +1,4 @@
-use Rattle.std.proofs.Common.{length}
-use Rattle.fs_nlri.specs.Component.{parts_of}
+use Rattle.fs_nlri.proofs.Words.{length, parts_of}
 use Rattle.fs_nlri.proofs.ValueSteps.{HasRead}
 use Rattle.fs_nlri.proofs.value.read_components.Given as goal
 

@@ -1,9 +1,5 @@
-use Rattle.std.proofs.Common.{◌≡◌, ℕ, ◌-◌, ◌*◌, ◌≤◌, subst, arith}
-use Rattle.fs_nlri.specs.declared.component.PrefixForm.{PrefixForm}
+use Rattle.fs_nlri.proofs.Words.{◌≡◌, ℕ, ◌-◌, ◌*◌, ◌≤◌, subst, arith, PrefixForm, octets_for, body_of, IsWritable}
 use Rattle.fs_nlri.specs.declared.component.PrefixForm.TheVariants.{V4, V6}
-use Rattle.fs_nlri.specs.Spelling.{octets_for}
-use Rattle.fs_nlri.specs.Component.{body_of}
-use Rattle.fs_nlri.specs.Writing.{IsWritable}
 use Rattle.fs_nlri.proofs.writing.append_prefix.Goals as goal
 
 own_form : (form known : PrefixForm) → form ≡ known → IsWritable (body_of form) → IsWritable (body_of known)

@@ -1,6 +1,4 @@
-use Rattle.std.proofs.Common.{◌≡◌, ◌++◌, take}
-use Rattle.fs_nlri.specs.Component.{parts_of}
-use Rattle.fs_nlri.specs.Rule.{canonical_value}
+use Rattle.fs_nlri.proofs.Words.{◌≡◌, ◌++◌, take, parts_of, canonical_value}
 use Rattle.fs_nlri.proofs.writing.append_value.Given as goal
 
 abbrev pub invariant-loop-component : goal.invariant-loop-component

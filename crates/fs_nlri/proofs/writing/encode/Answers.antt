@@ -1,7 +1,4 @@
-use Rattle.std.proofs.Common.{List, All, sym, subst}
-use Rattle.fs_nlri.specs.declared.component.Component.{Component}
-use Rattle.fs_nlri.specs.Component.{part_of}
-use Rattle.fs_nlri.specs.Writing.{IsWritable}
+use Rattle.fs_nlri.proofs.Words.{List, All, sym, subst, Component, part_of, IsWritable}
 use Rattle.fs_nlri.proofs.Writable.{all_writable}
 use Rattle.fs_nlri.proofs.writing.encode.Goals as goal
 

@@ -1,5 +1,4 @@
-use Rattle.std.proofs.Common.{◌≡◌, drop}
-use Rattle.fs_ops.specs.Evaluation.{holds, test_of}
+use Rattle.fs_ops.proofs.Words.{◌≡◌, drop, holds, test_of}
 use Rattle.fs_ops.proofs.Groups.{answers}
 use Rattle.fs_ops.proofs.evaluation.eval.Given as goal
 

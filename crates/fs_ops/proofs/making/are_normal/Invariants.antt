@@ -1,7 +1,5 @@
-use Rattle.std.proofs.Common.{length}
+use Rattle.fs_ops.proofs.Words.{length, meant_bits, AreNormal}
 use Rattle.std.specs.Prelude.{◌↔◌}
-use Rattle.fs_ops.specs.Operator.{meant_bits}
-use Rattle.fs_ops.specs.OperatorList.{AreNormal}
 use Rattle.fs_ops.proofs.making.are_normal.Given as goal
 
 -- the whole is in normal form exactly where what is left is

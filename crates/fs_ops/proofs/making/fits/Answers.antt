@@ -1,6 +1,4 @@
-use Rattle.std.proofs.Common.{ℕ, zero, suc, ◌/◌, ◌^◌, ◌<◌, ◌≤◌, ◌≡◌, ◌∙◌, refl, sym, ap, subst, arith}
-use Rattle.std.proofs.lemmas.Nat.{and_le_r}
-use Rattle.fs_ops.specs.Operator.{width_code, width_of}
+use Rattle.fs_ops.proofs.Words.{ℕ, zero, suc, ◌/◌, ◌^◌, ◌<◌, ◌≤◌, ◌≡◌, ◌∙◌, refl, sym, ap, subst, arith, and_le_r, width_code, width_of}
 use Rattle.fs_ops.proofs.making.fits.Goals as goal
 
 -- a value of eight octets fits any other than the three smaller widths

@@ -1,5 +1,4 @@
-use Rattle.std.proofs.Common.{◌<◌, length, get_or, arith}
-use Rattle.std.proofs.lemmas.List.{get_or_default}
+use Rattle.fs_ops.proofs.Words.{◌<◌, length, get_or, arith, get_or_default}
 use Rattle.std.proofs.lemmas.List.Edits.{map_over_more}
 use Rattle.fs_ops.proofs.Normal.{with_bits}
 use Rattle.fs_ops.proofs.pairs.keep_bits.Goals as goal

@@ -1,5 +1,4 @@
-use Rattle.std.proofs.Common.{◌≡◌, ℕ, ◌-◌, List, [], ◌∷◌, true, length, take, drop, get_or, refl, sym, subst, ◌∙◌, Contains}
-use Rattle.fs_ops.specs.Operator.{width_of}
+use Rattle.fs_ops.proofs.Words.{◌≡◌, ℕ, ◌-◌, List, [], ◌∷◌, true, length, take, drop, get_or, refl, sym, subst, ◌∙◌, Contains, width_of}
 use Rattle.fs_ops.proofs.Found.{HasRead, said_at, first_and_tail, next_found, ends_here}
 use Rattle.fs_ops.proofs.reading.read_single.Goals as goal
 

@@ -1,5 +1,4 @@
-use Rattle.std.proofs.Common.{◌≡◌, ◌++◌, take}
-use Rattle.fs_ops.specs.OperatorList.{canonical}
+use Rattle.fs_ops.proofs.Words.{◌≡◌, ◌++◌, take, canonical}
 use Rattle.fs_ops.proofs.writing.append.Given as goal
 
 abbrev pub invariant-loop-operator : goal.invariant-loop-operator

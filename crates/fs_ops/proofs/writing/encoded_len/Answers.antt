@@ -1,8 +1,4 @@
-use Rattle.std.proofs.Common.{◌≡◌, ℕ, ◌+◌, ◌<◌, List, [], ◌∷◌, ◌++◌, length, take, get_or, ap, ◌∙◌, arith, length-append}
-use Rattle.std.proofs.lemmas.List.{take_more}
-use Rattle.byteorder.specs.Numbers.{length-bytes_high_first}
-use Rattle.fs_ops.specs.Operator.{width_of}
-use Rattle.fs_ops.specs.OperatorList.{canonical, pair_octets}
+use Rattle.fs_ops.proofs.Words.{◌≡◌, ℕ, ◌+◌, ◌<◌, List, [], ◌∷◌, ◌++◌, length, take, get_or, ap, ◌∙◌, arith, length-append, take_more, length-bytes_high_first, width_of, canonical, pair_octets}
 use Rattle.fs_ops.proofs.writing.encoded_len.Goals as goal
 
 one_pair : (pair : ℕ × ℕ) → length (pair_octets pair) ≡ 1 + width_of pair.0

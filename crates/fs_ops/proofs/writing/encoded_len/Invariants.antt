@@ -1,5 +1,4 @@
-use Rattle.std.proofs.Common.{◌≡◌, ◌*◌, ◌≤◌, length, take}
-use Rattle.fs_ops.specs.OperatorList.{canonical}
+use Rattle.fs_ops.proofs.Words.{◌≡◌, ◌*◌, ◌≤◌, length, take, canonical}
 use Rattle.fs_ops.proofs.writing.encoded_len.Given as goal
 
 abbrev pub invariant-loop-operator : goal.invariant-loop-operator

@@ -1,5 +1,4 @@
-use Rattle.std.proofs.Common.{ap, ◌∙◌}
-use Rattle.std.specs.Ordering.{is_lt}
+use Rattle.fs_order.proofs.Words.{ap, ◌∙◌, is_lt}
 use Rattle.fs_order.proofs.Precede.{before_test}
 use Rattle.fs_order.proofs.comparison.precedes.Goals as goal
 

@@ -1,6 +1,4 @@
-use Rattle.std.proofs.Common.{ap, ap₂, ◌∙◌}
-use Rattle.std.specs.Cmp.Lexicographic.{slice_cmp}
-use Rattle.fs_nlri.specs.Component.{content_body}
+use Rattle.fs_order.proofs.Words.{ap, ap₂, ◌∙◌, slice_cmp, content_body}
 use Rattle.fs_order.proofs.Pairs.{lists_compared, pair_cmp}
 use Rattle.fs_order.proofs.component.compare_content.Goals as goal
 

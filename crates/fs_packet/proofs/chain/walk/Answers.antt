@@ -1,5 +1,4 @@
-use Rattle.std.proofs.Common.{ap, sym, ◌∙◌, drop}
-use Rattle.fs_packet.specs.Chain.{protocol_at}
+use Rattle.fs_packet.proofs.Words.{ap, sym, ◌∙◌, drop, protocol_at}
 use Rattle.fs_packet.proofs.Walks.{walked, walking_more}
 use Rattle.fs_packet.proofs.chain.walk.Goals as goal
 

@@ -1,5 +1,4 @@
-use Rattle.std.proofs.Common.{ℕ, ap, sym, ◌∙◌}
-use Rattle.fs_ops.specs.Evaluation.{holds, masks}
+use Rattle.fs_packet.proofs.Words.{ℕ, ap, sym, ◌∙◌, holds, masks}
 use Rattle.fs_packet.proofs.Flags.{flags_same, sound_is_wide}
 use Rattle.fs_packet.proofs.matching.flags_match.Goals as goal
 

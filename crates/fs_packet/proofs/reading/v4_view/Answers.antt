@@ -1,8 +1,4 @@
-use Rattle.std.proofs.Common.{[], Ok, slice_index, ap, ◌∙◌, arith, if◌then◌else◌}
-use Rattle.fs_base.specs.declared.prefix.Family.TheVariants.{V4}
-use Rattle.fs_packet.specs.Fields.{protocol_of, viewed}
-use Rattle.fs_packet.specs.declared.fields.Upper.{Upper}
-use Rattle.fs_packet.specs.Reading.{held_from, v4_fragment, v4_size, v4_starts}
+use Rattle.fs_packet.proofs.Words.{[], Ok, slice_index, ap, ◌∙◌, arith, if◌then◌else◌, V4, protocol_of, viewed, Upper, held_from, v4_fragment, v4_size, v4_starts}
 use Rattle.fs_packet.proofs.Headers.{v4_read}
 use Rattle.fs_packet.proofs.Uppers.{number_kept}
 use Rattle.fs_packet.proofs.reading.v4_view.Goals as goal

@@ -1,9 +1,4 @@
-use Rattle.std.proofs.Common.{ℕ, List, Option, Ok, ◌+◌, ◌==◌, ◌&&◌, slice_index, drop, ap, sym, ◌∙◌, arith}
-use Rattle.fs_base.specs.declared.prefix.Family.TheVariants.{V6}
-use Rattle.fs_packet.specs.Fields.{protocol_of, viewed}
-use Rattle.fs_packet.specs.declared.fields.Upper.{Upper}
-use Rattle.fs_packet.specs.Chain.{chain_of, last_field, protocol_at}
-use Rattle.fs_packet.specs.Reading.{held_from, v6_fragment}
+use Rattle.fs_packet.proofs.Words.{ℕ, List, Option, Ok, ◌+◌, ◌==◌, ◌&&◌, slice_index, drop, ap, sym, ◌∙◌, arith, V6, protocol_of, viewed, Upper, chain_of, last_field, protocol_at, held_from, v6_fragment}
 use Rattle.fs_packet.proofs.Headers.{v6_read}
 use Rattle.fs_packet.proofs.Uppers.{protocol_kept}
 use Rattle.fs_packet.proofs.reading.v6_view.Goals as goal

@@ -1,5 +1,4 @@
-use Rattle.std.proofs.Common.{rules, ◌≡◌, ◌≢◌, sym, ◌∙◌}
-use Rattle.byteorder.specs.Endian.{big_number}
+use Rattle.fs_pcapng.proofs.Words.{rules, ◌≡◌, ◌≢◌, sym, ◌∙◌, big_number}
 use Rattle.fs_pcapng.proofs.Bodies.{block_fails, block_header, block_plain}
 use Rattle.fs_pcapng.proofs.block.take_block.Goals as goal
 

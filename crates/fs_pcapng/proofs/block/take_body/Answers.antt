@@ -1,8 +1,4 @@
-use Rattle.std.proofs.Common.{rules, ◌≡◌, true, Some, length, sym, ◌∙◌}
-use Rattle.std.specs.Prelude.{nat_lt}
-use Rattle.fs_input.proofs.Lifting.{reads_ends}
-use Rattle.fs_input.specs.Scan.{gives}
-use Rattle.fs_pcapng.specs.Block.{behind_packet, enhanced_in, simple_in}
+use Rattle.fs_pcapng.proofs.Words.{rules, ◌≡◌, true, Some, length, sym, ◌∙◌, nat_lt, reads_ends, gives, behind_packet, enhanced_in, simple_in}
 use Rattle.fs_pcapng.proofs.Bodies.{body_as, body_described, body_fails, body_packet, told_of}
 use Rattle.fs_pcapng.proofs.block.take_body.Goals as goal
 

@@ -1,10 +1,5 @@
-use Rattle.std.proofs.Common.{rules, ◌≡◌, ◌+◌, true, Some, ap, sym, ◌∙◌}
-use Rattle.fs_pcap.specs.Order.{number}
-use Rattle.fs_input.proofs.Lifting.{reads_as, reads_then}
-use Rattle.fs_pcapng.specs.Block.{allows, body_in, frame_of, kind_of, least_of, plain_in, total_behind}
-use Rattle.fs_pcapng.specs.declared.fault.NgReason.TheVariants.{Length}
+use Rattle.fs_pcapng.proofs.Words.{rules, ◌≡◌, ◌+◌, true, Some, ap, sym, ◌∙◌, number, reads_as, reads_then, allows, body_in, frame_of, kind_of, least_of, plain_in, total_behind, Length, needs_true}
 use Rattle.fs_pcapng.proofs.Bodies.{told_of}
-use Rattle.fs_input.proofs.Joining.{needs_true}
 use Rattle.fs_pcapng.proofs.block.take_plain.Goals as goal
 
 pub returns-clause-reads : goal.returns-clause-reads

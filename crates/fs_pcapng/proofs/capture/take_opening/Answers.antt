@@ -1,6 +1,4 @@
-use Rattle.std.proofs.Common.{rules, ◌≡◌, ap, sym, ◌∙◌}
-use Rattle.byteorder.specs.Endian.{big_number}
-use Rattle.fs_pcapng.specs.Block.{opened}
+use Rattle.fs_pcapng.proofs.Words.{rules, ◌≡◌, ap, sym, ◌∙◌, big_number, opened}
 use Rattle.fs_pcapng.proofs.Opening.{opening_fails, opening_reads}
 use Rattle.fs_pcapng.proofs.capture.take_opening.Goals as goal
 

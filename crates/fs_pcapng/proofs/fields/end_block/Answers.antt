@@ -1,5 +1,4 @@
-use Rattle.fs_input.proofs.Lifting.{reads_then}
-use Rattle.fs_pcapng.specs.Block.{close_in}
+use Rattle.fs_pcapng.proofs.Words.{reads_then, close_in}
 use Rattle.fs_pcapng.proofs.fields.end_block.Goals as goal
 
 pub returns-clause-reads : goal.returns-clause-reads

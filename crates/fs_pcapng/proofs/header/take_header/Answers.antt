@@ -1,12 +1,4 @@
-use Rattle.std.proofs.Common.{rules, ◌≡◌, ◌+◌, ◌-◌, true, false, Some, None, take, length, ap, sym, ◌∙◌, arith}
-use Rattle.std.proofs.lemmas.List.{take_all}
-use Rattle.fs_pcap.specs.Order.{number}
-use Rattle.fs_pcap.specs.declared.order.Endian.{Endian}
-use Rattle.fs_input.specs.Scan.{fails}
-use Rattle.fs_input.proofs.Lifting.{reads_as, reads_fails, reads_then}
-use Rattle.fs_pcapng.specs.Block.{allows, frame_of, magic_behind, order_of, ordered_in, version_in}
-use Rattle.fs_pcapng.specs.declared.fault.NgReason.TheVariants.{Length, Magic}
-use Rattle.fs_input.proofs.Joining.{needs_false, needs_true}
+use Rattle.fs_pcapng.proofs.Words.{rules, ◌≡◌, ◌+◌, ◌-◌, true, false, Some, None, take, length, ap, sym, ◌∙◌, arith, take_all, number, Endian, fails, reads_as, reads_fails, reads_then, allows, frame_of, magic_behind, order_of, ordered_in, version_in, Length, Magic, needs_false, needs_true}
 use Rattle.fs_pcapng.proofs.header.take_header.Goals as goal
 
 pub returns-clause-reads : goal.returns-clause-reads

@@ -1,10 +1,4 @@
-use Rattle.std.proofs.Common.{rules, ◌≡◌, ◌+◌, ◌-◌, ◌==◌, true}
-use Rattle.fs_pcap.specs.declared.order.Endian.{Endian}
-use Rattle.fs_input.specs.Scan.{and, gives, needs}
-use Rattle.fs_input.proofs.Lifting.{reads_as, reads_gives, reads_then}
-use Rattle.fs_pcapng.specs.Block.{end_in}
-use Rattle.fs_pcapng.specs.declared.fault.NgReason.TheVariants.{Version}
-use Rattle.fs_input.proofs.Joining.{needs_true}
+use Rattle.fs_pcapng.proofs.Words.{rules, ◌≡◌, ◌+◌, ◌-◌, ◌==◌, true, Endian, and, gives, needs, reads_as, reads_gives, reads_then, end_in, Version, needs_true}
 use Rattle.fs_pcapng.proofs.header.take_version.Goals as goal
 
 pub returns-in-Ok-end_block-clause-reads : goal.returns-in-Ok-end_block-clause-reads

@@ -1,5 +1,4 @@
-use Rattle.std.proofs.Common.{◌≡◌, ◌≤◌, ◌+◌, []}
-use Rattle.fs_input.specs.Reads.{calls_of}
+use Rattle.fs_pcapng.proofs.Words.{◌≡◌, ◌≤◌, ◌+◌, [], calls_of}
 use Rattle.fs_pcapng.proofs.Cursors.{Moved}
 use Rattle.fs_pcapng.proofs.options.read_options.Given as goal
 

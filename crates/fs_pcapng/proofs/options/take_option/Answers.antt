@@ -1,8 +1,4 @@
-use Rattle.std.proofs.Common.{◌≡◌, ◌≤◌, ◌+◌, take, drop, length, refl, ap, sym, ◌∙◌, subst, arith}
-use Rattle.std.proofs.lemmas.List.{take_all}
-use Rattle.fs_pcap.specs.Order.{number}
-use Rattle.fs_input.proofs.Lifting.{reads_as, reads_then}
-use Rattle.fs_pcapng.specs.Options.{option_behind, option_in, padded}
+use Rattle.fs_pcapng.proofs.Words.{◌≡◌, ◌≤◌, ◌+◌, take, drop, length, refl, ap, sym, ◌∙◌, subst, arith, take_all, number, reads_as, reads_then, option_behind, option_in, padded}
 use Rattle.fs_pcapng.proofs.Fitting.{behind_all, value_fits}
 use Rattle.fs_pcapng.proofs.options.take_option.Goals as goal
 

@@ -1,9 +1,4 @@
-use Rattle.std.proofs.Common.{◌≡◌, ◌≤◌, ◌+◌, ◌-◌, None, Some, length, take, drop, ap, sym, ◌∙◌, arith}
-use Rattle.std.specs.Prelude.{slice_get}
-use Rattle.fs_pcap.specs.Order.{number}
-use Rattle.fs_input.specs.Judging.{scan_of}
-use Rattle.fs_input.specs.Scan.{wrong}
-use Rattle.fs_pcapng.specs.Packets.{told_by}
+use Rattle.fs_pcapng.proofs.Words.{◌≡◌, ◌≤◌, ◌+◌, ◌-◌, None, Some, length, take, drop, ap, sym, ◌∙◌, arith, slice_get, number, scan_of, wrong, told_by}
 use Rattle.fs_pcapng.specs.declared.fault.NgReason.TheVariants.{Interface as WrongInterface}
 use Rattle.fs_pcapng.proofs.Fitting.{behind_all}
 use Rattle.fs_pcapng.proofs.Told.{field_said, four_more}

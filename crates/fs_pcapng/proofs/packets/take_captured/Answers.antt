@@ -1,11 +1,5 @@
-use Rattle.std.proofs.Common.{rules, ◌≡◌, ◌≢◌, ◌+◌, ◌-◌, ◌==◌, true, false, take, drop, ap, sym, ◌∙◌, arith}
-use Rattle.fs_pcap.specs.Order.{number}
-use Rattle.fs_input.proofs.Lifting.{gives_for, reads_as, reads_fails, reads_then, reads_ends, reads_gives}
-use Rattle.fs_input.specs.Scan.{gives, and}
-use Rattle.fs_pcapng.specs.Block.{octets_in, end_in}
-use Rattle.fs_pcapng.specs.declared.fault.NgReason.TheVariants.{Length}
+use Rattle.fs_pcapng.proofs.Words.{rules, ◌≡◌, ◌≢◌, ◌+◌, ◌-◌, ◌==◌, true, false, take, drop, ap, sym, ◌∙◌, arith, number, gives_for, reads_as, reads_fails, reads_then, reads_ends, reads_gives, gives, and, octets_in, end_in, Length, needs_false, needs_true}
 use Rattle.fs_pcapng.proofs.Merged.{closing, first_of, is_equal, is_other, last_four, merged}
-use Rattle.fs_input.proofs.Joining.{needs_false, needs_true}
 use Rattle.fs_pcapng.proofs.packets.take_captured.Goals as goal
 
 pub returns-clause-reads : goal.returns-clause-reads

@@ -1,10 +1,4 @@
-use Rattle.std.proofs.Common.{◌≡◌, take, drop, length, ap, sym, ◌∙◌, arith}
-use Rattle.std.proofs.lemmas.List.{take_all}
-use Rattle.fs_pcap.specs.Order.{number}
-use Rattle.fs_input.specs.Scan.{and, gives}
-use Rattle.fs_input.proofs.Lifting.{gives_for, reads_ends, reads_then}
-use Rattle.fs_pcapng.specs.Block.{close_in, described_behind}
-use Rattle.fs_pcapng.specs.declared.section.Interface.{Interface}
+use Rattle.fs_pcapng.proofs.Words.{◌≡◌, take, drop, length, ap, sym, ◌∙◌, arith, take_all, number, and, gives, gives_for, reads_ends, reads_then, close_in, described_behind, Interface}
 use Rattle.fs_pcapng.proofs.Bodies.{interface_of}
 use Rattle.fs_pcapng.proofs.Fitting.{behind_all}
 use Rattle.fs_pcapng.proofs.packets.take_described.Goals as goal

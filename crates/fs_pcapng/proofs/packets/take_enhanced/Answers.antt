@@ -1,8 +1,4 @@
-use Rattle.std.proofs.Common.{take, ap, sym}
-use Rattle.fs_input.specs.Scan.{gives}
-use Rattle.fs_input.proofs.Lifting.{gives_for, reads_as, reads_ends, reads_then}
-use Rattle.fs_pcapng.specs.Block.{enhanced_in, packet}
-use Rattle.fs_pcapng.specs.Pcapng.{seen_from}
+use Rattle.fs_pcapng.proofs.Words.{take, ap, sym, gives, gives_for, reads_as, reads_ends, reads_then, enhanced_in, packet, seen_from}
 use Rattle.fs_pcapng.proofs.Told.{behind_told, enhanced_is}
 use Rattle.fs_pcapng.proofs.packets.take_enhanced.Goals as goal
 

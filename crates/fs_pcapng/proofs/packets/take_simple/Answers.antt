@@ -1,8 +1,4 @@
-use Rattle.std.proofs.Common.{◌≤◌, ◌+◌, take, ap, sym, subst, ◌∙◌, arith}
-use Rattle.fs_input.specs.Scan.{gives}
-use Rattle.fs_input.proofs.Lifting.{gives_for, reads_ends, reads_then}
-use Rattle.fs_pcapng.specs.Block.{packet}
-use Rattle.fs_pcapng.specs.Pcapng.{seen_from}
+use Rattle.fs_pcapng.proofs.Words.{◌≤◌, ◌+◌, take, ap, sym, subst, ◌∙◌, arith, gives, gives_for, reads_ends, reads_then, packet, seen_from}
 use Rattle.fs_pcapng.proofs.Bodies.{simple_reads}
 use Rattle.fs_pcapng.proofs.packets.take_simple.Goals as goal
 

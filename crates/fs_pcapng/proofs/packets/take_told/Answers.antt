@@ -1,8 +1,6 @@
-use Rattle.std.proofs.Common.{rules, ◌≡◌, length, take, sym, ◌∙◌, arith}
-use Rattle.std.proofs.lemmas.List.{length-take}
+use Rattle.fs_pcapng.proofs.Words.{rules, ◌≡◌, length, take, sym, ◌∙◌, arith, length-take, told_in}
 use Rattle.fs_base.proofs.Filled.{fills_straight}
 use Rattle.fs_base.proofs.Passing.{passes_straight}
-use Rattle.fs_pcapng.specs.Packets.{told_in}
 use Rattle.fs_pcapng.proofs.Told.{settled_reads, told_reads}
 use Rattle.fs_pcapng.proofs.packets.take_told.Goals as goal
 

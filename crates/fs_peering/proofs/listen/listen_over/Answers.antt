@@ -1,8 +1,4 @@
-use Rattle.std.proofs.Common.{◌≡◌, ℕ, ap, subst, ◌∙◌}
-use Rattle.fs_peering.proofs.Words.{standing_at_desk}
-use Rattle.fs_peering.specs.Hearer.{is_ended}
-use Rattle.fs_peering.specs.Listen.{EndsHearing}
-use Rattle.fs_peering.specs.declared.hearer.Hearer.{Hearer}
+use Rattle.fs_peering.proofs.Words.{standing_at_desk, ◌≡◌, ℕ, ap, subst, ◌∙◌, is_ended, EndsHearing, Hearer}
 use Rattle.fs_peering.proofs.Listened.{listens_as}
 use Rattle.fs_peering.proofs.listen.listen_over.Goals as goal
 

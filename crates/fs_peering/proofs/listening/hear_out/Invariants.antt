@@ -1,5 +1,4 @@
-use Rattle.std.proofs.Common.{◌≡◌, ◌≤◌, ◌<◌, ◌-◌, false}
-use Rattle.fs_peering.specs.Listening.{Listens}
+use Rattle.fs_peering.proofs.Words.{◌≡◌, ◌≤◌, ◌<◌, ◌-◌, false, Listens}
 use Rattle.fs_peering.proofs.listening.hear_out.Given as goal
 
 abbrev pub invariant-loop-round : goal.invariant-loop-round

@@ -1,8 +1,4 @@
-use Rattle.std.proofs.Common.{◌≡◌, ℕ, true, ap, subst, ◌∙◌}
-use Rattle.fs_peering.proofs.Words.{standing_at_desk}
-use Rattle.fs_peering.specs.Pair.{EndsTalk}
-use Rattle.fs_peering.specs.declared.hearer.Hearer.{Hearer}
-use Rattle.fs_peering.specs.declared.teller.Teller.{Teller}
+use Rattle.fs_peering.proofs.Words.{standing_at_desk, ◌≡◌, ℕ, true, ap, subst, ◌∙◌, EndsTalk, Hearer, Teller}
 use Rattle.fs_peering.proofs.Paired.{pairs_as, pairs_on}
 use Rattle.fs_peering.proofs.Sending.{says_start}
 use Rattle.fs_peering.proofs.pair.pair_over.Goals as goal

@@ -1,6 +1,4 @@
-use Rattle.std.proofs.Common.{◌≤◌, ◌≡◌}
-use Rattle.fs_peering.proofs.Words.{Told}
-use Rattle.fs_peering.specs.Round.{Spoken}
+use Rattle.fs_peering.proofs.Words.{Told, ◌≤◌, ◌≡◌, Spoken}
 use Rattle.fs_peering.proofs.round.say_all.Given as goal
 
 abbrev pub invariant-messages : goal.invariant-messages

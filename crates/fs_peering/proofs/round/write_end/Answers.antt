@@ -1,5 +1,4 @@
-use Rattle.std.proofs.Common.{rules, arith, ◌<◌, length}
-use Rattle.std.proofs.lemmas.List.{take_rest}
+use Rattle.fs_peering.proofs.Words.{rules, arith, ◌<◌, length, take_rest}
 use Rattle.fs_peering.proofs.WrittenInParts.{wrote_more}
 use Rattle.fs_peering.proofs.round.write_end.Goals as goal
 

@@ -1,7 +1,5 @@
-use Rattle.std.proofs.Common.{ap, sym, ◌∙◌, refl, rules, Bool}
-use Rattle.fs_peering.specs.Sender.{SaysUpTo}
+use Rattle.fs_peering.proofs.Words.{ap, sym, ◌∙◌, refl, rules, Bool, SaysUpTo, Teller}
 use Rattle.fs_peering.specs.Teller.{is_over}
-use Rattle.fs_peering.specs.declared.teller.Teller.{Teller}
 use Rattle.fs_peering.proofs.Announced.{done_so, ended_so, is_of, limit_so, over_limit, over_so}
 use Rattle.fs_peering.proofs.Sending.{says_start}
 use Rattle.fs_peering.proofs.tell.announce_over.Goals as goal

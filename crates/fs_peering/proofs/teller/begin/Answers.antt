@@ -1,5 +1,4 @@
-use Rattle.std.proofs.Common.{rules}
-use Rattle.std.proofs.lemmas.Result.{on_ok_weaker}
+use Rattle.fs_peering.proofs.Words.{rules, on_ok_weaker}
 use Rattle.fs_peering.proofs.Sending.{begins_on, begun_on}
 use Rattle.fs_peering.proofs.teller.begin.Goals as goal
 

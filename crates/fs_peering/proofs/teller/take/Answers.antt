@@ -1,8 +1,4 @@
-use Rattle.std.proofs.Common.{◌≡◌, ℕ, List, subst, rules, arith, [], length, true, false, Bool, None, sym, ◌∙◌}
-use Rattle.std.proofs.lemmas.List.{take_rest}
-use Rattle.fs_speaker.proofs.Handover.{going_start, rest_none}
-use Rattle.fs_peering.proofs.Words.{machine_in}
-use Rattle.fs_peering.specs.Sender.{CountsOn}
+use Rattle.fs_peering.proofs.Words.{machine_in, ◌≡◌, ℕ, List, subst, rules, arith, [], length, true, false, Bool, None, sym, ◌∙◌, take_rest, going_start, rest_none, CountsOn}
 use Rattle.fs_peering.proofs.Counting.{counts_cut, counts_fed, counts_shut, counts_start, shuts_fed, shuts_open, still_open}
 use Rattle.fs_peering.proofs.Feeding.{ends_all, ends_shut, goes_more}
 use Rattle.fs_peering.proofs.Hearing.{says_handed, says_up}

@@ -1,7 +1,4 @@
-use Rattle.std.proofs.Common.{◌≡◌, ◌≤◌, ◌+◌, [], false, length, None}
-use Rattle.fs_speaker.proofs.Handover.{Going}
-use Rattle.fs_peering.proofs.Words.{is_established, machine_in}
-use Rattle.fs_peering.specs.Sender.{CountsOn, KeepsSettled}
+use Rattle.fs_peering.proofs.Words.{is_established, machine_in, ◌≡◌, ◌≤◌, ◌+◌, [], false, length, None, Going, CountsOn, KeepsSettled}
 use Rattle.fs_peering.proofs.teller.take.Given as goal
 
 abbrev pub invariant-messages : goal.invariant-messages

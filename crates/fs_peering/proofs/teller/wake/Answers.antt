@@ -1,7 +1,4 @@
-use Rattle.std.proofs.Common.{rules}
-use Rattle.std.proofs.lemmas.Result.{on_ok_weaker}
-use Rattle.fs_speaker.proofs.Waking.{ticks_on, ticks_shut}
-use Rattle.fs_peering.proofs.Words.{machine_in}
+use Rattle.fs_peering.proofs.Words.{machine_in, rules, on_ok_weaker, ticks_on, ticks_shut}
 use Rattle.fs_peering.proofs.Counting.{woke_hand}
 use Rattle.fs_peering.proofs.Settled.{woke_settled}
 use Rattle.fs_peering.proofs.Feeding.{woke_over}

@@ -1,5 +1,4 @@
-use Rattle.std.proofs.Common.{subst}
-use Rattle.fs_ranges.specs.Numbers.{IsOnlyRange}
+use Rattle.fs_ranges.proofs.Words.{subst, IsOnlyRange}
 use Rattle.fs_ranges.proofs.Fields.{range_test}
 use Rattle.fs_ranges.proofs.components.field_test.Goals as goal
 

@@ -1,5 +1,4 @@
-use Rattle.std.proofs.Common.{◌∙◌, sym, ap}
-use Rattle.fs_ranges.specs.Flags.{is_syn}
+use Rattle.fs_ranges.proofs.Words.{◌∙◌, sym, ap, is_syn}
 use Rattle.fs_ranges.proofs.Flags.{syn_is}
 use Rattle.fs_ranges.proofs.ComponentTests.{flags_are}
 use Rattle.fs_ranges.proofs.components.flags_test.Goals as goal

@@ -1,10 +1,5 @@
-use Rattle.std.proofs.Common.{inl, inr, subst, sym}
+use Rattle.fs_ranges.proofs.Words.{inl, inr, subst, sym, body_of, V6Body, part, IsSoundBody, Within, Destination, Source, IsTestOf}
 use Rattle.fs_nlri.specs.declared.component.PrefixForm.{PrefixForm}
-use Rattle.fs_nlri.specs.Component.{body_of}
-use Rattle.fs_nlri.specs.Parts.{V6Body, part}
-use Rattle.fs_nlri.specs.Sound.{IsSoundBody}
-use Rattle.fs_ranges.specs.declared.tests.Test.TheVariants.{Within, Destination, Source}
-use Rattle.fs_ranges.specs.Tests.{IsTestOf}
 use Rattle.fs_ranges.proofs.ComponentTests.{v4_prefix, v6_destination, v6_source}
 use Rattle.fs_ranges.proofs.components.prefix_test.Goals as goal
 

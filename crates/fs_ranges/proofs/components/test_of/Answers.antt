@@ -1,8 +1,4 @@
-use Rattle.std.proofs.Common.{Some, refl, subst, sym}
-use Rattle.std.specs.Prelude.{IfOk}
-use Rattle.fs_nlri.specs.declared.component.Component.{Component}
-use Rattle.fs_nlri.specs.Component.{part_of}
-use Rattle.fs_ranges.specs.Tests.{IsTestOf}
+use Rattle.fs_ranges.proofs.Words.{Some, refl, subst, sym, IfOk, Component, part_of, IsTestOf}
 use Rattle.fs_ranges.proofs.Fields.{field_is}
 use Rattle.fs_ranges.proofs.components.test_of.Goals as goal
 

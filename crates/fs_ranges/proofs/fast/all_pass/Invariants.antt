@@ -1,6 +1,4 @@
-use Rattle.std.proofs.Common.{◌≡◌, drop}
-use Rattle.std.specs.List.{list_all}
-use Rattle.fs_ranges.specs.Tests.{passes}
+use Rattle.fs_ranges.proofs.Words.{◌≡◌, drop, list_all, passes}
 use Rattle.fs_ranges.proofs.fast.all_pass.Given as goal
 
 -- what is left answers for all

@@ -1,10 +1,4 @@
-use Rattle.std.proofs.Common.{◌≡◌, ◌∙◌, ◌&&◌, ◌++◌, ◌∷◌, [], Bool, List, ap, sym}
-use Rattle.std.specs.List.{list_all}
-use Rattle.std.proofs.lemmas.List.Folds.{list_all-append}
-use Rattle.fs_base.proofs.Bools.{and_true}
-use Rattle.fs_ranges.specs.declared.tests.Test.{Test}
-use Rattle.fs_ranges.specs.Ranges.{ranges_hold}
-use Rattle.fs_ranges.specs.Tests.{passes}
+use Rattle.fs_ranges.proofs.Words.{◌≡◌, ◌∙◌, ◌&&◌, ◌++◌, ◌∷◌, [], Bool, List, ap, sym, list_all, list_all-append, and_true, Test, ranges_hold, passes}
 use Rattle.fs_ranges.proofs.Hulls.{pushed}
 use Rattle.fs_ranges.proofs.Placing.{put_free, put_placed}
 use Rattle.fs_ranges.proofs.fast.place.Goals as goal

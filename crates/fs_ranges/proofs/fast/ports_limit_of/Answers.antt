@@ -1,6 +1,4 @@
-use Rattle.std.proofs.Common.{◌≡◌, true, sym, subst}
-use Rattle.fs_ranges.specs.declared.tests.Test.{Test}
-use Rattle.fs_ranges.specs.Tests.{passes}
+use Rattle.fs_ranges.proofs.Words.{◌≡◌, true, sym, subst, Test, passes}
 use Rattle.fs_ranges.proofs.Truths.{holds_at}
 use Rattle.fs_ranges.proofs.fast.ports_limit_of.Goals as goal
 

@@ -1,5 +1,4 @@
-use Rattle.std.proofs.Common.{◌≡◌, ◌^◌, ◌≤◌, ◌++◌, drop}
-use Rattle.fs_ranges.specs.Gaps.{gaps_from}
+use Rattle.fs_ranges.proofs.Words.{◌≡◌, ◌^◌, ◌≤◌, ◌++◌, drop, gaps_from}
 use Rattle.fs_ranges.proofs.gaps.append_between.Given as goal
 
 -- what is left gives the rest

@@ -1,9 +1,4 @@
-use Rattle.std.proofs.Common.{◌≡◌, ℕ, List, sym, subst, rules}
-use Rattle.std.proofs.lemmas.List.Elements.{All-append, recursion_from_All}
-use Rattle.std.proofs.lemmas.List.Sorted.{All-permutation, IsNonDecreasingBy-from_sort_by_key, list_any-IsPermutation}
-use Rattle.std.proofs.lemmas.Result.{on_ok_weaker}
-use Rattle.std.specs.List.{All, AllByRecursion, list_any}
-use Rattle.fs_ranges.specs.Spans.{IsRange, is_in}
+use Rattle.fs_ranges.proofs.Words.{◌≡◌, ℕ, List, sym, subst, rules, All-append, recursion_from_All, All-permutation, IsNonDecreasingBy-from_sort_by_key, list_any-IsPermutation, on_ok_weaker, All, AllByRecursion, list_any, IsRange, is_in}
 use Rattle.fs_ranges.proofs.Gapping.{AreAscending, ascending_from, gaps_more, gaps_ranges, gaps_stand_apart}
 use Rattle.fs_ranges.proofs.gaps.append_gaps.Goals as goal
 

@@ -1,10 +1,4 @@
-use Rattle.std.proofs.Common.{◌+◌, ◌-◌, ◌^◌, ◌++◌, ◌∷◌, [], ◌||◌, not, drop, get_or, arith, sym, subst, ap, ◌∙◌}
-use Rattle.std.proofs.lemmas.List.{at_drop_all, at_drop_more}
-use Rattle.std.proofs.lemmas.Result.{on_ok_weaker}
-use Rattle.std.specs.List.{All}
-use Rattle.fs_ops.specs.Evaluation.{compares}
-use Rattle.fs_ops.proofs.Groups.{answers}
-use Rattle.fs_ranges.specs.Spans.{IsRange, contains}
+use Rattle.fs_ranges.proofs.Words.{◌+◌, ◌-◌, ◌^◌, ◌++◌, ◌∷◌, [], ◌||◌, not, drop, get_or, arith, sym, subst, ap, ◌∙◌, at_drop_all, at_drop_more, on_ok_weaker, All, compares, answers, IsRange, contains}
 use Rattle.fs_ranges.proofs.Grouping.{all_missed, every_range, no_range, one_pair}
 use Rattle.fs_ranges.proofs.groups.append_groups.Goals as goal
 

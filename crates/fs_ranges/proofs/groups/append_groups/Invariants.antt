@@ -1,8 +1,4 @@
-use Rattle.std.proofs.Common.{◌≡◌, ℕ, ◌^◌, ◌<◌, ◌||◌, not, drop}
-use Rattle.std.specs.List.{All}
-use Rattle.fs_ops.specs.Evaluation.{compares, holds}
-use Rattle.fs_ops.proofs.Groups.{answers}
-use Rattle.fs_ranges.specs.Spans.{IsRange, contains}
+use Rattle.fs_ranges.proofs.Words.{◌≡◌, ℕ, ◌^◌, ◌<◌, ◌||◌, not, drop, All, compares, holds, answers, IsRange, contains}
 use Rattle.fs_ranges.proofs.groups.append_groups.Given as goal
 
 -- what earlier groups hold of, or what is left answers behind the pairs of the group in hand

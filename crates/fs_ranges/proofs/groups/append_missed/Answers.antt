@@ -1,5 +1,4 @@
-use Rattle.std.proofs.Common.{arith}
-use Rattle.std.proofs.lemmas.Result.{on_ok_weaker}
+use Rattle.fs_ranges.proofs.Words.{arith, on_ok_weaker}
 use Rattle.fs_ranges.proofs.Grouping.{more_missed, more_ranges}
 use Rattle.fs_ranges.proofs.groups.append_missed.Goals as goal
 

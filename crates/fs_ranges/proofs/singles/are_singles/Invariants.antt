@@ -1,5 +1,4 @@
-use Rattle.std.proofs.Common.{◌≡◌, drop}
-use Rattle.fs_ranges.specs.Numbers.{are_singles}
+use Rattle.fs_ranges.proofs.Words.{◌≡◌, drop, are_singles}
 use Rattle.fs_ranges.proofs.singles.are_singles.Given as goal
 
 abbrev pub invariant-loop-operator : goal.invariant-loop-operator

@@ -1,8 +1,4 @@
-use Rattle.std.proofs.Common.{◌≡◌, ◌+◌, ◌<◌, ◌++◌, [], ◌∷◌, map, drop, length, sym, ap, subst, ◌∙◌, arith}
-use Rattle.std.specs.List.{All}
-use Rattle.std.proofs.lemmas.List.Elements.{All-append, All-cons, All-nil}
-use Rattle.fs_ranges.specs.Numbers.{lone}
-use Rattle.fs_ranges.specs.Spans.{IsRange}
+use Rattle.fs_ranges.proofs.Words.{◌≡◌, ◌+◌, ◌<◌, ◌++◌, [], ◌∷◌, map, drop, length, sym, ap, subst, ◌∙◌, arith, All, All-append, All-cons, All-nil, lone, IsRange}
 use Rattle.fs_ranges.proofs.Numbering.{lone_next}
 use Rattle.fs_ranges.proofs.singles.lone_ranges.Goals as goal
 

@@ -1,7 +1,4 @@
-use Rattle.std.proofs.Common.{◌≡◌, ◌++◌, map, drop}
-use Rattle.std.specs.List.{All}
-use Rattle.fs_ranges.specs.Numbers.{lone}
-use Rattle.fs_ranges.specs.Spans.{IsRange}
+use Rattle.fs_ranges.proofs.Words.{◌≡◌, ◌++◌, map, drop, All, lone, IsRange}
 use Rattle.fs_ranges.proofs.singles.lone_ranges.Given as goal
 
 abbrev pub invariant-loop-value : goal.invariant-loop-value

@@ -1,5 +1,4 @@
-use Rattle.std.proofs.Common.{◌≡◌, drop}
-use Rattle.fs_ranges.specs.Spans.{contains}
+use Rattle.fs_ranges.proofs.Words.{◌≡◌, drop, contains}
 use Rattle.fs_ranges.proofs.spans.any_contains.Given as goal
 
 -- what is left answers for all

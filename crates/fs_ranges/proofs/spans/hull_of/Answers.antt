@@ -1,6 +1,4 @@
-use Rattle.std.proofs.Common.{◌≡◌, ℕ, true, List, take, sym, ap, subst, ◌∙◌, arith}
-use Rattle.std.proofs.Math.Seq.{take-length}
-use Rattle.fs_ranges.specs.Spans.{contains}
+use Rattle.fs_ranges.proofs.Words.{◌≡◌, ℕ, true, List, take, sym, ap, subst, ◌∙◌, arith, take-length, contains}
 use Rattle.fs_ranges.proofs.Hulls.{hull_more}
 use Rattle.fs_ranges.proofs.spans.hull_of.Goals as goal
 

@@ -1,5 +1,4 @@
-use Rattle.std.proofs.Common.{◌≡◌, ℕ, true, take}
-use Rattle.fs_ranges.specs.Spans.{contains, is_in}
+use Rattle.fs_ranges.proofs.Words.{◌≡◌, ℕ, true, take, contains, is_in}
 use Rattle.fs_ranges.proofs.spans.hull_of.Given as goal
 
 abbrev pub invariant-loop-range : goal.invariant-loop-range

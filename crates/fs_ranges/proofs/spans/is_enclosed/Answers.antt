@@ -1,6 +1,4 @@
-use Rattle.std.proofs.Common.{nat_lt, rules, of_calls, sym}
-use Rattle.std.proofs.lemmas.List.Sorted.{IsPartitionPoint-from_clause}
-use Rattle.std.proofs.lemmas.Bool.{ltb-false}
+use Rattle.fs_ranges.proofs.Words.{nat_lt, rules, of_calls, sym, IsPartitionPoint-from_clause, ltb-false}
 use Rattle.fs_ranges.proofs.Enclosing.{found_encloses, lasts_rise, none_encloses}
 use Rattle.fs_ranges.proofs.spans.is_enclosed.Goals as goal
 

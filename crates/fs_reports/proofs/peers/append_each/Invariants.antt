@@ -1,6 +1,4 @@
-use Rattle.std.proofs.Common.{◌≡◌, ◌++◌, drop}
-use Rattle.fs_reports.specs.Peers.{peers_text}
-use Rattle.fs_desk.specs.Desk.{standing_at_desk}
+use Rattle.fs_reports.proofs.Words.{◌≡◌, ◌++◌, drop, peers_text, standing_at_desk}
 use Rattle.fs_reports.proofs.peers.append_each.Given as goal
 
 abbrev pub invariant-loop-number : goal.invariant-loop-number

@@ -1,9 +1,5 @@
-use Rattle.std.proofs.Common.{◌≡◌, ℕ, ◌<◌, List, Contains, eqb, map, take_all, ap, sym, subst, ◌∙◌}
+use Rattle.fs_reports.proofs.Words.{◌≡◌, ℕ, ◌<◌, List, Contains, eqb, map, take_all, ap, sym, subst, ◌∙◌, Contains-dedup_nat, Contains-from_dedup, All-permutation, Contains-permutation, IsPermutation-sym, IsStrictlyIncreasing-dedup, sorted_from_strictly_increasing, dedup}
 use Rattle.std.proofs.lemmas.List.Filters.{dedup_is, All-dedup}
-use Rattle.std.proofs.lemmas.List.Kept.{Contains-dedup_nat, Contains-from_dedup}
-use Rattle.std.proofs.lemmas.List.Sorted.{All-permutation, Contains-permutation, IsPermutation-sym}
-use Rattle.std.proofs.lemmas.Map.Keys.{IsStrictlyIncreasing-dedup, sorted_from_strictly_increasing}
-use Rattle.std.specs.List.{dedup}
 use Rattle.fs_reports.proofs.Numbers.{number_of, numbers_are}
 use Rattle.fs_reports.proofs.peers.numbers_of.Goals as goal
 

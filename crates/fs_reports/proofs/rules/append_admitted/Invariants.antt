@@ -1,6 +1,4 @@
-use Rattle.std.proofs.Common.{◌≡◌, ◌+◌, ◌++◌, map, drop}
-use Rattle.fs_rules.specs.Lent.{shown_lent}
-use Rattle.fs_reports.specs.Rules.{admitted_lines}
+use Rattle.fs_reports.proofs.Words.{◌≡◌, ◌+◌, ◌++◌, map, drop, shown_lent, admitted_lines}
 use Rattle.fs_reports.proofs.rules.append_admitted.Given as goal
 
 abbrev pub invariant-loop-place : goal.invariant-loop-place

@@ -1,6 +1,4 @@
-use Rattle.std.proofs.Common.{◌≡◌, ◌++◌, map, drop}
-use Rattle.fs_rules.specs.Lent.{shown_held}
-use Rattle.fs_reports.specs.Rules.{invalid_lines}
+use Rattle.fs_reports.proofs.Words.{◌≡◌, ◌++◌, map, drop, shown_held, invalid_lines}
 use Rattle.fs_reports.proofs.rules.append_invalid.Given as goal
 
 abbrev pub invariant-loop-route : goal.invariant-loop-route

@@ -1,11 +1,5 @@
-use Rattle.std.proofs.Common.{◌≡◌, ◌≤◌, ◌+◌, ◌++◌, sym, ap, subst, ◌∙◌, length, drop, option_map, slice_get}
-use Rattle.fs_flows.specs.Blocks.{flat, AreEachSorted}
-use Rattle.fs_rules.specs.Reading.{chosen_flat}
-use Rattle.fs_flows.specs.Group.{chosen}
-use Rattle.fs_rules.specs.Lent.{shown_admitted}
-use Rattle.fs_rules.specs.Lists.{listing}
+use Rattle.fs_rules.proofs.Words.{◌≡◌, ◌≤◌, ◌+◌, ◌++◌, sym, ap, subst, ◌∙◌, length, drop, option_map, slice_get, flat, AreEachSorted, chosen_flat, chosen, shown_admitted, listing, sorted_each}
 use Rattle.fs_rules.proofs.InParts.{chosen_whole, found_front, found_behind, found_back}
-use Rattle.fs_flows.proofs.Cutting.{sorted_each}
 use Rattle.fs_rules.proofs.Stepping.{rest_is}
 use Rattle.fs_rules.proofs.blocks.admitted_at.Goals as goal
 

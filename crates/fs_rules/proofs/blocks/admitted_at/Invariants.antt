@@ -1,7 +1,4 @@
-use Rattle.std.proofs.Common.{◌≡◌, slice_get, drop}
-use Rattle.fs_flows.specs.Blocks.{flat, AreEachSorted}
-use Rattle.fs_rules.specs.Reading.{chosen_flat}
-use Rattle.fs_flows.specs.Group.{chosen}
+use Rattle.fs_rules.proofs.Words.{◌≡◌, slice_get, drop, flat, AreEachSorted, chosen_flat, chosen}
 use Rattle.fs_rules.proofs.blocks.admitted_at.Given as goal
 
 abbrev pub invariant-loop-block : goal.invariant-loop-block

@@ -1,6 +1,5 @@
-use Rattle.std.proofs.Common.{ap, ◌∙◌, length, zero-add}
+use Rattle.fs_rules.proofs.Words.{ap, ◌∙◌, length, zero-add, sorted_each}
 use Rattle.fs_rules.proofs.InParts.{chosen_whole}
-use Rattle.fs_flows.proofs.Cutting.{sorted_each}
 use Rattle.fs_rules.proofs.blocks.count_admitted.Goals as goal
 
 pub loop-block-init : goal.loop-block-init

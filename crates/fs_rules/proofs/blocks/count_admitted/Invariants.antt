@@ -1,7 +1,4 @@
-use Rattle.std.proofs.Common.{◌≡◌, ◌+◌, length, drop}
-use Rattle.fs_flows.specs.Blocks.{flat, AreEachSorted}
-use Rattle.fs_rules.specs.Reading.{chosen_flat}
-use Rattle.fs_flows.specs.Group.{chosen}
+use Rattle.fs_rules.proofs.Words.{◌≡◌, ◌+◌, length, drop, flat, AreEachSorted, chosen_flat, chosen}
 use Rattle.fs_rules.proofs.blocks.count_admitted.Given as goal
 
 abbrev pub invariant-loop-block : goal.invariant-loop-block

@@ -1,5 +1,4 @@
-use Rattle.std.proofs.Common.{◌≡◌, ◌+◌, length, drop}
-use Rattle.fs_flows.specs.Blocks.{flat}
+use Rattle.fs_rules.proofs.Words.{◌≡◌, ◌+◌, length, drop, flat}
 use Rattle.fs_rules.proofs.blocks.count_held.Given as goal
 
 abbrev pub invariant-loop-block : goal.invariant-loop-block

@@ -1,7 +1,4 @@
-use Rattle.std.proofs.Common.{◌≡◌, ◌≤◌, ◌+◌, ◌++◌, sym, ap, subst, ◌∙◌, drop, option_map, slice_get}
-use Rattle.fs_flows.specs.Blocks.{flat}
-use Rattle.fs_rules.specs.Lent.{shown_held}
-use Rattle.fs_rules.specs.Lists.{judgement}
+use Rattle.fs_rules.proofs.Words.{◌≡◌, ◌≤◌, ◌+◌, ◌++◌, sym, ap, subst, ◌∙◌, drop, option_map, slice_get, flat, shown_held, judgement}
 use Rattle.fs_rules.proofs.InParts.{found_front, found_behind, found_back}
 use Rattle.fs_rules.proofs.Stepping.{rest_is}
 use Rattle.fs_rules.proofs.blocks.held_at.Goals as goal

@@ -1,5 +1,4 @@
-use Rattle.std.proofs.Common.{◌≡◌, slice_get, drop}
-use Rattle.fs_flows.specs.Blocks.{flat}
+use Rattle.fs_rules.proofs.Words.{◌≡◌, slice_get, drop, flat}
 use Rattle.fs_rules.proofs.blocks.held_at.Given as goal
 
 abbrev pub invariant-loop-block : goal.invariant-loop-block

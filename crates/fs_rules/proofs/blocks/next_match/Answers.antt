@@ -1,9 +1,5 @@
-use Rattle.std.proofs.Common.{length-append, ◌≡◌, ◌+◌, ◌++◌, sym, ap, subst, ◌∙◌, length, drop, arith}
-use Rattle.fs_flows.specs.Blocks.{flat, AreEachSorted}
-use Rattle.fs_rules.specs.Reading.{chosen_flat}
-use Rattle.fs_flows.specs.Group.{chosen}
+use Rattle.fs_rules.proofs.Words.{length-append, ◌≡◌, ◌+◌, ◌++◌, sym, ap, subst, ◌∙◌, length, drop, arith, flat, AreEachSorted, chosen_flat, chosen, sorted_each}
 use Rattle.fs_rules.proofs.InParts.{chosen_whole, next_in, next_front, next_back}
-use Rattle.fs_flows.proofs.Cutting.{sorted_each}
 use Rattle.fs_rules.proofs.Stepping.{rest_is}
 use Rattle.fs_rules.proofs.blocks.next_match.Goals as goal
 

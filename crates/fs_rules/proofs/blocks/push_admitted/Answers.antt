@@ -1,7 +1,5 @@
-use Rattle.std.proofs.Common.{ap, ◌++◌, map}
-use Rattle.fs_rules.specs.Lent.{listed, shown_lent}
+use Rattle.fs_rules.proofs.Words.{ap, ◌++◌, map, listed, shown_lent, sorted_each}
 use Rattle.fs_rules.proofs.InParts.{chosen_whole}
-use Rattle.fs_flows.proofs.Cutting.{sorted_each}
 use Rattle.fs_rules.proofs.blocks.push_admitted.Goals as goal
 
 pub loop-block-init : goal.loop-block-init

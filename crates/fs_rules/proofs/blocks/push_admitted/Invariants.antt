@@ -1,8 +1,4 @@
-use Rattle.std.proofs.Common.{◌≡◌, ◌++◌, map, drop}
-use Rattle.fs_flows.specs.Blocks.{flat, AreEachSorted}
-use Rattle.fs_rules.specs.Reading.{chosen_flat}
-use Rattle.fs_flows.specs.Group.{chosen}
-use Rattle.fs_rules.specs.Lent.{listed, shown_lent}
+use Rattle.fs_rules.proofs.Words.{◌≡◌, ◌++◌, map, drop, flat, AreEachSorted, chosen_flat, chosen, listed, shown_lent}
 use Rattle.fs_rules.proofs.blocks.push_admitted.Given as goal
 
 abbrev pub invariant-loop-block : goal.invariant-loop-block

@@ -1,7 +1,4 @@
-use Rattle.std.proofs.Common.{◌≡◌, ◌++◌, map, drop}
-use Rattle.fs_flows.specs.Blocks.{flat}
-use Rattle.fs_rules.specs.Lent.{shown_held}
-use Rattle.fs_rules.specs.Lists.{judgement}
+use Rattle.fs_rules.proofs.Words.{◌≡◌, ◌++◌, map, drop, flat, shown_held, judgement}
 use Rattle.fs_rules.proofs.blocks.push_held.Given as goal
 
 abbrev pub invariant-loop-block : goal.invariant-loop-block

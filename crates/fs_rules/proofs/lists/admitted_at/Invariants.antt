@@ -1,5 +1,4 @@
-use Rattle.std.proofs.Common.{◌≡◌, filter, drop, slice_get}
-use Rattle.fs_flows.specs.Group.{is_chosen, chosen}
+use Rattle.fs_rules.proofs.Words.{◌≡◌, filter, drop, slice_get, is_chosen, chosen}
 use Rattle.fs_rules.proofs.lists.admitted_at.Given as goal
 
 abbrev pub invariant-loop-place : goal.invariant-loop-place

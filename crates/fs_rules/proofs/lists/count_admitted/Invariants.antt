@@ -1,5 +1,4 @@
-use Rattle.std.proofs.Common.{◌≡◌, ◌+◌, ◌≤◌, filter, drop, length}
-use Rattle.fs_flows.specs.Group.{is_chosen, chosen}
+use Rattle.fs_rules.proofs.Words.{◌≡◌, ◌+◌, ◌≤◌, filter, drop, length, is_chosen, chosen}
 use Rattle.fs_rules.proofs.lists.count_admitted.Given as goal
 
 abbrev pub invariant-loop-place : goal.invariant-loop-place

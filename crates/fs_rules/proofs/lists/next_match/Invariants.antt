@@ -1,7 +1,4 @@
-use Rattle.std.proofs.Common.{◌≡◌, ◌+◌, filter, drop, find, length, nat_le}
-use Rattle.fs_flows.specs.Group.{routes_of, is_chosen, chosen}
-use Rattle.fs_rules.specs.Lists.{routes_chosen}
-use Rattle.fs_rules.specs.Walk.{matching_from}
+use Rattle.fs_rules.proofs.Words.{◌≡◌, ◌+◌, filter, drop, find, length, nat_le, routes_of, is_chosen, chosen, routes_chosen, matching_from}
 use Rattle.fs_rules.proofs.lists.next_match.Given as goal
 
 abbrev pub invariant-loop-place : goal.invariant-loop-place

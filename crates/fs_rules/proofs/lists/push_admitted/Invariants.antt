@@ -1,6 +1,4 @@
-use Rattle.std.proofs.Common.{◌≡◌, ◌++◌, map, filter, drop}
-use Rattle.fs_flows.specs.Group.{is_chosen, chosen}
-use Rattle.fs_rules.specs.Lent.{listed, shown_lent}
+use Rattle.fs_rules.proofs.Words.{◌≡◌, ◌++◌, map, filter, drop, is_chosen, chosen, listed, shown_lent}
 use Rattle.fs_rules.proofs.lists.push_admitted.Given as goal
 
 abbrev pub invariant-loop-place : goal.invariant-loop-place

@@ -1,6 +1,4 @@
-use Rattle.std.proofs.Common.{◌≡◌, ◌++◌, map, drop}
-use Rattle.fs_rules.specs.Lent.{shown_held}
-use Rattle.fs_rules.specs.Lists.{judgement}
+use Rattle.fs_rules.proofs.Words.{◌≡◌, ◌++◌, map, drop, shown_held, judgement}
 use Rattle.fs_rules.proofs.lists.push_held.Given as goal
 
 abbrev pub invariant-loop-k : goal.invariant-loop-k

@@ -1,6 +1,4 @@
-use Rattle.std.proofs.Common.{◌≡◌, slice_get}
-use Rattle.fs_flows.specs.Groups.{HasSortedGroups}
-use Rattle.fs_flows.specs.Lending.{chosen_in}
+use Rattle.fs_rules.proofs.Words.{◌≡◌, slice_get, HasSortedGroups, chosen_in}
 use Rattle.fs_rules.proofs.reading.admitted_at.Given as goal
 
 abbrev pub invariant-loop-group : goal.invariant-loop-group

@@ -1,6 +1,4 @@
-use Rattle.std.proofs.Common.{◌≡◌, ◌+◌, length}
-use Rattle.fs_flows.specs.Groups.{HasSortedGroups}
-use Rattle.fs_flows.specs.Lending.{chosen_in}
+use Rattle.fs_rules.proofs.Words.{◌≡◌, ◌+◌, length, HasSortedGroups, chosen_in}
 use Rattle.fs_rules.proofs.reading.count.Given as goal
 
 abbrev pub invariant-loop-group : goal.invariant-loop-group

@@ -1,5 +1,4 @@
-use Rattle.std.proofs.Common.{◌≡◌, slice_get}
-use Rattle.fs_flows.specs.Groups.{kept_in}
+use Rattle.fs_rules.proofs.Words.{◌≡◌, slice_get, kept_in}
 use Rattle.fs_rules.proofs.reading.held_at.Given as goal
 
 abbrev pub invariant-loop-group : goal.invariant-loop-group

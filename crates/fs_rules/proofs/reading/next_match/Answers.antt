@@ -1,7 +1,4 @@
-use Rattle.std.proofs.Common.{◌≡◌, ◌+◌, ◌++◌, sym, ap, subst, ◌∙◌, length, length-append, arith}
-use Rattle.fs_flows.specs.Group.{chosen}
-use Rattle.fs_flows.specs.Groups.{HasSortedGroups}
-use Rattle.fs_flows.specs.Lending.{chosen_in}
+use Rattle.fs_rules.proofs.Words.{◌≡◌, ◌+◌, ◌++◌, sym, ap, subst, ◌∙◌, length, length-append, arith, chosen, HasSortedGroups, chosen_in}
 use Rattle.fs_rules.proofs.InParts.{next_in, next_front, next_back}
 use Rattle.fs_rules.proofs.reading.next_match.Goals as goal
 

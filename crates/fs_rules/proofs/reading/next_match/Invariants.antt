@@ -1,8 +1,4 @@
-use Rattle.std.proofs.Common.{◌≡◌, ◌+◌, length}
-use Rattle.fs_flows.specs.Group.{routes_of}
-use Rattle.fs_flows.specs.Groups.{HasSortedGroups}
-use Rattle.fs_flows.specs.Lending.{chosen_in}
-use Rattle.fs_rules.specs.Walk.{next_match}
+use Rattle.fs_rules.proofs.Words.{◌≡◌, ◌+◌, length, routes_of, HasSortedGroups, chosen_in, next_match}
 use Rattle.fs_rules.proofs.InParts.{next_in}
 use Rattle.fs_rules.proofs.reading.next_match.Given as goal
 

@@ -1,7 +1,4 @@
-use Rattle.std.proofs.Common.{◌≡◌, ◌++◌, map}
-use Rattle.fs_flows.specs.Groups.{HasSortedGroups}
-use Rattle.fs_rules.specs.Lent.{listed, shown_lent}
-use Rattle.fs_flows.specs.Lending.{chosen_in}
+use Rattle.fs_rules.proofs.Words.{◌≡◌, ◌++◌, map, HasSortedGroups, listed, shown_lent, chosen_in}
 use Rattle.fs_rules.proofs.reading.push_admitted.Given as goal
 
 abbrev pub invariant-loop-group : goal.invariant-loop-group

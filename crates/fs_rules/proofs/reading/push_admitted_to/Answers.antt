@@ -1,7 +1,4 @@
-use Rattle.std.proofs.Common.{sym, subst}
-use Rattle.std.specs.BTreeMap.{is_at}
-use Rattle.fs_base.specs.Prefix.{prefix_cmp}
-use Rattle.fs_flows.specs.Group.{AreSorted, routes_of}
+use Rattle.fs_rules.proofs.Words.{sym, subst, is_at, prefix_cmp, AreSorted, routes_of}
 use Rattle.fs_flows.proofs.PuttingInGroups.{each_lookup}
 use Rattle.fs_rules.proofs.reading.push_admitted_to.Goals as goal
 

@@ -1,7 +1,4 @@
-use Rattle.std.proofs.Common.{◌≡◌, ◌++◌, map}
-use Rattle.fs_flows.specs.Groups.{kept_in}
-use Rattle.fs_rules.specs.Lent.{shown_held}
-use Rattle.fs_rules.specs.Lists.{judgement}
+use Rattle.fs_rules.proofs.Words.{◌≡◌, ◌++◌, map, kept_in, shown_held, judgement}
 use Rattle.fs_rules.proofs.reading.push_held.Given as goal
 
 abbrev pub invariant-loop-group : goal.invariant-loop-group

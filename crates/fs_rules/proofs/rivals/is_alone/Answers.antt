@@ -1,6 +1,4 @@
-use Rattle.std.proofs.Common.{◌≡◌, ◌<◌, ◌+◌, ◌-◌, true, sym, ap, ◌∙◌, slice_get, arith}
-use Rattle.fs_validate.specs.declared.route.FlowRoute.{FlowRoute}
-use Rattle.fs_rules.specs.Rivals.{is_apart, is_before_rule}
+use Rattle.fs_rules.proofs.Words.{◌≡◌, ◌<◌, ◌+◌, ◌-◌, true, sym, ap, ◌∙◌, slice_get, arith, FlowRoute, is_apart, is_before_rule}
 use Rattle.fs_rules.proofs.Alone.{alone_first, alone_at}
 use Rattle.fs_rules.proofs.rivals.is_alone.Goals as goal
 

@@ -1,8 +1,5 @@
-use Rattle.std.proofs.Common.{◌<◌, ◌+◌, ◌-◌, sym, ap, ◌∙◌, length, take, drop}
-use Rattle.fs_validate.specs.declared.route.FlowRoute.{FlowRoute}
-use Rattle.fs_flows.specs.Group.{place_in}
+use Rattle.fs_rules.proofs.Words.{◌<◌, ◌+◌, ◌-◌, sym, ap, ◌∙◌, length, take, drop, FlowRoute, place_in, tail_is}
 use Rattle.fs_rules.proofs.Stepping.{rest_is}
-use Rattle.fs_flows.proofs.KeyPlaces.{tail_is}
 use Rattle.fs_rules.proofs.Runs.{run_starts, run_over}
 use Rattle.fs_rules.proofs.rivals.is_beaten.Goals as goal
 

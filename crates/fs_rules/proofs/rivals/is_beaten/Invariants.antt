@@ -1,5 +1,4 @@
-use Rattle.std.proofs.Common.{◌≡◌, drop}
-use Rattle.fs_flows.specs.Group.{is_beaten}
+use Rattle.fs_rules.proofs.Words.{◌≡◌, drop, is_beaten}
 use Rattle.fs_rules.proofs.rivals.is_beaten.Given as goal
 
 abbrev pub invariant-loop-s : goal.invariant-loop-s

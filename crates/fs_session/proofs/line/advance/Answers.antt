@@ -1,5 +1,4 @@
-use Rattle.fs_message.specs.Deframer.{pending, frame_of}
-use Rattle.fs_session.specs.Side.{machine_of}
+use Rattle.fs_session.proofs.Words.{pending, frame_of, machine_of}
 use Rattle.fs_session.proofs.Closing.{StandsIn, closes}
 use Rattle.fs_session.proofs.line.advance.Goals as goal
 

@@ -1,6 +1,4 @@
-use Rattle.std.proofs.Common.{◌≡◌, length}
-use Rattle.std.specs.List.{list_all}
-use Rattle.fs_session.specs.Sending.{is_short}
+use Rattle.fs_session.proofs.Words.{◌≡◌, length, list_all, is_short}
 use Rattle.fs_session.proofs.sending.are_short.Given as goal
 
 -- what holds of all rules holds of those left

@@ -1,8 +1,4 @@
-use Rattle.std.proofs.Common.{◌≡◌, drop}
-use Rattle.std.specs.List.{list_any}
-use Rattle.fs_nlri.specs.Component.{part_of, parts_of}
-use Rattle.fs_nlri.specs.Sound.{AreSound}
-use Rattle.fs_shadow.specs.Contains.{part_lies_in}
+use Rattle.fs_shadow.proofs.Words.{◌≡◌, drop, list_any, part_of, parts_of, AreSound, part_lies_in}
 use Rattle.fs_shadow.proofs.checking.has_one.Given as goal
 
 -- what is left answers for all

@@ -1,8 +1,5 @@
-use Rattle.std.proofs.Common.{◌∙◌, sym, subst}
-use Rattle.fs_nlri.specs.Component.{body_of}
-use Rattle.fs_nlri.specs.Sound.{IsSoundBody}
+use Rattle.fs_shadow.proofs.Words.{◌∙◌, sym, subst, body_of, IsSoundBody, body_lies_in}
 use Rattle.fs_nlri.specs.declared.component.PrefixForm.{PrefixForm}
-use Rattle.fs_shadow.specs.Contains.{body_lies_in}
 use Rattle.fs_shadow.proofs.ByEnds.{v4_by_ends, v6_by_ends}
 use Rattle.fs_shadow.proofs.ends.prefix_lies_in.Goals as goal
 

@@ -1,5 +1,4 @@
-use Rattle.std.proofs.Common.{◌≡◌, ◌++◌, drop}
-use Rattle.fs_shadow.specs.Outlines.{entries_from}
+use Rattle.fs_shadow.proofs.Words.{◌≡◌, ◌++◌, drop, entries_from}
 use Rattle.fs_shadow.proofs.keys.entries_of.Given as goal
 
 -- what stands and what is to come is the whole

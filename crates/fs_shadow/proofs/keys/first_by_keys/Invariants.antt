@@ -1,6 +1,4 @@
-use Rattle.std.proofs.Common.{take}
-use Rattle.std.specs.List.{list_any}
-use Rattle.fs_shadow.specs.Outlines.{IsFirst, probes}
+use Rattle.fs_shadow.proofs.Words.{take, list_any, IsFirst, probes}
 use Rattle.fs_shadow.proofs.keys.first_by_keys.Given as goal
 
 -- of the rules that the measures so far ask for

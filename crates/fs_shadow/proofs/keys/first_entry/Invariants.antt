@@ -1,5 +1,4 @@
-use Rattle.std.proofs.Common.{◌≡◌, drop}
-use Rattle.fs_shadow.specs.Outlines.{first_entry}
+use Rattle.fs_shadow.proofs.Words.{◌≡◌, drop, first_entry}
 use Rattle.fs_shadow.proofs.keys.first_entry.Given as goal
 
 -- what is left answers for all

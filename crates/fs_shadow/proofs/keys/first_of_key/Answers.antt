@@ -1,6 +1,4 @@
-use Rattle.std.proofs.Common.{◌==◌, ℕ, List, nat_lt, rules, of_calls, sym, ap, subst, ◌∙◌}
-use Rattle.std.proofs.lemmas.List.Sorted.{IsPartitionPoint-from_clause, IsPartitionedBy-ltb}
-use Rattle.fs_shadow.specs.Outlines.{IsFirst, first_entry, rank}
+use Rattle.fs_shadow.proofs.Words.{◌==◌, ℕ, List, nat_lt, rules, of_calls, sym, ap, subst, ◌∙◌, IsPartitionPoint-from_clause, IsPartitionedBy-ltb, IsFirst, first_entry, rank}
 use Rattle.fs_shadow.proofs.Entries.{first_of, rest_whole}
 use Rattle.fs_shadow.proofs.keys.first_of_key.Goals as goal
 

@@ -1,7 +1,4 @@
-use Rattle.std.proofs.Common.{ℕ, sym, ap, ◌∙◌, rules}
-use Rattle.std.specs.List.{list_any}
-use Rattle.std.proofs.lemmas.List.Sorted.{IsNonDecreasingBy-from_sort_by_key, list_any-IsPermutation}
-use Rattle.fs_shadow.specs.Outlines.{is_entry, rank}
+use Rattle.fs_shadow.proofs.Words.{ℕ, sym, ap, ◌∙◌, rules, list_any, IsNonDecreasingBy-from_sort_by_key, list_any-IsPermutation, is_entry, rank}
 use Rattle.fs_shadow.proofs.keys.index_of.Goals as goal
 
 pub returns : goal.returns

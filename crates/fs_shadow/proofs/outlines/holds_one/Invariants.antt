@@ -1,6 +1,4 @@
-use Rattle.std.proofs.Common.{◌≡◌, drop}
-use Rattle.std.specs.List.{list_any}
-use Rattle.fs_shadow.specs.Extents.{measure_lies_in}
+use Rattle.fs_shadow.proofs.Words.{◌≡◌, drop, list_any, measure_lies_in}
 use Rattle.fs_shadow.proofs.outlines.holds_one.Given as goal
 
 -- what is left answers for all

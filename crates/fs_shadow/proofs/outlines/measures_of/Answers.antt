@@ -1,7 +1,4 @@
-use Rattle.std.proofs.Common.{arith}
-use Rattle.fs_nlri.specs.Component.{part_of}
-use Rattle.fs_buckets.proofs.Pairing.{each_pushed}
-use Rattle.fs_shadow.specs.Extents.{IsMeasureOf}
+use Rattle.fs_shadow.proofs.Words.{arith, part_of, each_pushed, IsMeasureOf}
 use Rattle.fs_shadow.proofs.Measuring.{sound_at}
 use Rattle.fs_shadow.proofs.outlines.measures_of.Goals as goal
 

@@ -1,7 +1,4 @@
-use Rattle.std.proofs.Common.{arith}
-use Rattle.fs_rules.specs.Lent.{shown_lent}
-use Rattle.fs_buckets.proofs.Pairing.{each_pushed}
-use Rattle.fs_shadow.specs.Outlines.{IsOutlineOf}
+use Rattle.fs_shadow.proofs.Words.{arith, shown_lent, each_pushed, IsOutlineOf}
 use Rattle.fs_shadow.proofs.outlines.outlines_of.Goals as goal
 
 pub loop-admitted-preserved : goal.loop-admitted-preserved

@@ -1,6 +1,4 @@
-use Rattle.std.proofs.Common.{take}
-use Rattle.fs_rules.specs.Lent.{all_admitted}
-use Rattle.fs_shadow.specs.Outlines.{AreOutlinesOf}
+use Rattle.fs_shadow.proofs.Words.{take, all_admitted, AreOutlinesOf}
 use Rattle.fs_shadow.proofs.outlines.outlines_of.Given as goal
 
 abbrev pub invariant-loop-admitted : goal.invariant-loop-admitted

@@ -1,5 +1,4 @@
-use Rattle.std.proofs.Common.{rules}
-use Rattle.fs_shadow.specs.Points.{implied_around}
+use Rattle.fs_shadow.proofs.Words.{rules, implied_around}
 use Rattle.fs_shadow.proofs.points.implied_around.Goals as goal
 
 pub returns-then-implied_at-2 : goal.returns-then-implied_at-2

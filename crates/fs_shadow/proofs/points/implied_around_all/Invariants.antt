@@ -1,6 +1,4 @@
-use Rattle.std.proofs.Common.{◌≡◌, drop}
-use Rattle.std.specs.List.{list_all}
-use Rattle.fs_shadow.specs.Points.{implied_around}
+use Rattle.fs_shadow.proofs.Words.{◌≡◌, drop, list_all, implied_around}
 use Rattle.fs_shadow.proofs.points.implied_around_all.Given as goal
 
 -- what is left answers for all

@@ -1,7 +1,4 @@
-use Rattle.std.proofs.Common.{Bool, not, ap, sym, ◌∙◌}
-use Rattle.fs_ops.specs.Evaluation.{compares, holds}
-use Rattle.fs_shadow.specs.Contains.{implies}
-use Rattle.fs_shadow.specs.Points.{implied_at}
+use Rattle.fs_shadow.proofs.Words.{Bool, not, ap, sym, ◌∙◌, compares, holds, implies, implied_at}
 use Rattle.fs_shadow.proofs.points.implied_at.Goals as goal
 
 pub returns-then-not-eval : goal.returns-then-not-eval

@@ -1,17 +1,8 @@
-use Rattle.std.proofs.Common.{ℕ, ◌<◌, ◌++◌, length, sym, subst, arith, refl}
-use Rattle.std.proofs.lemmas.List.{length-map}
-use Rattle.std.proofs.lemmas.Option.{slice_get_read}
-use Rattle.std.specs.List.{AllByRecursion}
-use Rattle.fs_rules.specs.Lent.{all_admitted, shown_lent}
-use Rattle.fs_buckets.proofs.Pairing.{each_size}
-use Rattle.fs_buckets.proofs.Splicing.{each_got}
-use Rattle.fs_shadow.specs.Reporting.{report_of}
+use Rattle.fs_shadow.proofs.Words.{ℕ, ◌<◌, ◌++◌, length, sym, subst, arith, refl, length-map, slice_get_read, AllByRecursion, all_admitted, shown_lent, each_size, each_got, report_of, IsOutlineOf, IsTold}
 use Rattle.fs_shadow.proofs.Destinations.{AreApart}
 use Rattle.fs_shadow.proofs.Probing.{all_told}
 use Rattle.fs_shadow.proofs.Reported.{apart_later, report_ends, report_step, stretch_apart}
 use Rattle.fs_shadow.proofs.reporting.append_report.Goals as goal
-use Rattle.fs_shadow.specs.Outlines.{IsOutlineOf}
-use Rattle.fs_shadow.specs.Extents.{IsTold}
 
 pub stretch_start-start-requires-clause-inside : goal.stretch_start-start-requires-clause-inside
 stretch_start-start-requires-clause-inside c =

@@ -1,6 +1,4 @@
-use Rattle.std.proofs.Common.{◌≡◌, ◌≤◌, ◌++◌, drop, take}
-use Rattle.fs_rules.specs.Lent.{all_admitted}
-use Rattle.fs_shadow.specs.Reporting.{report_behind, report_of}
+use Rattle.fs_shadow.proofs.Words.{◌≡◌, ◌≤◌, ◌++◌, drop, take, all_admitted, report_behind, report_of}
 use Rattle.fs_shadow.proofs.Destinations.{AreApart}
 use Rattle.fs_shadow.proofs.reporting.append_report.Given as goal
 

@@ -1,8 +1,4 @@
-use Rattle.std.proofs.Common.{◌≡◌, Bool, ◌-◌, ◌&&◌, None, get_or, ap, sym, ◌∙◌, arith}
-use Rattle.std.proofs.lemmas.Bool.{lt-ltb}
-use Rattle.fs_rules.specs.Lent.{all_admitted}
-use Rattle.fs_buckets.specs.Destinations.{spans_of}
-use Rattle.fs_shadow.specs.Outlines.{lie_apart}
+use Rattle.fs_shadow.proofs.Words.{◌≡◌, Bool, ◌-◌, ◌&&◌, None, get_or, ap, sym, ◌∙◌, arith, lt-ltb, all_admitted, spans_of, lie_apart}
 use Rattle.fs_shadow.proofs.Spanning.{span_of_item}
 use Rattle.fs_shadow.proofs.reporting.begins_anew.Goals as goal
 

@@ -1,5 +1,4 @@
-use Rattle.std.proofs.Common.{◌≡◌, ◌+◌, drop}
-use Rattle.fs_shadow.specs.Outlines.{first_taker}
+use Rattle.fs_shadow.proofs.Words.{◌≡◌, ◌+◌, drop, first_taker}
 use Rattle.fs_shadow.proofs.reporting.first_taker.Given as goal
 
 -- what is left answers for all

@@ -1,9 +1,6 @@
-use Rattle.std.proofs.Common.{◌≡◌, IfOk, List, sym, ap, subst, ◌∙◌}
-use Rattle.fs_rules.specs.Lent.{Listed, all_admitted}
+use Rattle.fs_shadow.proofs.Words.{◌≡◌, IfOk, List, sym, ap, subst, ◌∙◌, Listed, all_admitted, AreInOrder, report_of}
 use Rattle.fs_rules.specs.Table.{admitted}
 use Rattle.fs_buckets.proofs.Nesting.{all_of_family, nesting}
-use Rattle.fs_shadow.specs.Outlines.{AreInOrder}
-use Rattle.fs_shadow.specs.Reporting.{report_of}
 use Rattle.fs_shadow.proofs.reporting.report.Goals as goal
 
 pub report_of-requires : goal.report_of-requires

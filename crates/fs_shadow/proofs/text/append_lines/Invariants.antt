@@ -1,5 +1,4 @@
-use Rattle.std.proofs.Common.{◌≡◌, ◌++◌, drop, flat_map}
-use Rattle.fs_shadow.specs.Text.{covered_line}
+use Rattle.fs_shadow.proofs.Words.{◌≡◌, ◌++◌, drop, flat_map, covered_line}
 use Rattle.fs_shadow.proofs.text.append_lines.Given as goal
 
 abbrev pub invariant-loop-number : goal.invariant-loop-number

@@ -1,5 +1,4 @@
-use Rattle.std.proofs.Common.{ℕ, List, ◌++◌, ap, ◌∙◌}
-use Rattle.fs_shadow.specs.Text.{held_lines}
+use Rattle.fs_shadow.proofs.Words.{ℕ, List, ◌++◌, ap, ◌∙◌, held_lines}
 use Rattle.fs_shadow.proofs.text.shadow_text.Goals as goal
 
 pub returns : goal.returns

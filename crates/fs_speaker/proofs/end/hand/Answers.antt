@@ -1,8 +1,4 @@
-use Rattle.std.proofs.Common.{rules, refl, ◌∙◌, List, sym, subst, drop}
-use Rattle.std.proofs.lemmas.List.{take_rest}
-use Rattle.std.proofs.lemmas.Result.{on_ok_weaker}
-use Rattle.fs_attrs.specs.declared.update.Update.{Update}
-use Rattle.fs_speaker.specs.End.{HandsOver}
+use Rattle.fs_speaker.proofs.Words.{rules, refl, ◌∙◌, List, sym, subst, drop, take_rest, on_ok_weaker, Update, HandsOver}
 use Rattle.fs_speaker.proofs.Handover.{Going, going_start, going_more, hands_all, hands_closed, rest_none}
 use Rattle.fs_speaker.proofs.end.hand.Goals as goal
 

@@ -1,5 +1,4 @@
-use Rattle.std.proofs.Common.{rules}
-use Rattle.std.proofs.lemmas.Result.{on_ok_weaker}
+use Rattle.fs_speaker.proofs.Words.{rules, on_ok_weaker}
 use Rattle.fs_speaker.proofs.Waking.{ticks_on, ticks_shut}
 use Rattle.fs_speaker.proofs.end.tick.Goals as goal
 

@@ -1,5 +1,4 @@
-use Rattle.std.proofs.Common.{◌≡◌, drop}
-use Rattle.fs_tape.specs.Magic.{difference_from}
+use Rattle.fs_tape.proofs.Words.{◌≡◌, drop, difference_from}
 use Rattle.fs_tape.proofs.magic.wrong_octet.Given as goal
 
 abbrev pub invariant-loop-place : goal.invariant-loop-place

@@ -1,8 +1,4 @@
-use Rattle.std.proofs.Common.{◌≡◌, ◌∙◌, refl, sym, subst, true}
-use Rattle.std.proofs.lemmas.Bool.Decides.{Decides-eqb}
-use Rattle.std.proofs.lemmas.Slice.Eq.{slice_eq-Decides}
-use Rattle.fs_base.specs.Language.{IsOctets}
-use Rattle.fs_base.proofs.Octets.{octets_from}
+use Rattle.fs_text.proofs.Words.{◌≡◌, ◌∙◌, refl, sym, subst, true, Decides-eqb, slice_eq-Decides, IsOctets, octets_from}
 use Rattle.fs_text.proofs.actions.action_of.Goals as goal
 
 pub returns-in-Some-clause-some : goal.returns-in-Some-clause-some

@@ -1,6 +1,4 @@
-use Rattle.std.proofs.Common.{◌∙◌, ap, sym, map}
-use Rattle.fs_text.specs.Parts.{as_part}
-use Rattle.fs_text.specs.Pieces.{parts_of}
+use Rattle.fs_text.proofs.Words.{◌∙◌, ap, sym, map, as_part, parts_of}
 use Rattle.fs_text.proofs.Found.{reads_of}
 use Rattle.fs_text.proofs.actions.read_action.Goals as goal
 

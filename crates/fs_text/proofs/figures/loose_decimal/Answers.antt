@@ -1,9 +1,4 @@
-use Rattle.std.proofs.Common.{◌∙◌, ap, sym, subst}
-use Rattle.std.specs.Result.{result_ok}
-use Rattle.std.specs.Str.{IsUtf8}
-use Rattle.std.proofs.lemmas.Fmt.{parse-decimal, IsAscii-decimal}
-use Rattle.std.proofs.lemmas.Str.{IsUtf8-from_ascii}
-use Rattle.std.specs.Prelude.{decimal}
+use Rattle.fs_text.proofs.Words.{◌∙◌, ap, sym, subst, result_ok, IsUtf8, parse-decimal, IsAscii-decimal, IsUtf8-from_ascii, decimal}
 use Rattle.fs_text.proofs.figures.loose_decimal.Goals as goal
 
 pub returns-in-Ok : goal.returns-in-Ok

@@ -1,6 +1,4 @@
-use Rattle.std.proofs.Common.{◌∙◌, ℕ, List, Some, ap}
-use Rattle.byteorder.specs.Endian.{big_number}
-use Rattle.hex.specs.Hex.{decode_sized}
+use Rattle.fs_text.proofs.Words.{◌∙◌, ℕ, List, Some, ap, big_number, decode_sized}
 use Rattle.fs_text.proofs.Numerals.{figure_decoded, figure_read}
 use Rattle.fs_text.proofs.figures.loose_figure.Goals as goal
 

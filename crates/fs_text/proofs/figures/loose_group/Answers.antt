@@ -1,8 +1,4 @@
-use Rattle.std.proofs.Common.{◌∙◌, ap, sym, subst, arith}
-use Rattle.std.specs.Result.{result_ok}
-use Rattle.std.specs.Str.{IsUtf8}
-use Rattle.std.proofs.lemmas.Str.{IsUtf8-from_ascii}
-use Rattle.fs_words.specs.Figures.{hexadecimal}
+use Rattle.fs_text.proofs.Words.{◌∙◌, ap, sym, subst, arith, result_ok, IsUtf8, IsUtf8-from_ascii, hexadecimal}
 use Rattle.fs_text.proofs.Numerals.{ascii_group, parse_group}
 use Rattle.fs_text.proofs.figures.loose_group.Goals as goal
 

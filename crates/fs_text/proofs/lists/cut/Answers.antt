@@ -1,6 +1,4 @@
-use Rattle.std.proofs.Common.{◌++◌}
-use Rattle.fs_text.specs.ListWord.{is_sign}
-use Rattle.fs_text.specs.Pieces.{is_plain}
+use Rattle.fs_text.proofs.Words.{◌++◌, is_sign, is_plain}
 use Rattle.fs_text.proofs.Cuts.{ends_append, split_behind}
 use Rattle.fs_text.proofs.lists.cut.Goals as goal
 

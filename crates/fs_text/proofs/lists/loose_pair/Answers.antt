@@ -1,5 +1,4 @@
-use Rattle.fs_ops.specs.Operator.{width_code}
-use Rattle.fs_text.specs.ListWord.{relation_of}
+use Rattle.fs_text.proofs.Words.{width_code, relation_of}
 use Rattle.fs_text.proofs.Pairs.{pair_made, pair_read}
 use Rattle.fs_text.proofs.lists.loose_pair.Goals as goal
 

@@ -1,7 +1,4 @@
-use Rattle.std.proofs.Common.{◌∙◌, Some, ap, sym}
-use Rattle.std.proofs.lemmas.List.{nil_from_length}
-use Rattle.std.proofs.lemmas.Option.{some_pair_parts}
-use Rattle.fs_text.specs.ListWord.{plain_of}
+use Rattle.fs_text.proofs.Words.{◌∙◌, Some, ap, sym, nil_from_length, some_pair_parts, plain_of}
 use Rattle.fs_text.proofs.Pairs.{last_read, next_left, taken}
 use Rattle.fs_text.proofs.lists.loose_pairs.Goals as goal
 

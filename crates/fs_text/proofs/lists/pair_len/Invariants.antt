@@ -1,6 +1,4 @@
-use Rattle.std.proofs.Common.{◌≡◌, ◌+◌, ◌-◌, ◌≤◌, length, drop}
-use Rattle.std.specs.List.{prefix_len}
-use Rattle.fs_text.specs.ListWord.{is_within}
+use Rattle.fs_text.proofs.Words.{◌≡◌, ◌+◌, ◌-◌, ◌≤◌, length, drop, prefix_len, is_within}
 use Rattle.fs_text.proofs.lists.pair_len.Given as goal
 
 abbrev pub invariant-loop-place : goal.invariant-loop-place

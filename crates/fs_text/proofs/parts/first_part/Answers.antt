@@ -1,6 +1,4 @@
-use Rattle.std.proofs.Common.{◌≡◌, ◌∙◌, ◌∷◌, ℕ, List, take, drop, ap, sym, subst, arith}
-use Rattle.std.proofs.lemmas.List.{take_rest}
-use Rattle.fs_text.specs.Pieces.{is_plain, parts_of, Run}
+use Rattle.fs_text.proofs.Words.{◌≡◌, ◌∙◌, ◌∷◌, ℕ, List, take, drop, ap, sym, subst, arith, take_rest, is_plain, parts_of, Run}
 use Rattle.fs_text.proofs.Runs.{run_before}
 use Rattle.fs_text.proofs.parts.first_part.Goals as goal
 

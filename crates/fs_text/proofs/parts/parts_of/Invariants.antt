@@ -1,6 +1,4 @@
-use Rattle.std.proofs.Common.{◌≡◌, ◌++◌, length, map}
-use Rattle.fs_text.specs.Pieces.{parts_of}
-use Rattle.fs_text.specs.Parts.{as_part}
+use Rattle.fs_text.proofs.Words.{◌≡◌, ◌++◌, length, map, parts_of, as_part}
 use Rattle.fs_text.proofs.parts.parts_of.Given as goal
 
 -- with the parts of what is left, all are there

@@ -1,10 +1,4 @@
-use Rattle.std.proofs.Common.{map, subst}
-use Rattle.std.specs.Prelude.{option_map}
-use Rattle.fs_base.specs.declared.prefix.Family.{Family}
-use Rattle.fs_nlri.specs.Component.{body_of}
-use Rattle.fs_nlri.specs.Forms.{prefix_form}
-use Rattle.fs_nlri.specs.Rule.{IsNormalBody}
-use Rattle.fs_text.specs.Parts.{as_part}
+use Rattle.fs_text.proofs.Words.{map, subst, option_map, Family, body_of, prefix_form, IsNormalBody, as_part}
 use Rattle.fs_text.proofs.Prefixed.{v4_found, v6_found}
 use Rattle.fs_text.proofs.prefixes.loose_prefix.Goals as goal
 

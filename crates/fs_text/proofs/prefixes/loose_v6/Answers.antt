@@ -1,7 +1,4 @@
-use Rattle.std.proofs.Common.{map}
-use Rattle.std.specs.Prelude.{option_map}
-use Rattle.fs_nlri.specs.Component.{body_of}
-use Rattle.fs_text.specs.Parts.{as_part}
+use Rattle.fs_text.proofs.Words.{map, option_map, body_of, as_part}
 use Rattle.fs_text.proofs.Prefixed.{v6_made, v6_none}
 use Rattle.fs_text.proofs.prefixes.loose_v6.Goals as goal
 

@@ -1,7 +1,4 @@
-use Rattle.std.proofs.Common.{◌∙◌, ℕ, ◌/◌, ◌%◌, ◌^◌, ◌∷◌, sym}
-use Rattle.std.proofs.lemmas.Option.{none-some, some_pair_parts}
-use Rattle.fs_text.specs.Pieces.{Delimiter}
-use Rattle.fs_text.specs.PrefixParts.{half_parts, range_parts}
+use Rattle.fs_text.proofs.Words.{◌∙◌, ℕ, ◌/◌, ◌%◌, ◌^◌, ◌∷◌, sym, none-some, some_pair_parts, Delimiter, half_parts, range_parts}
 use Rattle.fs_text.proofs.Prefixed.{wide_made}
 use Rattle.fs_text.proofs.prefixes.loose_wide.Goals as goal
 

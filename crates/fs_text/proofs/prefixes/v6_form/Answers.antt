@@ -1,5 +1,4 @@
-use Rattle.std.proofs.Common.{ℕ, Some, ap}
-use Rattle.fs_nlri.specs.Parts.{V6Body}
+use Rattle.fs_text.proofs.Words.{ℕ, Some, ap, V6Body}
 use Rattle.fs_text.proofs.Prefixed.{pattern_back}
 use Rattle.fs_text.proofs.prefixes.v6_form.Goals as goal
 

@@ -1,5 +1,4 @@
-use Rattle.std.proofs.Common.{refl, subst}
-use Rattle.fs_text.specs.Steps.{ReadsAbove}
+use Rattle.fs_text.proofs.Words.{refl, subst, ReadsAbove}
 use Rattle.fs_text.proofs.Stepped.{bad_act_value}
 use Rattle.fs_text.proofs.steps.next_action.Goals as goal
 

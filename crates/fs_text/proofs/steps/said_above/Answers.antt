@@ -1,7 +1,4 @@
-use Rattle.std.proofs.Common.{subst}
-use Rattle.fs_words.specs.Actions.{action_text}
-use Rattle.fs_text.specs.ActionWord.{IsNamed}
-use Rattle.fs_text.specs.Reading.{Reads}
+use Rattle.fs_text.proofs.Words.{subst, action_text, IsNamed, Reads}
 use Rattle.fs_text.proofs.Stepped.{said}
 use Rattle.fs_text.proofs.steps.said_above.Goals as goal
 

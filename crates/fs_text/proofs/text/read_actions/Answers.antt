@@ -1,6 +1,4 @@
-use Rattle.std.proofs.Common.{Bor, List, ℕ, map, subst, sym, arith}
-use Rattle.std.proofs.lemmas.List.{drop-drop}
-use Rattle.fs_text.specs.Text.{IsWhole}
+use Rattle.fs_text.proofs.Words.{Bor, List, ℕ, map, subst, sym, arith, drop-drop, IsWhole}
 use Rattle.fs_text.proofs.Wholly.{all_parts, drop_end, drop_some, then_acts}
 use Rattle.fs_text.proofs.text.read_actions.Goals as goal
 

@@ -1,7 +1,5 @@
-use Rattle.std.proofs.Common.{Bor, List, ℕ, map, refl}
-use Rattle.std.specs.Prelude.{IfErr}
+use Rattle.fs_text.proofs.Words.{Bor, List, ℕ, map, refl, IfErr, IsWordFault}
 use Rattle.fs_nlri.specs.Component.{parts_of}
-use Rattle.fs_text.specs.Text.{IsWordFault}
 use Rattle.fs_text.proofs.Wholly.{err_on, led_pushed, part_fault}
 use Rattle.fs_text.proofs.text.read_components.Goals as goal
 

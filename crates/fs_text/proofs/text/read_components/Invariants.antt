@@ -1,6 +1,5 @@
-use Rattle.std.proofs.Common.{◌≤◌, ◌-◌, length, map}
+use Rattle.fs_text.proofs.Words.{◌≤◌, ◌-◌, length, map, Led}
 use Rattle.fs_nlri.specs.Component.{parts_of}
-use Rattle.fs_text.specs.Progress.{Led}
 use Rattle.fs_text.proofs.text.read_components.Given as goal
 
 -- the components so far are the first of any text that begins so

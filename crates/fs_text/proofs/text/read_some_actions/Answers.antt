@@ -1,7 +1,4 @@
-use Rattle.std.proofs.Common.{◌+◌, Bor, List, ℕ, inr, map, refl, subst, sym, arith}
-use Rattle.std.specs.Prelude.{IfErr}
-use Rattle.fs_text.specs.Progress.{Acts}
-use Rattle.fs_text.specs.Text.{IsWhole, IsWordFault}
+use Rattle.fs_text.proofs.Words.{◌+◌, Bor, List, ℕ, inr, map, refl, subst, sym, arith, IfErr, Acts, IsWhole, IsWordFault}
 use Rattle.fs_text.proofs.Acted.{acts_next, whole_actions}
 use Rattle.fs_text.proofs.Wholly.{action_fault, drop_end, drop_some, err_on}
 use Rattle.fs_text.proofs.text.read_some_actions.Goals as goal

@@ -1,7 +1,4 @@
-use Rattle.std.proofs.Common.{◌≡◌, ◌≤◌, ◌-◌, ◌⊎◌, [], List, drop, length, map}
-use Rattle.fs_base.specs.declared.prefix.Family.{Family}
-use Rattle.fs_nlri.specs.Parts.{Part}
-use Rattle.fs_text.specs.Progress.{Acts}
+use Rattle.fs_text.proofs.Words.{◌≡◌, ◌≤◌, ◌-◌, ◌⊎◌, [], List, drop, length, map, Family, Part, Acts}
 use Rattle.fs_text.proofs.text.read_some_actions.Given as goal
 
 -- the actions so far are the first of any text that begins so, and another one follows where some stand there

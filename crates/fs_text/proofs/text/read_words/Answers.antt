@@ -1,6 +1,5 @@
-use Rattle.std.proofs.Common.{Bor, List, ℕ, map}
+use Rattle.fs_text.proofs.Words.{Bor, List, ℕ, map, ReadsWords}
 use Rattle.fs_nlri.specs.Component.{parts_of}
-use Rattle.fs_text.specs.Text.{ReadsWords}
 use Rattle.fs_text.proofs.Wholly.{err_on, reads_fault}
 use Rattle.fs_text.proofs.text.read_words.Goals as goal
 

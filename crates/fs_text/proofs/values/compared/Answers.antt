@@ -1,5 +1,4 @@
-use Rattle.std.proofs.Common.{◌∙◌}
-use Rattle.fs_nlri.specs.Component.{part_of}
+use Rattle.fs_text.proofs.Words.{◌∙◌, part_of}
 use Rattle.fs_text.proofs.Listed.{compared_of}
 use Rattle.fs_text.proofs.values.compared.Goals as goal
 

@@ -1,10 +1,4 @@
-use Rattle.std.proofs.lemmas.Option.{same_Some}
-use Rattle.std.proofs.Common.{◌∙◌, Some, ap, map, sym}
-use Rattle.std.specs.Prelude.{option_map}
-use Rattle.fs_nlri.specs.Component.{body_of}
-use Rattle.fs_nlri.specs.Parts.{part}
-use Rattle.fs_text.specs.Parts.{as_part}
-use Rattle.fs_text.specs.Pieces.{parts_of}
+use Rattle.fs_text.proofs.Words.{same_Some, ◌∙◌, Some, ap, map, sym, option_map, body_of, part, as_part, parts_of}
 use Rattle.fs_text.proofs.Listed.{prefixed_loosely}
 use Rattle.fs_text.proofs.values.loose_prefixed.Goals as goal
 

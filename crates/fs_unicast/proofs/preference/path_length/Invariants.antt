@@ -1,5 +1,4 @@
-use Rattle.std.proofs.Common.{◌≡◌, ◌≤◌, ◌+◌, ◌*◌, ◌-◌, ◌^◌, drop}
-use Rattle.fs_unicast.specs.Preference.{path_length}
+use Rattle.fs_unicast.proofs.Words.{◌≡◌, ◌≤◌, ◌+◌, ◌*◌, ◌-◌, ◌^◌, drop, path_length}
 use Rattle.fs_unicast.proofs.preference.path_length.Given as goal
 
 abbrev pub invariant-loop-segment : goal.invariant-loop-segment

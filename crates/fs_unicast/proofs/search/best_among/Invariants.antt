@@ -1,6 +1,4 @@
-use Rattle.std.proofs.Common.{◌≡◌, fold, filter, option_map, map}
-use Rattle.fs_unicast.specs.Preference.{better, peer_path}
-use Rattle.fs_unicast.specs.Search.{IsFront, candidate, is_same_prefix}
+use Rattle.fs_unicast.proofs.Words.{◌≡◌, fold, filter, option_map, map, better, peer_path, IsFront, candidate, is_same_prefix}
 use Rattle.fs_unicast.proofs.search.best_among.Given as goal
 
 abbrev pub invariant-loop-place : goal.invariant-loop-place

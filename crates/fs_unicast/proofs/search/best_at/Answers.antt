@@ -1,9 +1,4 @@
-use Rattle.std.proofs.Common.{◌≡◌, ◌∙◌, sym, ap, subst, filter, map}
-use Rattle.std.specs.BTreeMap.Range.{entries_between}
-use Rattle.std.specs.declared.ops.Bound.TheVariants.{Included, Unbounded}
-use Rattle.fs_unicast.specs.Preference.{best_of}
-use Rattle.fs_unicast.specs.Search.{IsFront, candidate, is_same_prefix}
-use Rattle.fs_unicast.specs.Unicast.{place_cmp}
+use Rattle.fs_unicast.proofs.Words.{◌≡◌, ◌∙◌, sym, ap, subst, filter, map, entries_between, Included, Unbounded, best_of, IsFront, candidate, is_same_prefix, place_cmp}
 use Rattle.fs_unicast.proofs.Ranges.{place, front_range, best_starts}
 use Rattle.fs_unicast.proofs.search.best_at.Goals as goal
 

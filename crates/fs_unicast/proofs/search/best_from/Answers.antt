@@ -1,11 +1,4 @@
-use Rattle.std.proofs.Common.{◌≡◌, ◌∙◌, sym, ap, subst, Some, option_map, fold, map, filter}
-use Rattle.std.specs.BTreeMap.Range.{entries_between}
-use Rattle.std.specs.declared.ops.Bound.TheVariants.{Included, Unbounded}
-use Rattle.fs_base.specs.Search.{IsFirst, IsFirstFrom}
-use Rattle.fs_base.specs.declared.path.Path.{Path}
-use Rattle.fs_unicast.specs.Preference.{better}
-use Rattle.fs_unicast.specs.Search.{best_at, candidate, is_same_prefix}
-use Rattle.fs_unicast.specs.Unicast.{Route, place_cmp}
+use Rattle.fs_unicast.proofs.Words.{◌≡◌, ◌∙◌, sym, ap, subst, Some, option_map, fold, map, filter, entries_between, Included, Unbounded, IsFirst, IsFirstFrom, Path, better, best_at, candidate, is_same_prefix, Route, place_cmp}
 use Rattle.fs_unicast.proofs.Fronts.{best_behind, front_behind}
 use Rattle.fs_unicast.proofs.Ranges.{place, first_in_range, none_in_range}
 use Rattle.fs_unicast.proofs.search.best_from.Goals as goal

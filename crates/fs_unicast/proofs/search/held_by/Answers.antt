@@ -1,8 +1,4 @@
-use Rattle.std.proofs.Common.{◌∙◌, ap}
-use Rattle.std.specs.Option.{option_copied}
-use Rattle.std.specs.BTreeMap.Range.{entries_between}
-use Rattle.std.specs.declared.ops.Bound.TheVariants.{Unbounded}
-use Rattle.fs_unicast.specs.Unicast.{place_cmp}
+use Rattle.fs_unicast.proofs.Words.{◌∙◌, ap, option_copied, entries_between, Unbounded, place_cmp}
 use Rattle.fs_unicast.proofs.Ranges.{held_in_range}
 use Rattle.fs_unicast.proofs.search.held_by.Goals as goal
 

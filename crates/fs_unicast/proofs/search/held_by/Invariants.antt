@@ -1,6 +1,4 @@
-use Rattle.std.proofs.Common.{◌≡◌, ◌==◌, find, option_map}
-use Rattle.std.specs.Option.{option_copied}
-use Rattle.fs_unicast.specs.Search.{held_by}
+use Rattle.fs_unicast.proofs.Words.{◌≡◌, ◌==◌, find, option_map, option_copied, held_by}
 use Rattle.fs_unicast.proofs.search.held_by.Given as goal
 
 abbrev pub invariant-loop-place : goal.invariant-loop-place

@@ -1,7 +1,5 @@
-use Rattle.std.proofs.Common.{ap₂, ◌∙◌, ◌&&◌}
-use Rattle.std.specs.List.{list_any}
-use Rattle.fs_unicast.specs.Search.{is_other}
-use Rattle.fs_unicast.specs.Turns.{is_within}
+use Rattle.std.proofs.Common.{ap₂}
+use Rattle.fs_unicast.proofs.Words.{◌∙◌, ◌&&◌, list_any, is_other, is_within}
 use Rattle.fs_unicast.proofs.Ranges.{place, others_in_range}
 use Rattle.fs_unicast.proofs.search.others_under.Goals as goal
 

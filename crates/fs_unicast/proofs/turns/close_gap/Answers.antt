@@ -1,8 +1,4 @@
-use Rattle.std.proofs.Common.{ℕ, ◌≡◌, ◌∙◌, sym, ap, subst, Bool, false, Option, find, is_lt, option_map}
-use Rattle.std.specs.List.Sorted.{IsStrictlySortedBy}
-use Rattle.fs_unicast.specs.Neighbour.{neighbour}
-use Rattle.fs_unicast.specs.Unicast.{Route, place_cmp}
-use Rattle.fs_unicast.specs.Turns.{entry_now, names, without, IsParted}
+use Rattle.fs_unicast.proofs.Words.{ℕ, ◌≡◌, ◌∙◌, sym, ap, subst, Bool, false, Option, find, is_lt, option_map, IsStrictlySortedBy, neighbour, Route, place_cmp, entry_now, names, without, IsParted}
 use Rattle.fs_unicast.proofs.Gap.{without_last, without_next}
 use Rattle.fs_unicast.proofs.turns.close_gap.Goals as goal
 

@@ -1,5 +1,4 @@
-use Rattle.std.proofs.Common.{◌∙◌, sym, option_map}
-use Rattle.fs_unicast.specs.Turns.{entry_now}
+use Rattle.fs_unicast.proofs.Words.{◌∙◌, sym, option_map, entry_now}
 use Rattle.fs_unicast.proofs.Parting.{next_behind}
 use Rattle.fs_unicast.proofs.turns.first_behind.Goals as goal
 

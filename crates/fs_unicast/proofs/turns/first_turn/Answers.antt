@@ -1,6 +1,4 @@
-use Rattle.std.proofs.Common.{◌∙◌, sym, ap, subst, map-id, is_lt}
-use Rattle.std.specs.List.Sorted.{IsStrictlySortedBy}
-use Rattle.fs_unicast.specs.Unicast.{place_cmp}
+use Rattle.fs_unicast.proofs.Words.{◌∙◌, sym, ap, subst, map-id, is_lt, IsStrictlySortedBy, place_cmp}
 use Rattle.fs_unicast.proofs.Finding.{find_both}
 use Rattle.fs_unicast.proofs.Beside.{none_before, none_within}
 use Rattle.fs_unicast.proofs.turns.first_turn.Goals as goal

@@ -1,5 +1,4 @@
-use Rattle.std.proofs.Common.{◌∙◌, sym, ap, slice_get, is_le, is_lt, option_map}
-use Rattle.fs_unicast.specs.Unicast.{place_cmp}
+use Rattle.fs_unicast.proofs.Words.{◌∙◌, sym, ap, slice_get, is_le, is_lt, option_map, place_cmp}
 use Rattle.fs_unicast.proofs.Finding.{find_both}
 use Rattle.fs_unicast.proofs.Beside.{first_ahead, none_before, none_within}
 use Rattle.fs_unicast.proofs.turns.first_within.Goals as goal

@@ -1,7 +1,4 @@
-use Rattle.std.proofs.Common.{◌≡◌, is_eq}
-use Rattle.std.specs.List.{list_all}
-use Rattle.fs_unicast.specs.Unicast.{place_cmp}
-use Rattle.fs_unicast.specs.Turns.{is_alone}
+use Rattle.fs_unicast.proofs.Words.{◌≡◌, is_eq, list_all, place_cmp, is_alone}
 use Rattle.fs_unicast.proofs.turns.is_alone.Given as goal
 
 abbrev pub invariant-loop-other : goal.invariant-loop-other

@@ -1,8 +1,4 @@
-use Rattle.std.proofs.Common.{◌∙◌, sym, ap, Some, None, true≢false, refl, find, option_map}
-use Rattle.std.specs.BTreeMap.{is_at}
-use Rattle.fs_unicast.specs.Neighbour.{neighbour}
-use Rattle.fs_unicast.specs.Unicast.{place_cmp}
-use Rattle.fs_unicast.specs.Turns.{is_before, is_at_or_after, is_same, lies_between}
+use Rattle.fs_unicast.proofs.Words.{◌∙◌, sym, ap, Some, None, true≢false, refl, find, option_map, is_at, neighbour, place_cmp, is_before, is_at_or_after, is_same, lies_between}
 use Rattle.fs_unicast.proofs.Finding.{found_passes, last_passes}
 use Rattle.fs_unicast.proofs.PlaceOrder.{below_upto}
 use Rattle.fs_unicast.proofs.Gap.{other_stays, parted_idle}

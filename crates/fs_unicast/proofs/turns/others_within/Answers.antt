@@ -1,6 +1,5 @@
-use Rattle.std.proofs.Common.{◌∙◌, sym, ap, option_map}
+use Rattle.fs_unicast.proofs.Words.{◌∙◌, sym, ap, option_map, is_other}
 use Rattle.fs_unicast.proofs.Searching.{search_starts, search_hits, search_falls, search_turns, search_stops, search_ends}
-use Rattle.fs_unicast.specs.Search.{is_other}
 use Rattle.fs_unicast.proofs.turns.others_within.Goals as goal
 
 pub loop-place-init : goal.loop-place-init

@@ -1,5 +1,4 @@
-use Rattle.std.proofs.Common.{is_lt}
-use Rattle.fs_unicast.specs.Unicast.{place_cmp}
+use Rattle.fs_unicast.proofs.Words.{is_lt, place_cmp}
 use Rattle.fs_unicast.proofs.Searching.{IsAhead, count}
 use Rattle.fs_unicast.proofs.turns.others_within.Given as goal
 

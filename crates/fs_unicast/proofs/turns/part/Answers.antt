@@ -1,6 +1,4 @@
-use Rattle.std.proofs.Common.{◌≡◌, ◌∙◌, sym, ap, option_map, Some, true≢false, find, true, is_lt}
-use Rattle.fs_unicast.specs.Unicast.{place_cmp}
-use Rattle.fs_unicast.specs.Turns.{is_after, is_at_or_after, entry_now, stands_at, PartsAt, IsParted}
+use Rattle.fs_unicast.proofs.Words.{◌≡◌, ◌∙◌, sym, ap, option_map, Some, true≢false, find, true, is_lt, place_cmp, is_after, is_at_or_after, entry_now, stands_at, PartsAt, IsParted}
 use Rattle.fs_unicast.proofs.Finding.{found_passes}
 use Rattle.fs_unicast.proofs.Gap.{rest_of, still_here, parted_moved}
 use Rattle.fs_unicast.proofs.Parting.{next_behind, parted_here, parted_aft}

@@ -1,8 +1,4 @@
-use Rattle.std.proofs.Common.{◌≡◌, ◌∙◌, subst, Some, Option, List, is_le}
-use Rattle.std.specs.List.Sorted.{IsStrictlySortedBy}
-use Rattle.fs_unicast.specs.declared.unicast.Place.{Place}
-use Rattle.fs_unicast.specs.Unicast.{place_cmp}
-use Rattle.fs_unicast.specs.Turns.{IsLastUpto, find_last}
+use Rattle.fs_unicast.proofs.Words.{◌≡◌, ◌∙◌, subst, Some, Option, List, is_le, IsStrictlySortedBy, Place, place_cmp, IsLastUpto, find_last}
 use Rattle.fs_unicast.proofs.Gap.{last_is}
 use Rattle.fs_unicast.proofs.turns.take_last.Goals as goal
 

@@ -1,6 +1,4 @@
-use Rattle.std.proofs.Common.{◌≡◌, ◌++◌, drop}
-use Rattle.std.specs.Prelude.{flat_map}
-use Rattle.std.specs.String.{string_bytes}
+use Rattle.fs_words.proofs.Words.{◌≡◌, ◌++◌, drop, flat_map, string_bytes}
 use Rattle.fs_words.specs.Operators.{joined_text}
 use Rattle.fs_words.proofs.operators.print_others.Given as goal
 

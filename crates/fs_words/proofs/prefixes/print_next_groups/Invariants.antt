@@ -1,7 +1,4 @@
-use Rattle.std.proofs.Common.{◌≡◌, ◌++◌, drop}
-use Rattle.std.specs.Prelude.{flat_map}
-use Rattle.std.specs.String.{string_bytes}
-use Rattle.fs_words.specs.Prefixes.{next_group}
+use Rattle.fs_words.proofs.Words.{◌≡◌, ◌++◌, drop, flat_map, string_bytes, next_group}
 use Rattle.fs_words.proofs.prefixes.print_next_groups.Given as goal
 
 -- with what is left, all is there

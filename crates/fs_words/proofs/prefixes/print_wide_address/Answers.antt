@@ -1,8 +1,5 @@
-use Rattle.std.proofs.Common.{◌≡◌, ◌++◌, ℕ, List, ap, subst, ◌∙◌}
-use Rattle.std.specs.Prelude.{OnOk}
-use Rattle.std.specs.String.{string_bytes}
+use Rattle.fs_words.proofs.Words.{◌≡◌, ◌++◌, ℕ, List, ap, subst, ◌∙◌, OnOk, string_bytes, groups_text}
 use Rattle.std.specs.Net.Addr.{segments_of}
-use Rattle.fs_words.specs.Prefixes.{groups_text}
 use Rattle.fs_words.proofs.prefixes.print_wide_address.Goals as goal
 
 pub returns : goal.returns

@@ -1,8 +1,5 @@
-use Rattle.std.proofs.Common.{◌++◌, ◌∷◌, [], ℕ, List, ap, ◌∙◌}
-use Rattle.std.specs.Prelude.{codes}
-use Rattle.std.specs.String.{string_bytes}
+use Rattle.fs_words.proofs.Words.{◌++◌, ◌∷◌, [], ℕ, List, ap, ◌∙◌, codes, string_bytes, spaced}
 use Rattle.fs_words.specs.Actions.{action_name, action_text}
-use Rattle.fs_words.specs.Printed.{spaced}
 use Rattle.fs_words.proofs.Spaces.{named, on_ok}
 use Rattle.fs_words.proofs.printing.print_one_action.Goals as goal
 

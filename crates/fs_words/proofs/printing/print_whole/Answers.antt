@@ -1,7 +1,5 @@
-use Rattle.std.proofs.Common.{◌++◌, ℕ, List, ap, ◌∙◌}
-use Rattle.std.specs.String.{string_bytes}
+use Rattle.fs_words.proofs.Words.{◌++◌, ℕ, List, ap, ◌∙◌, string_bytes, component_words, family_word, spaced, then_words}
 use Rattle.fs_nlri.specs.Parts.{Part}
-use Rattle.fs_words.specs.Printed.{component_words, family_word, spaced, then_words}
 use Rattle.fs_words.proofs.Spaces.{on_ok, whole_text}
 use Rattle.fs_words.proofs.printing.print_whole.Goals as goal
 

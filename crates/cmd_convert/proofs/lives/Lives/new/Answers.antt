@@ -1,5 +1,4 @@
-use Rattle.std.proofs.Common.{◌≡◌, ◌∙◌, ap, ℕ, List, Option, Some, None, Bool, inl, inr, refl, get_or}
-use Rattle.std.specs.Prelude.{replicate}
+use Rattle.cmd_convert.proofs.Words.{◌≡◌, ◌∙◌, ap, ℕ, List, Option, Some, None, Bool, inl, inr, refl, get_or, replicate}
 use Rattle.std.proofs.lemmas.Bool.{cases_lt}
 use Rattle.std.proofs.lemmas.List.{get_or-replicate, get_or_past, length-replicate}
 use Rattle.cmd_convert.proofs.lives.Lives.new.Goals as goal

@@ -1,11 +1,4 @@
-use Rattle.std.proofs.Common.{◌≡◌, ap, ℕ, ◌++◌, rules}
-use Rattle.fs_line.proofs.Outputs.{sends_as, sends_stopped, sends_then}
-use Rattle.fs_tape.specs.Laws.{item_text_at}
-use Rattle.fs_tape.specs.Tape.{came_up, received}
-use Rattle.fs_tape.specs.declared.magic.Version.TheVariants.{Two}
-use Rattle.cmd_convert.specs.Greeting.{greeting}
-use Rattle.cmd_convert.specs.Lives.{lives_of}
-use Rattle.cmd_convert.specs.Making.{asn_of}
+use Rattle.cmd_convert.proofs.Words.{◌≡◌, ap, ℕ, ◌++◌, rules, sends_as, sends_stopped, sends_then, item_text_at, came_up, received, Two, greeting, lives_of, asn_of}
 use Rattle.cmd_convert.proofs.Converting.{opening_text, sends_from}
 use Rattle.cmd_convert.proofs.making.Making.open.Goals as goal
 

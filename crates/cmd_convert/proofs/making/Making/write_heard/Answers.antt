@@ -1,9 +1,4 @@
-use Rattle.std.proofs.Common.{ap, sym}
-use Rattle.fs_line.proofs.Outputs.{sends_as}
-use Rattle.fs_mrt.specs.Dump.{said_from}
-use Rattle.fs_mrt.specs.declared.heard.What.{What}
-use Rattle.cmd_convert.specs.Lives.{lives_of}
-use Rattle.cmd_convert.specs.Making.{made_by, text_at}
+use Rattle.cmd_convert.proofs.Words.{ap, sym, sends_as, said_from, What, lives_of, made_by, text_at}
 use Rattle.cmd_convert.proofs.Converting.{change_lives}
 use Rattle.cmd_convert.proofs.making.Making.write_heard.Goals as goal
 

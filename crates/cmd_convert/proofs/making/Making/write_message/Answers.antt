@@ -1,10 +1,4 @@
-use Rattle.std.proofs.Common.{◌≡◌, rules, true, false}
-use Rattle.fs_line.proofs.Outputs.{sends_as, sends_stopped, sends_then}
-use Rattle.fs_tape.specs.Laws.{item_text_at}
-use Rattle.fs_tape.specs.Tape.{received}
-use Rattle.fs_tape.specs.declared.magic.Version.TheVariants.{Two}
-use Rattle.cmd_convert.specs.Lives.{has_width, lives_of}
-use Rattle.cmd_convert.specs.Making.{is_taken}
+use Rattle.cmd_convert.proofs.Words.{◌≡◌, rules, true, false, sends_as, sends_stopped, sends_then, item_text_at, received, Two, has_width, lives_of, is_taken}
 use Rattle.cmd_convert.proofs.Converting.{message_text, sends_from}
 use Rattle.cmd_convert.proofs.making.Making.write_message.Goals as goal
 

@@ -1,6 +1,4 @@
-use Rattle.std.proofs.Common.{rules, arith, ◌≤◌, length, sym, ap, ◌∙◌}
-use Rattle.std.proofs.lemmas.List.{length-drop, length-take}
-use Rattle.cmd_enforce.specs.Capture.{CaptureState, coming}
+use Rattle.cmd_enforce.proofs.Words.{rules, arith, ◌≤◌, length, sym, ap, ◌∙◌, length-drop, length-take, CaptureState, coming}
 use Rattle.cmd_enforce.proofs.Opened.{begins_as}
 use Rattle.cmd_enforce.proofs.capture.Capture.begin.Goals as goal
 

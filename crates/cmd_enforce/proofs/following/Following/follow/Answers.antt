@@ -1,7 +1,5 @@
-use Rattle.std.proofs.Common.{ap, subst, sym, ◌∙◌}
+use Rattle.cmd_enforce.proofs.Words.{ap, subst, sym, ◌∙◌, Held, match_err}
 use Rattle.fs_rules.specs.Changes.{Covers, Noted}
-use Rattle.fs_rules.specs.Table.{Held}
-use Rattle.cmd_stages.proofs.Stages.{match_err}
 use Rattle.cmd_enforce.proofs.following.Following.follow.Goals as goal
 
 pub returns-in_err-play_to-clause-played : goal.returns-in_err-play_to-clause-played

@@ -1,8 +1,4 @@
-use Rattle.std.proofs.Common.{◌≤◌, ℕ, List, arith, length, subst, sym}
-use Rattle.std.specs.Vec.{with_items}
-use Rattle.std.proofs.lemmas.List.{with_items_is}
-use Rattle.fs_tape.specs.Header.{longest_payload}
-use Rattle.cmd_stages.specs.Player.{IsReady, Stands}
+use Rattle.cmd_stages.proofs.Words.{◌≤◌, ℕ, List, arith, length, subst, sym, with_items, with_items_is, longest_payload, IsReady, Stands}
 use Rattle.cmd_stages.proofs.Stages.{match_err}
 use Rattle.cmd_stages.proofs.LookingAhead.{player_with, ready_ahead, slots_then, stands_begun, unbegun, with_room}
 use Rattle.cmd_stages.proofs.player.Player.begin.Goals as goal

@@ -1,9 +1,4 @@
-use Rattle.std.proofs.Common.{◌≡◌, ◌∙◌, ℕ, None, ap, refl, sym, subst, rules}
-use Rattle.fs_base.specs.declared.config.Config.{Config}
-use Rattle.fs_desk.specs.Desk.{Desked}
-use Rattle.fs_desk.specs.Leaves.{Leaves}
-use Rattle.cmd_stages.specs.Play.{IsOpenOrDone, until}
-use Rattle.cmd_stages.specs.Player.{PlayerState, Stands, due_item}
+use Rattle.cmd_stages.proofs.Words.{◌≡◌, ◌∙◌, ℕ, None, ap, refl, sym, subst, rules, Config, Desked, Leaves, IsOpenOrDone, until, PlayerState, Stands, due_item}
 use Rattle.cmd_stages.proofs.Stages.{match_err}
 use Rattle.cmd_stages.proofs.LookingAhead.{covers_first, due_is, fewer_left, leaves_until, never_due, rose_on, stands_noted}
 use Rattle.cmd_stages.proofs.player.Player.play_to.Goals as goal

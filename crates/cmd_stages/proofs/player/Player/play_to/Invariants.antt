@@ -1,9 +1,4 @@
-use Rattle.std.proofs.Common.{◌≡◌, ◌≤◌, List, [], None, IsTrue, false}
-use Rattle.fs_base.specs.Files.{OnlySlot}
-use Rattle.fs_rules.specs.Changes.{Covers}
-use Rattle.fs_tape.specs.Tape.{Timed}
-use Rattle.cmd_stages.specs.Play.{IsOpenOrDone}
-use Rattle.cmd_stages.specs.Player.{Stands, due_item}
+use Rattle.cmd_stages.proofs.Words.{◌≡◌, ◌≤◌, List, [], None, IsTrue, false, OnlySlot, Covers, Timed, IsOpenOrDone, Stands, due_item}
 use Rattle.cmd_stages.proofs.LookingAhead.{ahead_left}
 use Rattle.cmd_stages.proofs.player.Player.play_to.Given as goal
 

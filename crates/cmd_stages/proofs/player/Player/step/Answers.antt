@@ -1,11 +1,4 @@
-use Rattle.std.proofs.Common.{◌≡◌, ◌∙◌, ℕ, List, ap, arith, subst, sym}
-use Rattle.std.specs.Vec.{with_items}
-use Rattle.std.proofs.lemmas.List.{with_items_is}
-use Rattle.fs_base.specs.declared.config.Config.{Config}
-use Rattle.fs_desk.specs.Desk.{Plays}
-use Rattle.fs_tape.specs.Tape.{coming, item_from}
-use Rattle.cmd_stages.specs.Play.{Gives}
-use Rattle.cmd_stages.specs.Player.{PlayerState}
+use Rattle.cmd_stages.proofs.Words.{◌≡◌, ◌∙◌, ℕ, List, ap, arith, subst, sym, with_items, with_items_is, Config, Plays, coming, item_from, Gives, PlayerState}
 use Rattle.cmd_stages.proofs.LookingAhead.{stands_step}
 use Rattle.cmd_stages.proofs.player.Player.step.Goals as goal
 

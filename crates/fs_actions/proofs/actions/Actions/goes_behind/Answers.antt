@@ -1,7 +1,5 @@
-use Rattle.std.proofs.Common.{◌≡◌, Option, Some, None, List, ℕ, ◌∙◌, ap, subst, length, ◌-◌}
+use Rattle.fs_actions.proofs.Words.{◌≡◌, Option, Some, None, List, ℕ, ◌∙◌, ap, subst, length, ◌-◌, last_or, IsAbove}
 use Rattle.std.specs.Prelude.{◌↔◌, IsTrue, slice_get}
-use Rattle.std.specs.List.{last_or}
-use Rattle.fs_actions.specs.Actions.{IsAbove}
 use Rattle.fs_actions.proofs.Behind.{last_is}
 use Rattle.fs_actions.proofs.actions.Actions.goes_behind.Goals as goal
 

@@ -1,6 +1,4 @@
-use Rattle.std.proofs.Common.{◌≡◌, drop}
-use Rattle.fs_actions.specs.Actions.{first_of}
-use Rattle.fs_actions.specs.Community.{mark_of}
+use Rattle.fs_actions.proofs.Words.{◌≡◌, drop, first_of, mark_of}
 use Rattle.fs_actions.proofs.actions.Actions.mark.Given as goal
 
 -- what is left says what the whole list says

@@ -1,5 +1,4 @@
-use Rattle.std.proofs.Common.{sym, subst}
-use Rattle.fs_actions.specs.Actions.{IsActions}
+use Rattle.fs_actions.proofs.Words.{sym, subst, IsActions}
 use Rattle.fs_actions.proofs.Behind.{actions_more}
 use Rattle.fs_actions.proofs.actions.Actions.push.Goals as goal
 

@@ -1,5 +1,4 @@
-use Rattle.std.proofs.Common.{◌≡◌, drop, filter_map, slice_get}
-use Rattle.fs_actions.specs.Community.{limit_of}
+use Rattle.fs_actions.proofs.Words.{◌≡◌, drop, filter_map, slice_get, limit_of}
 use Rattle.fs_actions.proofs.actions.Actions.rate.Given as goal
 
 -- the rate that is sought has this number among what is left

@@ -1,6 +1,4 @@
-use Rattle.std.proofs.Common.{◌≡◌, drop}
-use Rattle.fs_actions.specs.Actions.{first_of}
-use Rattle.fs_actions.specs.Community.{redirect_of}
+use Rattle.fs_actions.proofs.Words.{◌≡◌, drop, first_of, redirect_of}
 use Rattle.fs_actions.proofs.actions.Actions.redirect.Given as goal
 
 -- what is left says what the whole list says

@@ -1,5 +1,4 @@
-use Rattle.std.proofs.Common.{◌≡◌, ◌++◌, take}
-use Rattle.std.specs.List.{concat}
+use Rattle.fs_actions.proofs.Words.{◌≡◌, ◌++◌, take, concat}
 use Rattle.fs_actions.proofs.actions.Actions.to_communities.Given as goal
 
 -- the octets of the actions so far were appended

@@ -1,10 +1,4 @@
-use Rattle.std.proofs.Common.{List, [], ◌∷◌}
-use Rattle.std.proofs.lemmas.List.Elements.{All-from_recursion}
-use Rattle.std.specs.Prelude.{map}
-use Rattle.std.specs.List.{AllByRecursion}
-use Rattle.fs_base.specs.declared.prefix.Prefix.{Prefix}
-use Rattle.fs_nlri.specs.Rule.{shown}
-use Rattle.fs_attrs.specs.Lists.{IsPrefix}
+use Rattle.fs_attrs.proofs.Words.{List, [], ◌∷◌, All-from_recursion, map, AllByRecursion, Prefix, shown, IsPrefix}
 use Rattle.fs_attrs.proofs.lists.PrefixList.as_slice.Goals as goal
 
 all_prefixes : (prefixes : List Prefix) → AllByRecursion IsPrefix (map shown prefixes)

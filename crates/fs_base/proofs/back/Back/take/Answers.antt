@@ -1,6 +1,4 @@
-use Rattle.std.proofs.Common.{rules, arith, ◌+◌, ◌-◌, ◌∙◌, sym}
-use Rattle.std.proofs.lemmas.List.{drop-drop}
-use Rattle.std.proofs.lemmas.Slice.{drop-put_mid}
+use Rattle.fs_base.proofs.Words.{rules, arith, ◌+◌, ◌-◌, ◌∙◌, sym, drop-drop, drop-put_mid}
 use Rattle.fs_base.proofs.back.Back.take.Goals as goal
 
 pub returns-clause-left : goal.returns-clause-left

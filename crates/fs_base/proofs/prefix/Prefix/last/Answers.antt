@@ -1,5 +1,4 @@
-use Rattle.std.proofs.Common.{◌+◌, ◌<◌, ◌^◌, arith}
-use Rattle.fs_base.specs.Bits.{width_of}
+use Rattle.fs_base.proofs.Words.{◌+◌, ◌<◌, ◌^◌, arith, width_of}
 use Rattle.fs_base.proofs.Blocks.{block_of, last_below}
 use Rattle.fs_base.proofs.prefix.Prefix.last.Goals as goal
 

@@ -1,6 +1,4 @@
-use Rattle.std.proofs.Common.{ℕ, ◌-◌, ◌<◌, ◌≤◌, length}
-use Rattle.fs_buckets.specs.Addresses.{nodes_in, numbers_in}
-use Rattle.fs_buckets.specs.Buckets.{node_at}
+use Rattle.fs_buckets.proofs.Words.{ℕ, ◌-◌, ◌<◌, ◌≤◌, length, nodes_in, numbers_in, node_at}
 use Rattle.fs_buckets.proofs.buckets.Buckets.first_over.Given as goal
 
 abbrev pub invariant-loop-parent : goal.invariant-loop-parent

@@ -1,5 +1,4 @@
-use Rattle.std.proofs.Common.{arith}
-use Rattle.std.proofs.lemmas.Result.{IfOk-weaker}
+use Rattle.fs_buckets.proofs.Words.{arith, IfOk-weaker}
 use Rattle.fs_buckets.proofs.buckets.Buckets.opened.Goals as goal
 
 pub returns : goal.returns

@@ -1,6 +1,4 @@
-use Rattle.std.proofs.Common.{ℕ, ◌-◌, ◌<◌, ◌≤◌, length, get_or}
-use Rattle.fs_buckets.specs.Addresses.{numbers_in}
-use Rattle.fs_buckets.specs.Housed.{IsPassed, bucket_span}
+use Rattle.fs_buckets.proofs.Words.{ℕ, ◌-◌, ◌<◌, ◌≤◌, length, get_or, numbers_in, IsPassed, bucket_span}
 use Rattle.fs_buckets.proofs.buckets.Buckets.passed.Given as goal
 
 abbrev pub invariant-loop-bucket : goal.invariant-loop-bucket

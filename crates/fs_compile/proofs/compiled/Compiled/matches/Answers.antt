@@ -1,6 +1,4 @@
-use Rattle.std.proofs.Common.{sym, subst}
-use Rattle.fs_base.specs.declared.prefix.Family.{Family}
-use Rattle.fs_compile.specs.Index.{IsIndexOf}
+use Rattle.fs_compile.proofs.Words.{sym, subst, Family, IsIndexOf}
 use Rattle.fs_compile.proofs.compiled.Compiled.matches.Goals as goal
 
 pub returns-clause-matches : goal.returns-clause-matches

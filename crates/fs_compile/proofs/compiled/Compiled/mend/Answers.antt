@@ -1,13 +1,5 @@
-use Rattle.std.proofs.Common.{List, ◌∷◌, ◌+◌, sym, ap, subst, ◌∙◌, drop, arith}
-use Rattle.std.proofs.lemmas.List.{drop_all, drop_more}
-use Rattle.std.specs.List.{AllByRecursion}
-use Rattle.fs_rules.specs.Lent.{Listed, all_admitted}
-use Rattle.fs_rules.specs.Table.{admitted}
-use Rattle.fs_rules.specs.declared.Change.{Change}
-use Rattle.fs_buckets.specs.Destinations.{IsOfFamily, spans_of, AreTo, target_of}
-use Rattle.fs_compile.specs.Matcher.{admitted_in}
+use Rattle.fs_compile.proofs.Words.{List, ◌∷◌, ◌+◌, sym, ap, subst, ◌∙◌, drop, arith, drop_all, drop_more, AllByRecursion, Listed, all_admitted, admitted, Change, IsOfFamily, spans_of, AreTo, target_of, admitted_in, all_of_family}
 use Rattle.fs_compile.proofs.MatcherMending.{Mends, listed_to, mends_first, mends_next, mends_own, mends_stand, own_here, own_item, to_here}
-use Rattle.fs_buckets.proofs.Nesting.{all_of_family}
 use Rattle.fs_compile.proofs.compiled.Compiled.mend.Goals as goal
 
 pub loop-place-init : goal.loop-place-init

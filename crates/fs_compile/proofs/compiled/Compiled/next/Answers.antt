@@ -1,6 +1,4 @@
-use Rattle.std.proofs.Common.{◌≤◌, ◌+◌, length, subst, arith}
-use Rattle.fs_base.specs.declared.prefix.Family.{Family}
-use Rattle.fs_compile.specs.Index.{IsIndexOf}
+use Rattle.fs_compile.proofs.Words.{◌≤◌, ◌+◌, length, subst, arith, Family, IsIndexOf}
 use Rattle.fs_compile.proofs.Indexing.{none_behind}
 use Rattle.fs_compile.proofs.compiled.Compiled.next.Goals as goal
 

@@ -1,7 +1,4 @@
-use Rattle.std.proofs.Common.{◌≡◌, ℕ, ◌+◌, ◌*◌, List, get_or, sym, ap, subst, ◌∙◌, arith}
-use Rattle.fs_compile.specs.Columns.{IsClass}
-use Rattle.fs_ranges.specs.Facts.{key_of}
-use Rattle.fs_compile.specs.Search.{hits}
+use Rattle.fs_compile.proofs.Words.{◌≡◌, ℕ, ◌+◌, ◌*◌, List, get_or, sym, ap, subst, ◌∙◌, arith, IsClass, key_of, hits}
 use Rattle.fs_compile.proofs.Sieving.{fewer_rows, port_set}
 use Rattle.fs_compile.proofs.filters.Filter.scan.Goals as goal
 

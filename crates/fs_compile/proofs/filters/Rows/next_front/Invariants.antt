@@ -1,5 +1,4 @@
-use Rattle.std.proofs.Common.{◌≡◌, ℕ, ◌-◌, ◌<◌, ◌≤◌}
-use Rattle.fs_compile.specs.Filters.{front_of}
+use Rattle.fs_compile.proofs.Words.{◌≡◌, ℕ, ◌-◌, ◌<◌, ◌≤◌, front_of}
 use Rattle.fs_compile.proofs.filters.Rows.next_front.Given as goal
 
 abbrev pub invariant-clear : goal.invariant-clear

@@ -1,7 +1,4 @@
-use Rattle.std.proofs.Common.{◌<◌, ◌^◌, List, length, sym, subst, arith}
-use Rattle.fs_ranges.specs.declared.Fast.{Fast}
-use Rattle.fs_compile.specs.Filters.{AreFilters}
-use Rattle.fs_buckets.specs.Housed.{AreSound}
+use Rattle.fs_compile.proofs.Words.{◌<◌, ◌^◌, List, length, sym, subst, arith, Fast, AreFilters, AreSound}
 use Rattle.fs_compile.proofs.index.Index.of.Goals as goal
 
 pub invariant_of-result : goal.invariant_of-result

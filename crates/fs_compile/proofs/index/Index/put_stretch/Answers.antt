@@ -1,15 +1,6 @@
-use Rattle.std.proofs.Common.{◌≡◌, ℕ, ◌+◌, ◌-◌, ◌^◌, ◌<◌, ◌≤◌, List, length, sym, ap, ap₂, subst, ◌∙◌, arith}
-use Rattle.std.specs.List.{splice}
-use Rattle.fs_rules.specs.Lent.{all_admitted}
-use Rattle.fs_ranges.specs.declared.Fast.{Fast}
-use Rattle.fs_compile.specs.Filters.{AreFilters}
-use Rattle.fs_compile.specs.Index.{Indexed, StandForEach}
-use Rattle.fs_buckets.specs.Destinations.{target_of}
-use Rattle.fs_buckets.specs.Housed.{AreSound}
+use Rattle.fs_compile.proofs.Words.{◌≡◌, ℕ, ◌+◌, ◌-◌, ◌^◌, ◌<◌, ◌≤◌, List, length, sym, ap, ap₂, subst, ◌∙◌, arith, splice, all_admitted, Fast, AreFilters, Indexed, StandForEach, target_of, AreSound, sound_more, map_spliced, spliced_size}
 use Rattle.fs_compile.proofs.Indexing.{stand_size}
 use Rattle.fs_compile.proofs.IndexMending.{has_stretch, index_spliced}
-use Rattle.fs_buckets.proofs.Replacing.{sound_more}
-use Rattle.fs_buckets.proofs.Splicing.{map_spliced, spliced_size}
 use Rattle.fs_compile.proofs.IndexMending.{stand_spliced}
 use Rattle.fs_compile.proofs.index.Index.put_stretch.Goals as goal
 

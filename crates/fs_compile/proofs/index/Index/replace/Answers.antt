@@ -1,11 +1,5 @@
-use Rattle.std.proofs.Common.{List, sym, subst, ◌∙◌}
-use Rattle.std.specs.List.{AllByRecursion}
-use Rattle.fs_rules.specs.Lent.{all_admitted}
+use Rattle.fs_compile.proofs.Words.{List, sym, subst, ◌∙◌, AllByRecursion, all_admitted, IsIndexOf, IsOfFamily, spans_of, AreNesting, nothing_nests}
 use Rattle.fs_rules.specs.declared.lent.LentRule.{LentRule}
-use Rattle.fs_compile.specs.Index.{IsIndexOf}
-use Rattle.fs_buckets.specs.Destinations.{IsOfFamily, spans_of}
-use Rattle.fs_buckets.specs.Runs.{AreNesting}
-use Rattle.fs_buckets.proofs.Replacing.{nothing_nests}
 use Rattle.fs_compile.proofs.index.Index.replace.Goals as goal
 
 pub of-requires-clause-each : goal.of-requires-clause-each

@@ -1,8 +1,5 @@
-use Rattle.std.proofs.Common.{length, sym, ap, subst, ◌∙◌, arith}
+use Rattle.fs_compile.proofs.Words.{length, sym, ap, subst, ◌∙◌, arith, all_admitted, Indexed, IsIndexOf, target_of}
 use Rattle.std.proofs.lemmas.Result.{IfOk-weaker}
-use Rattle.fs_rules.specs.Lent.{all_admitted}
-use Rattle.fs_compile.specs.Index.{Indexed, IsIndexOf}
-use Rattle.fs_buckets.specs.Destinations.{target_of}
 use Rattle.fs_compile.proofs.IndexMending.{all_shared, stretch_bounds}
 use Rattle.fs_compile.proofs.Replacing.{replaced_is}
 use Rattle.fs_compile.proofs.index.Index.replaced.Goals as goal

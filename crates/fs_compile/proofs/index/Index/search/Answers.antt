@@ -1,6 +1,4 @@
-use Rattle.std.proofs.Common.{subst, sym}
-use Rattle.fs_compile.specs.Index.{Indexed, IsIndexOf}
-use Rattle.fs_compile.specs.Search.{hit_number}
+use Rattle.fs_compile.proofs.Words.{subst, sym, Indexed, IsIndexOf, hit_number}
 use Rattle.fs_compile.proofs.Indexing.{search_is, steps_are}
 use Rattle.fs_compile.proofs.index.Index.search.Goals as goal
 

@@ -1,9 +1,5 @@
-use Rattle.std.proofs.Common.{◌≡◌, ℕ, Option, Some, None, length, sym, ap, subst, ◌∙◌, arith}
-use Rattle.fs_compile.specs.Index.{IsIndexOf}
-use Rattle.fs_buckets.specs.Destinations.{spans_of, IsStretch, target_of}
+use Rattle.fs_compile.proofs.Words.{◌≡◌, ℕ, Option, Some, None, length, sym, ap, subst, ◌∙◌, arith, IsIndexOf, spans_of, IsStretch, target_of, rules_size, stretch_none, stretch_some}
 use Rattle.fs_compile.proofs.Indexing.{stand_size}
-use Rattle.fs_buckets.proofs.Replacing.{rules_size}
-use Rattle.fs_buckets.proofs.Stretching.{stretch_none, stretch_some}
 use Rattle.fs_compile.proofs.index.Index.stretch.Goals as goal
 
 pub returns-in-Some-clause-stretch : goal.returns-in-Some-clause-stretch

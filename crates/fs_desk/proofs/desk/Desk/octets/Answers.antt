@@ -1,6 +1,4 @@
-use Rattle.std.specs.BTreeMap.{BTreeMap}
-use Rattle.fs_speaker.specs.Session.{Live}
-use Rattle.std.proofs.Common.{ap, ℕ, sym, ◌∙◌}
+use Rattle.fs_desk.proofs.Words.{BTreeMap, Live, ap, ℕ, sym, ◌∙◌}
 use Rattle.fs_desk.proofs.Handed.{desk_handed, desk_unhanded}
 use Rattle.fs_desk.proofs.Played.{desk_fed, desk_skipped, desk_replied, desk_silent}
 use Rattle.fs_desk.proofs.desk.Desk.octets.Goals as goal

@@ -1,7 +1,4 @@
-use Rattle.std.proofs.Common.{ap, sym, subst, ◌∙◌}
-use Rattle.fs_rules.specs.Table.{Held}
-use Rattle.fs_desk.specs.Desk.{Desked}
-use Rattle.fs_desk.specs.Leaves.{Leaves}
+use Rattle.fs_desk.proofs.Words.{ap, sym, subst, ◌∙◌, Held, Desked, Leaves}
 use Rattle.fs_desk.proofs.Leaves.{played_leaves}
 use Rattle.fs_desk.proofs.desk.Desk.table.Goals as goal
 

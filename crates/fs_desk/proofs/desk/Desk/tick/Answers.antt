@@ -1,6 +1,4 @@
-use Rattle.std.specs.BTreeMap.{BTreeMap}
-use Rattle.fs_speaker.specs.Session.{Live}
-use Rattle.std.proofs.Common.{ap, ℕ, sym, ◌∙◌}
+use Rattle.fs_desk.proofs.Words.{BTreeMap, Live, ap, ℕ, sym, ◌∙◌}
 use Rattle.fs_desk.proofs.Played.{desk_stays}
 use Rattle.fs_desk.proofs.Ticking.{desk_expires, desk_keeps_standing, desk_ticked, desk_ticks, desk_rests}
 use Rattle.fs_desk.proofs.desk.Desk.tick.Goals as goal

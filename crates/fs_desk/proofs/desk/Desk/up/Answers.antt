@@ -1,5 +1,4 @@
-use Rattle.std.proofs.Common.{Result, Ok, Err, OnErr, ap, sym, ◌∙◌}
-use Rattle.fs_desk.specs.Desk.{Desked}
+use Rattle.fs_desk.proofs.Words.{Result, Ok, Err, OnErr, ap, sym, ◌∙◌, Desked}
 use Rattle.fs_desk.proofs.Played.{desk_begun, desk_up, desk_stays}
 use Rattle.fs_desk.proofs.desk.Desk.up.Goals as goal
 

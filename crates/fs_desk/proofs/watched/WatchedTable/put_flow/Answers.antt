@@ -1,5 +1,4 @@
-use Rattle.std.proofs.Common.{ap, ◌∙◌}
-use Rattle.fs_rules.specs.Changes.{is_to}
+use Rattle.fs_desk.proofs.Words.{ap, ◌∙◌, is_to}
 use Rattle.fs_desk.proofs.ChangesJoined.{on_ok}
 use Rattle.fs_desk.proofs.Telling.{tells_place, watched_of}
 use Rattle.fs_desk.proofs.watched.WatchedTable.put_flow.Goals as goal

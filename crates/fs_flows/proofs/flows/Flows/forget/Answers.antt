@@ -1,12 +1,7 @@
-use Rattle.std.proofs.Common.{List, ◌≡◌, false, not, ◌==◌, sym, subst}
-use Rattle.std.specs.List.{AllByRecursion}
-use Rattle.fs_base.specs.declared.prefix.Prefix.{Prefix}
-use Rattle.fs_base.specs.declared.prefix.Family.TheVariants.{V4, V6}
-use Rattle.fs_flows.specs.Listed.{IsAmong}
+use Rattle.fs_flows.proofs.Words.{List, ◌≡◌, false, not, ◌==◌, sym, subst, AllByRecursion, Prefix, V4, V6, IsAmong, is_of_other}
 use Rattle.fs_flows.proofs.Along.{listed_others, among_taken}
 use Rattle.fs_flows.proofs.BothFamilies.{filtered}
 use Rattle.fs_flows.proofs.flows.Flows.forget.Goals as goal
-use Rattle.fs_flows.specs.Group.{is_of_other}
 
 -- Few destinations are listed.
 pub forget_along-requires : goal.forget_along-requires

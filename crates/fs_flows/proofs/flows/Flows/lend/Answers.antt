@@ -1,7 +1,4 @@
-use Rattle.std.proofs.Common.{ap, subst, ◌∙◌, filter}
-use Rattle.fs_flows.specs.Table.{is_of_family}
-use Rattle.fs_flows.specs.Group.{chosen}
-use Rattle.fs_flows.specs.Lending.{AreLent}
+use Rattle.fs_flows.proofs.Words.{ap, subst, ◌∙◌, filter, is_of_family, chosen, AreLent}
 use Rattle.fs_flows.proofs.BothFamilies.{chosen_each, chosen_first, chosen_second, family_first, family_second, lent_family, sorted_first, sorted_second, sound_at}
 use Rattle.fs_flows.proofs.flows.Flows.lend.Goals as goal
 

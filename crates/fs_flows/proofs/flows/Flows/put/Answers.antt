@@ -1,8 +1,4 @@
-use Rattle.std.proofs.Common.{Bool, not, ◌++◌, sym, ap, ◌∙◌}
-use Rattle.fs_base.specs.declared.prefix.Family.TheVariants.{V4, V6}
-use Rattle.fs_flows.specs.Groups.{IsSound}
-use Rattle.fs_flows.specs.Group.{has_key, put_kept}
-use Rattle.fs_flows.specs.Listed.{IsListed}
+use Rattle.fs_flows.proofs.Words.{Bool, not, ◌++◌, sym, ap, ◌∙◌, V4, V6, IsSound, has_key, put_kept, IsListed}
 use Rattle.fs_flows.proofs.Along.{listed_still}
 use Rattle.fs_flows.proofs.Apart.{ok_weaker, ok_along}
 use Rattle.fs_flows.proofs.BothFamilies.{rules_each, each_now, put_first, put_second, held_first, held_second, sorted_first, sorted_second}

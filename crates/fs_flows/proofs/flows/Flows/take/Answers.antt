@@ -1,11 +1,7 @@
-use Rattle.std.proofs.Common.{◌++◌, sym, ap, ◌∙◌, filter}
-use Rattle.std.specs.List.{list_any}
-use Rattle.fs_base.specs.declared.prefix.Family.TheVariants.{V4, V6}
-use Rattle.fs_flows.specs.Table.{is_key}
+use Rattle.fs_flows.proofs.Words.{◌++◌, sym, ap, ◌∙◌, filter, list_any, V4, V6, is_key, is_other_key}
 use Rattle.fs_flows.proofs.Along.{listed_left}
 use Rattle.fs_flows.proofs.BothFamilies.{rules_each, rules_of, filtered, take_first, take_second, held_first, held_second, sorted_first, sorted_second}
 use Rattle.fs_flows.proofs.flows.Flows.take.Goals as goal
-use Rattle.fs_flows.specs.Group.{is_other_key}
 
 pub take-requires-clause-sorted : goal.take-requires-clause-sorted
 take-requires-clause-sorted c = sorted_first c.self.inside.v4 c.self.inside.v6 c.args.self.now c.self.view_is c.requires

@@ -1,11 +1,7 @@
-use Rattle.std.proofs.Common.{sym, ap, subst, ◌∙◌, filter}
-use Rattle.fs_flows.specs.Blocks.{flat, IsCut}
-use Rattle.fs_flows.specs.Parts.{routes_in, AreWell}
-use Rattle.fs_flows.specs.contracts.group.Group.{the_invariant, the_view}
+use Rattle.fs_flows.proofs.Words.{sym, ap, subst, ◌∙◌, filter, flat, IsCut, routes_in, AreWell, the_invariant, the_view, is_of_other}
 use Rattle.fs_flows.proofs.Cutting.{flat_kept, cut_kept}
 use Rattle.fs_flows.proofs.group.Group.forget.Goals.{in-One, in-Many}
 use Rattle.fs_flows.proofs.group.Group.forget.Goals as goal
-use Rattle.fs_flows.specs.Group.{is_of_other}
 
 pub invariant_of-self : goal.invariant_of-self
 invariant_of-self c = elim c.match-self.branch [

@@ -1,9 +1,4 @@
-use Rattle.std.proofs.Common.{◌≡◌, ◌↔◌, false, refl, sym, ap, subst, ◌∙◌, map}
-use Rattle.std.specs.List.{AllByRecursion}
-use Rattle.fs_flows.specs.Group.{AreJudged, rejudged}
-use Rattle.fs_flows.specs.Blocks.{flat, IsCut}
-use Rattle.fs_flows.specs.Parts.{routes_in, AreWell}
-use Rattle.fs_flows.specs.contracts.group.Group.{the_invariant, the_view}
+use Rattle.fs_flows.proofs.Words.{◌≡◌, ◌↔◌, false, refl, sym, ap, subst, ◌∙◌, map, AllByRecursion, AreJudged, rejudged, flat, IsCut, routes_in, AreWell, the_invariant, the_view}
 use Rattle.fs_flows.proofs.Cutting.{flat_map, cut_map, each_flat, flat_each, written}
 use Rattle.fs_flows.proofs.Mending.{told_as}
 use Rattle.fs_flows.proofs.group.Group.rejudge.Goals.{in-One, in-Many}

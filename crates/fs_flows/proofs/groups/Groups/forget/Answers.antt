@@ -1,9 +1,7 @@
-use Rattle.std.proofs.Common.{ap, sym, subst, ◌∙◌, ◌≤◌, filter}
-use Rattle.fs_flows.specs.Groups.{AreNoShorter}
+use Rattle.fs_flows.proofs.Words.{ap, sym, subst, ◌∙◌, ◌≤◌, filter, AreNoShorter, is_of_other}
 use Rattle.fs_flows.proofs.Grouping.{grouped_kept, kept_left}
 use Rattle.fs_flows.proofs.TakingFromGroups.{each_left}
 use Rattle.fs_flows.proofs.groups.Groups.forget.Goals as goal
-use Rattle.fs_flows.specs.Group.{is_of_other}
 
 pub invariant_of-self : goal.invariant_of-self
 invariant_of-self c = (

@@ -1,10 +1,6 @@
-use Rattle.std.proofs.Common.{ap, sym, subst, ◌∙◌, ◌≡◌, ◌≤◌, false, not, ◌==◌, filter}
-use Rattle.std.specs.List.{AllByRecursion}
-use Rattle.fs_flows.specs.Groups.{AreNoShorter}
-use Rattle.fs_flows.specs.Listed.{IsAmong}
+use Rattle.fs_flows.proofs.Words.{ap, sym, subst, ◌∙◌, ◌≡◌, ◌≤◌, false, not, ◌==◌, filter, AllByRecursion, AreNoShorter, IsAmong, is_of_other}
 use Rattle.fs_flows.proofs.Along.{along_keys, grouped_along, kept_along}
 use Rattle.fs_flows.proofs.groups.Groups.forget_along.Goals as goal
-use Rattle.fs_flows.specs.Group.{is_of_other}
 
 pub invariant_of-self : goal.invariant_of-self
 invariant_of-self c = (

@@ -1,8 +1,4 @@
-use Rattle.std.proofs.Common.{◌≤◌, sym, subst}
-use Rattle.std.specs.List.{AllByRecursion}
-use Rattle.fs_validate.specs.Laws.{is_related}
-use Rattle.fs_flows.specs.Groups.{kept_in}
-use Rattle.fs_flows.specs.Search.{MendsKept}
+use Rattle.fs_flows.proofs.Words.{◌≤◌, sym, subst, AllByRecursion, is_related, kept_in, MendsKept}
 use Rattle.fs_flows.proofs.Grouping.{grouped_mended, mends_kept}
 use Rattle.fs_flows.proofs.Mending.{mends_keys}
 use Rattle.fs_flows.proofs.groups.Groups.mend.Goals as goal

@@ -1,7 +1,4 @@
-use Rattle.std.proofs.Common.{ℕ, rules, not, ◌≡◌, ◌≤◌, ◌+◌, refl, sym, ap, subst, ◌∙◌, arith}
-use Rattle.std.specs.List.{AllByRecursion}
-use Rattle.fs_flows.specs.Group.{AreSorted, routes_of, put_kept, has_key}
-use Rattle.fs_flows.specs.Groups.{IsSound, kept_in, AreNoShorter}
+use Rattle.fs_flows.proofs.Words.{ℕ, rules, not, ◌≡◌, ◌≤◌, ◌+◌, refl, sym, ap, subst, ◌∙◌, arith, AllByRecursion, AreSorted, routes_of, put_kept, has_key, IsSound, kept_in, AreNoShorter}
 use Rattle.fs_flows.proofs.PuttingInGroups.{sorted_groups, sorted_rest, put_entries, put_rest, each_entry}
 use Rattle.fs_flows.proofs.Grouping.{grouped_put, grouped_rest}
 use Rattle.fs_flows.proofs.BothFamilies.{rules_of}

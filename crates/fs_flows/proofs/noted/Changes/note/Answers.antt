@@ -1,7 +1,4 @@
-use Rattle.std.proofs.Common.{subst, sym, [], ◌∷◌}
-use Rattle.std.specs.List.{AllByRecursion}
-use Rattle.fs_base.proofs.Lists.{each_append}
-use Rattle.fs_flows.specs.Changes.{IsOwn}
+use Rattle.fs_flows.proofs.Words.{subst, sym, [], ◌∷◌, AllByRecursion, each_append, IsOwn}
 use Rattle.fs_flows.proofs.Noting.{covers_more, noted_more, stays_more}
 use Rattle.fs_flows.proofs.noted.Changes.note.Goals as goal
 

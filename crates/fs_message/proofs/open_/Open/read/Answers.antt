@@ -1,6 +1,4 @@
-use Rattle.std.proofs.Common.{◌≡◌, ℕ, List, drop, [], Some, sym, ap, ◌∙◌}
-use Rattle.std.proofs.lemmas.List.{take_rest}
-use Rattle.fs_message.specs.Capabilities.{capabilities_of, found_in, all_gathered}
+use Rattle.fs_message.proofs.Words.{◌≡◌, ℕ, List, drop, [], Some, sym, ap, ◌∙◌, take_rest, capabilities_of, found_in, all_gathered}
 use Rattle.fs_message.proofs.CapabilityLists.{open_found}
 use Rattle.fs_message.proofs.open_.Open.read.Goals as goal
 

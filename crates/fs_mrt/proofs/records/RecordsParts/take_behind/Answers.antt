@@ -1,9 +1,4 @@
-use Rattle.std.proofs.Common.{rules, arith, ◌≡◌, ◌+◌, ◌-◌, ◌≤◌, ap, ◌∙◌}
-use Rattle.std.specs.Option.{option_map}
-use Rattle.fs_input.specs.Scan.{gives}
-use Rattle.fs_input.proofs.Lifting.{reads_as, reads_ends}
-use Rattle.fs_mrt.specs.Dump.{spoken_from}
-use Rattle.fs_mrt.specs.Record.{head_of, headed_in, moment_behind, record_behind}
+use Rattle.fs_mrt.proofs.Words.{rules, arith, ◌≡◌, ◌+◌, ◌-◌, ◌≤◌, ap, ◌∙◌, option_map, gives, reads_as, reads_ends, spoken_from, head_of, headed_in, moment_behind, record_behind}
 use Rattle.fs_mrt.proofs.records.RecordsParts.take_behind.Goals as goal
 
 pub returns-in-Err-clause-reads : goal.returns-in-Err-clause-reads

@@ -1,10 +1,5 @@
-use Rattle.std.proofs.Common.{◌≡◌, Bool, true, sym, subst, ◌∙◌}
+use Rattle.fs_nlri.proofs.Words.{◌≡◌, Bool, true, sym, subst, ◌∙◌, form_of, Part, part_of, IsNormalAt, IsTyped, part_given}
 use Rattle.std.specs.Bool.{OnTrue}
-use Rattle.fs_nlri.specs.Forms.{form_of}
-use Rattle.fs_nlri.specs.Parts.{Part}
-use Rattle.fs_nlri.specs.Component.{part_of}
-use Rattle.fs_nlri.specs.Rule.{IsNormalAt}
-use Rattle.fs_nlri.specs.Making.{IsTyped, part_given}
 use Rattle.fs_nlri.proofs.Made.{normal_at}
 use Rattle.fs_nlri.proofs.component.Component.cleared.Goals as goal
 

@@ -1,7 +1,4 @@
-use Rattle.std.proofs.Common.{subst}
-use Rattle.fs_nlri.specs.Component.{parts_of}
-use Rattle.fs_nlri.specs.Parts.{Ruled, ruled}
-use Rattle.fs_nlri.specs.Sound.{AreSound}
+use Rattle.fs_nlri.proofs.Words.{subst, parts_of, Ruled, ruled, AreSound}
 use Rattle.fs_nlri.proofs.Sound.{rule_sound}
 use Rattle.fs_nlri.proofs.rule.Rule.components.Goals as goal
 

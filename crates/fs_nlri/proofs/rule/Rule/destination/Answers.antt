@@ -1,8 +1,4 @@
-use Rattle.std.proofs.Common.{List, ap, sym, ◌∙◌}
-use Rattle.std.specs.List.{slice_get}
-use Rattle.fs_nlri.specs.declared.component.Component.{Component}
-use Rattle.fs_nlri.specs.Parts.{Ruled}
-use Rattle.fs_nlri.specs.Rule.{destination_of}
+use Rattle.fs_nlri.proofs.Words.{List, ap, sym, ◌∙◌, slice_get, Component, Ruled, destination_of}
 use Rattle.fs_nlri.proofs.Destination.{first_part}
 use Rattle.fs_nlri.proofs.rule.Rule.destination.Goals as goal
 

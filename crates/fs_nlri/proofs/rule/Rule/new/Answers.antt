@@ -1,9 +1,4 @@
-use Rattle.std.proofs.Common.{List, ap, sym, subst, ◌∙◌, length, nat_le}
-use Rattle.std.specs.List.{AllByRecursion}
-use Rattle.fs_nlri.specs.declared.component.Component.{Component}
-use Rattle.fs_nlri.specs.Component.{parts_of}
-use Rattle.fs_nlri.specs.Rule.{canonical_value}
-use Rattle.fs_nlri.specs.Making.{fault_in, IsTyped}
+use Rattle.fs_nlri.proofs.Words.{List, ap, sym, subst, ◌∙◌, length, nat_le, AllByRecursion, Component, parts_of, canonical_value, fault_in, IsTyped}
 use Rattle.fs_nlri.proofs.Made.{made_rule, no_fault}
 use Rattle.fs_nlri.proofs.rule.Rule.new.Goals as goal
 

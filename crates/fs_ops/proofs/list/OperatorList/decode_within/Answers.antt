@@ -1,7 +1,4 @@
-use Rattle.std.proofs.Common.{take, arith, subst}
-use Rattle.fs_base.proofs.Octets.{octets_from, octets_take}
-use Rattle.fs_ops.specs.Operator.{Kind}
-use Rattle.fs_ops.specs.OperatorList.{IsNormal}
+use Rattle.fs_ops.proofs.Words.{take, arith, subst, octets_from, octets_take, Kind, IsNormal}
 use Rattle.fs_ops.proofs.Normal.{spelled_normal}
 use Rattle.fs_ops.proofs.list.OperatorList.decode_within.Goals as goal
 

@@ -1,5 +1,4 @@
-use Rattle.std.proofs.Common.{sym, subst}
-use Rattle.fs_ops.specs.OperatorList.{IsNormal}
+use Rattle.fs_ops.proofs.Words.{sym, subst, IsNormal}
 use Rattle.fs_ops.proofs.Normal.{kept_is_normal}
 use Rattle.fs_ops.proofs.list.OperatorList.keep_bits.Goals as goal
 

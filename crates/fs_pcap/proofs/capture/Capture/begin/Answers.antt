@@ -1,10 +1,4 @@
-use Rattle.std.proofs.Common.{rules, arith, ◌≡◌, Ok, Err, []}
-use Rattle.fs_input.proofs.Fronts.{none_back, opens_not, opens_so}
-use Rattle.fs_input.specs.Opening.{IsFrontWithin, opened_answer}
-use Rattle.fs_pcap.specs.Header.{header_of}
-use Rattle.fs_pcap.specs.Capture.{CaptureState}
-use Rattle.fs_pcap.specs.declared.fault.CaptureReason.TheVariants.{Cut}
-use Rattle.fs_pcap.specs.declared.header.Heading.{Heading}
+use Rattle.fs_pcap.proofs.Words.{rules, arith, ◌≡◌, Ok, Err, [], none_back, opens_not, opens_so, IsFrontWithin, opened_answer, header_of, CaptureState, Cut, Heading}
 use Rattle.fs_pcap.proofs.capture.Capture.begin.Goals as goal
 
 pub returns-in-Err-clause-opens : goal.returns-in-Err-clause-opens

@@ -1,5 +1,4 @@
-use Rattle.std.proofs.Common.{◌≡◌, Bool, true, false, refl, ap, ◌∙◌, rules}
-use Rattle.fs_peering.proofs.Words.{Announcing}
+use Rattle.fs_peering.proofs.Words.{Announcing, ◌≡◌, Bool, true, false, refl, ap, ◌∙◌, rules}
 use Rattle.fs_peering.proofs.Sending.{hears_on}
 use Rattle.fs_peering.proofs.teller.TellerSpeaker.hear.Goals as goal
 

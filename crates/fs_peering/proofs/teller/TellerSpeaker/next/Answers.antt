@@ -1,6 +1,4 @@
-use Rattle.std.proofs.Common.{rules, Bool, subst}
-use Rattle.fs_peering.proofs.Words.{SaysText, next_text}
-use Rattle.fs_peering.specs.Sender.{SaysUpTo}
+use Rattle.fs_peering.proofs.Words.{SaysText, next_text, rules, Bool, subst, SaysUpTo}
 use Rattle.fs_peering.proofs.Ahead.{if_if, if_on, says_all}
 use Rattle.fs_peering.proofs.Hearing.{says_same}
 use Rattle.fs_peering.proofs.Sending.{next_on, opens_on}

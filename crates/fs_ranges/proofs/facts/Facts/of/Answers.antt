@@ -1,6 +1,4 @@
-use Rattle.std.proofs.Common.{ℕ, ◌^◌, ◌<◌, ◌∙◌, [], ◌∷◌, refl, sym, subst, ap, arith}
-use Rattle.fs_packet.specs.Fields.{family_of}
-use Rattle.fs_ranges.specs.Facts.{IsSmallAddress, IsSmallField, address_number, field_number, syn_number}
+use Rattle.fs_ranges.proofs.Words.{ℕ, ◌^◌, ◌<◌, ◌∙◌, [], ◌∷◌, refl, sym, subst, ap, arith, family_of, IsSmallAddress, IsSmallField, address_number, field_number, syn_number}
 use Rattle.fs_ranges.proofs.facts.Facts.of.Goals as goal
 
 pub returns : goal.returns

@@ -1,9 +1,5 @@
-use Rattle.std.proofs.Common.{◌≡◌, ℕ, true, List, sym, subst}
-use Rattle.std.specs.List.{list_all}
-use Rattle.fs_ranges.specs.declared.tests.Test.{Test}
+use Rattle.fs_ranges.proofs.Words.{◌≡◌, ℕ, true, List, sym, subst, list_all, Test, key_of, passes}
 use Rattle.fs_ranges.specs.Limits.{allows}
-use Rattle.fs_ranges.specs.Facts.{key_of}
-use Rattle.fs_ranges.specs.Tests.{passes}
 use Rattle.fs_ranges.proofs.Placing.{tests_held}
 use Rattle.fs_ranges.proofs.fast.Fast.limit.Goals as goal
 

@@ -1,8 +1,4 @@
-use Rattle.std.proofs.Common.{◌∙◌, ◌&&◌, ◌==◌, ap}
-use Rattle.std.specs.List.{list_all}
-use Rattle.fs_base.specs.Bits.{afi_of}
-use Rattle.fs_packet.specs.Matching.{part_matches}
-use Rattle.fs_ranges.specs.Fast.{facts_hold, fast_holds}
+use Rattle.fs_ranges.proofs.Words.{◌∙◌, ◌&&◌, ◌==◌, ap, list_all, afi_of, part_matches, facts_hold, fast_holds}
 use Rattle.fs_ranges.proofs.fast.Fast.of.Goals as goal
 
 pub tests_of-requires : goal.tests_of-requires

@@ -1,7 +1,4 @@
-use Rattle.std.proofs.Common.{◌≡◌, true, List, sym, subst}
-use Rattle.std.specs.List.{list_all}
-use Rattle.fs_ranges.specs.declared.tests.Test.{Test}
-use Rattle.fs_ranges.specs.Tests.{passes}
+use Rattle.fs_ranges.proofs.Words.{◌≡◌, true, List, sym, subst, list_all, Test, passes}
 use Rattle.fs_ranges.proofs.Placing.{tests_held}
 use Rattle.fs_ranges.proofs.fast.Fast.ports_limit.Goals as goal
 

@@ -1,8 +1,4 @@
-use Rattle.std.proofs.Common.{◌≡◌, true, sym, ap, subst, ◌∙◌}
-use Rattle.std.specs.List.{All}
-use Rattle.fs_ops.specs.Evaluation.{compares, holds}
-use Rattle.fs_ranges.specs.Numbers.{are_singles}
-use Rattle.fs_ranges.specs.Spans.{AreApart, IsRange, contains}
+use Rattle.fs_ranges.proofs.Words.{◌≡◌, true, sym, ap, subst, ◌∙◌, All, compares, holds, are_singles, AreApart, IsRange, contains}
 use Rattle.fs_ranges.proofs.Numbering.{singles_apart, singles_same}
 use Rattle.fs_ranges.proofs.spans.Spans.of.Goals as goal
 

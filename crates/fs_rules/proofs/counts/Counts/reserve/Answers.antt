@@ -1,8 +1,4 @@
-use Rattle.std.proofs.Common.{◌+◌, ◌<◌, ◌^◌, sym, ap, subst, ◌∙◌, nat_cmp}
-use Rattle.std.specs.BTreeMap.{is_at}
-use Rattle.std.specs.Map.{lookup}
-use Rattle.fs_rules.specs.Counts.{Holding}
-use Rattle.fs_flows.proofs.Apart.{ok_weaker}
+use Rattle.fs_rules.proofs.Words.{◌+◌, ◌<◌, ◌^◌, sym, ap, subst, ◌∙◌, nat_cmp, is_at, lookup, Holding, ok_weaker}
 use Rattle.fs_rules.proofs.counts.Counts.reserve.Goals as goal
 
 pub returns-in-Some-clause-room : goal.returns-in-Some-clause-room

@@ -1,6 +1,4 @@
-use Rattle.std.proofs.Common.{ap, ◌∙◌, ◌++◌, map}
-use Rattle.fs_rules.specs.Lent.{shown_lent}
-use Rattle.fs_rules.specs.Reading.{listings_in}
+use Rattle.fs_rules.proofs.Words.{ap, ◌∙◌, ◌++◌, map, shown_lent, listings_in}
 use Rattle.fs_rules.proofs.table.Table.admitted.Goals as goal
 
 pub returns-clause-list : goal.returns-clause-list

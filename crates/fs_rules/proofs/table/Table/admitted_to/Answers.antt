@@ -1,7 +1,4 @@
-use Rattle.std.proofs.Common.{ap, ◌∙◌, ◌++◌, map}
-use Rattle.fs_rules.specs.Lent.{shown_lent}
-use Rattle.fs_rules.specs.Lists.{listings}
-use Rattle.fs_flows.specs.Lending.{group_at}
+use Rattle.fs_rules.proofs.Words.{ap, ◌∙◌, ◌++◌, map, shown_lent, listings, group_at}
 use Rattle.fs_rules.proofs.table.Table.admitted_to.Goals as goal
 
 pub returns-clause-list : goal.returns-clause-list

@@ -1,6 +1,4 @@
-use Rattle.std.proofs.Common.{ap, sym, ◌∙◌, length}
-use Rattle.std.proofs.lemmas.List.{length-map}
-use Rattle.fs_flows.specs.Lending.{chosen_in}
+use Rattle.fs_rules.proofs.Words.{ap, sym, ◌∙◌, length, length-map, chosen_in}
 use Rattle.fs_rules.proofs.table.Table.count.Goals as goal
 
 pub returns-clause-count : goal.returns-clause-count

@@ -1,6 +1,4 @@
-use Rattle.std.proofs.Common.{ap, ◌∙◌, ◌++◌, map}
-use Rattle.fs_rules.specs.Lent.{shown_held}
-use Rattle.fs_rules.specs.Reading.{judgements_in}
+use Rattle.fs_rules.proofs.Words.{ap, ◌∙◌, ◌++◌, map, shown_held, judgements_in}
 use Rattle.fs_rules.proofs.table.Table.held.Goals as goal
 
 pub returns-clause-list : goal.returns-clause-list

@@ -1,7 +1,4 @@
-use Rattle.std.proofs.Common.{ap, sym, ◌∙◌, slice_get}
-use Rattle.std.proofs.lemmas.Option.{slice_get-map}
-use Rattle.fs_flows.specs.Groups.{kept_in}
-use Rattle.fs_rules.specs.Lists.{judgement}
+use Rattle.fs_rules.proofs.Words.{ap, sym, ◌∙◌, slice_get, slice_get-map, kept_in, judgement}
 use Rattle.fs_rules.proofs.table.Table.held_flow.Goals as goal
 
 pub returns-clause-held : goal.returns-clause-held

@@ -1,12 +1,4 @@
-use Rattle.std.proofs.Common.{◌≡◌, ◌+◌, sym, ap, subst, ◌∙◌, List, [], ◌∷◌, drop, arith}
-use Rattle.std.specs.List.Sorted.{IsStrictlySortedBy}
-use Rattle.std.specs.Map.{keys_of}
-use Rattle.std.proofs.lemmas.List.{drop_all}
-use Rattle.fs_base.specs.declared.prefix.Prefix.{Prefix}
-use Rattle.fs_unicast.proofs.PlaceOrder.{place_total}
-use Rattle.fs_unicast.specs.Unicast.{place_cmp}
-use Rattle.fs_rules.specs.Counts.{AreAmong}
-use Rattle.fs_flows.specs.Table.{Held}
+use Rattle.fs_rules.proofs.Words.{◌≡◌, ◌+◌, sym, ap, subst, ◌∙◌, List, [], ◌∷◌, drop, arith, IsStrictlySortedBy, keys_of, drop_all, Prefix, place_total, place_cmp, AreAmong, Held}
 use Rattle.fs_rules.proofs.Entries.{sorted-remove_entry}
 use Rattle.fs_rules.proofs.Losing.{is_place, losing_starts, losing_ends}
 use Rattle.fs_rules.proofs.Prefixes.{among_more, none_among, along_more}

@@ -1,10 +1,4 @@
-use Rattle.std.proofs.Common.{drop}
-use Rattle.std.specs.List.Sorted.{IsStrictlySortedBy}
-use Rattle.std.specs.Map.{keys_of}
-use Rattle.fs_unicast.specs.Unicast.{place_cmp}
-use Rattle.fs_rules.specs.Counts.{AreAmong}
-use Rattle.fs_flows.specs.Changes.{Covers}
-use Rattle.fs_flows.specs.Table.{Held}
+use Rattle.fs_rules.proofs.Words.{drop, IsStrictlySortedBy, keys_of, place_cmp, AreAmong, Covers, Held}
 use Rattle.fs_rules.proofs.Losing.{IsLosing}
 use Rattle.fs_rules.proofs.table.Table.lose_along.Given as goal
 

@@ -1,6 +1,4 @@
-use Rattle.std.proofs.Common.{length}
-use Rattle.fs_flows.specs.Changes.{Covers}
-use Rattle.fs_flows.specs.Table.{Held}
+use Rattle.fs_rules.proofs.Words.{length, Covers, Held}
 use Rattle.fs_rules.proofs.Losing.{IsLosing, Passed}
 use Rattle.fs_rules.proofs.table.Table.lose_each.Given as goal
 

@@ -1,8 +1,4 @@
-use Rattle.std.proofs.Common.{◌≡◌, ap, sym, ◌∙◌, not, ◌==◌, arith}
-use Rattle.std.proofs.lemmas.Bool.Decides.{nat_tests}
-use Rattle.fs_flows.specs.Table.{Held, without_peer_unicast, without_peer_flows}
-use Rattle.fs_flows.specs.Group.{routes_of}
-use Rattle.fs_flows.proofs.Changed.{keeps-filter, routes-filter}
+use Rattle.fs_rules.proofs.Words.{◌≡◌, ap, sym, ◌∙◌, not, ◌==◌, arith, nat_tests, Held, without_peer_unicast, without_peer_flows, routes_of, keeps-filter, routes-filter}
 use Rattle.fs_rules.proofs.Chosen.{flows_changed}
 use Rattle.fs_rules.proofs.Counting.{counted_as, counted_lost, with_same_flows}
 use Rattle.fs_rules.proofs.Prefixes.{held_still, held_others}

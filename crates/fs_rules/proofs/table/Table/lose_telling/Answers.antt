@@ -1,7 +1,4 @@
-use Rattle.std.proofs.Common.{◌≡◌, ap, sym, ◌∙◌, subst, arith}
-use Rattle.std.proofs.lemmas.Bool.Decides.{nat_tests}
-use Rattle.fs_flows.specs.Changes.{Covers}
-use Rattle.fs_flows.specs.Table.{Held, held_count, without_peer_unicast}
+use Rattle.fs_rules.proofs.Words.{◌≡◌, ap, sym, ◌∙◌, subst, arith, nat_tests, Covers, Held, held_count, without_peer_unicast}
 use Rattle.fs_rules.proofs.Counting.{with_same, gone_twice}
 use Rattle.fs_rules.proofs.table.Table.lose_telling.Goals as goal
 

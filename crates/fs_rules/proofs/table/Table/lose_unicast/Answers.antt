@@ -1,6 +1,4 @@
-use Rattle.std.proofs.Common.{sym, subst, List}
-use Rattle.fs_base.specs.declared.prefix.Prefix.{Prefix}
-use Rattle.fs_rules.specs.Counts.{AreAmong}
+use Rattle.fs_rules.proofs.Words.{sym, subst, List, Prefix, AreAmong}
 use Rattle.fs_rules.proofs.Prefixes.{kept_still, among_held}
 use Rattle.fs_rules.proofs.table.Table.lose_unicast.Goals as goal
 

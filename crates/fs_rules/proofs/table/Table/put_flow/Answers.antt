@@ -1,13 +1,6 @@
-use Rattle.std.proofs.Common.{ℕ, List, ◌≡◌, ap, ap₂, sym, subst, ◌∙◌, not}
-use Rattle.fs_base.specs.declared.path.Path.{Path}
-use Rattle.fs_flows.specs.Kept.{Kept}
-use Rattle.fs_rules.specs.Counts.{IsKept}
-use Rattle.fs_flows.specs.Table.{put_route, is_key, with_flow}
-use Rattle.fs_flows.specs.Group.{routes_of, put_kept, has_key}
-use Rattle.fs_flows.proofs.Changed.{keeps-put, routes-put, any-routes}
+use Rattle.fs_rules.proofs.Words.{ℕ, List, ◌≡◌, ap, ap₂, sym, subst, ◌∙◌, not, Path, Kept, IsKept, put_route, is_key, with_flow, routes_of, put_kept, has_key, keeps-put, routes-put, any-routes, IsRule}
 use Rattle.fs_rules.proofs.Chosen.{flows_changed}
 use Rattle.fs_rules.proofs.Counting.{counted_as, counted_put_flow}
-use Rattle.fs_nlri.specs.Rule.{IsRule}
 use Rattle.fs_rules.proofs.Elsewhere.{put_elsewhere}
 use Rattle.fs_rules.proofs.Prefixes.{held_still, kept_still}
 use Rattle.fs_rules.proofs.table.Table.put_flow.Goals as goal

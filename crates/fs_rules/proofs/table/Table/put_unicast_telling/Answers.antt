@@ -1,9 +1,4 @@
-use Rattle.std.proofs.Common.{rules, of_calls, refl, sym, ap, subst, ◌∙◌, List}
-use Rattle.std.specs.BTreeMap.{insert_entry}
-use Rattle.fs_unicast.specs.Unicast.{place_cmp, Route}
-use Rattle.fs_rules.specs.Counts.{IsKept}
-use Rattle.fs_flows.specs.Group.{routes_of}
-use Rattle.fs_flows.proofs.Changed.{routes_mended}
+use Rattle.fs_rules.proofs.Words.{rules, of_calls, refl, sym, ap, subst, ◌∙◌, List, insert_entry, place_cmp, Route, IsKept, routes_of, routes_mended}
 use Rattle.fs_rules.proofs.Chosen.{held_of, unicast_changed, keeps_after, agree_put}
 use Rattle.fs_rules.proofs.Counting.{counted_as, counted_put}
 use Rattle.fs_rules.proofs.Elsewhere.{covers_noted, related_elsewhere}

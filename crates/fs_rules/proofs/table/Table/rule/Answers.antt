@@ -1,6 +1,4 @@
-use Rattle.std.proofs.Common.{ap, ◌∙◌, option_map, slice_get}
-use Rattle.fs_rules.specs.Lent.{listed}
-use Rattle.fs_flows.specs.Lending.{chosen_in}
+use Rattle.fs_rules.proofs.Words.{ap, ◌∙◌, option_map, slice_get, listed, chosen_in}
 use Rattle.fs_rules.proofs.Chosen.{get-routes}
 use Rattle.fs_rules.proofs.table.Table.rule.Goals as goal
 

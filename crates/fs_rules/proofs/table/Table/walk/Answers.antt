@@ -1,6 +1,4 @@
-use Rattle.std.proofs.Common.{ap, ◌∙◌}
-use Rattle.fs_flows.specs.Table.{admitted}
-use Rattle.fs_rules.specs.Walk.{next_match}
+use Rattle.fs_rules.proofs.Words.{ap, ◌∙◌, admitted, next_match}
 use Rattle.fs_rules.proofs.table.Table.walk.Goals as goal
 
 pub returns : goal.returns

@@ -1,7 +1,4 @@
-use Rattle.std.proofs.Common.{ap, ◌∙◌, not}
-use Rattle.fs_flows.specs.Table.{is_key, without_route, has_route}
-use Rattle.fs_flows.specs.Group.{routes_of}
-use Rattle.fs_flows.proofs.Changed.{keeps-filter, routes-filter, any-routes}
+use Rattle.fs_rules.proofs.Words.{ap, ◌∙◌, not, is_key, without_route, has_route, routes_of, keeps-filter, routes-filter, any-routes}
 use Rattle.fs_rules.proofs.Chosen.{flows_changed}
 use Rattle.fs_rules.proofs.Counting.{counted_without_flow}
 use Rattle.fs_rules.proofs.Elsewhere.{taken_elsewhere}

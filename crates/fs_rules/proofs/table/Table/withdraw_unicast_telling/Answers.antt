@@ -1,14 +1,4 @@
-use Rattle.std.proofs.Common.{◌≡◌, refl, sym, ap, ◌∙◌, subst, List, length, arith}
-use Rattle.std.specs.BTreeMap.{is_at}
-use Rattle.std.specs.Map.{remove_entry, keys_of}
-use Rattle.fs_unicast.specs.Unicast.{place_cmp, Route}
-use Rattle.fs_flows.specs.Changes.{Covers}
-use Rattle.std.specs.List.Sorted.{IsStrictlySortedBy}
-use Rattle.fs_unicast.proofs.PlaceOrder.{place_total}
-use Rattle.fs_rules.specs.Counts.{IsKept}
-use Rattle.fs_flows.specs.Group.{routes_of}
-use Rattle.fs_flows.specs.Table.{Held}
-use Rattle.fs_flows.proofs.Changed.{routes_mended, remove_nothing, removes_one}
+use Rattle.fs_rules.proofs.Words.{◌≡◌, refl, sym, ap, ◌∙◌, subst, List, length, arith, is_at, remove_entry, keys_of, place_cmp, Route, Covers, IsStrictlySortedBy, place_total, IsKept, routes_of, Held, routes_mended, remove_nothing, removes_one}
 use Rattle.fs_rules.proofs.Chosen.{held_of, unicast_changed, keeps_after, agree_taken}
 use Rattle.fs_rules.proofs.Counting.{counted_taken}
 use Rattle.fs_rules.proofs.Elsewhere.{covers_noted, related_elsewhere}

@@ -1,7 +1,4 @@
-use Rattle.std.proofs.Common.{◌≡◌, true, sym, subst}
-use Rattle.std.specs.List.{list_all}
-use Rattle.fs_attrs.specs.declared.update.Terms.{Terms}
-use Rattle.fs_session.specs.Sending.{is_short}
+use Rattle.fs_session.proofs.Words.{◌≡◌, true, sym, subst, list_all, Terms, is_short}
 use Rattle.fs_session.proofs.Fitting.{all_short}
 use Rattle.fs_session.proofs.announcer.Announcer.next_message.Goals as goal
 

@@ -1,5 +1,4 @@
-use Rattle.std.proofs.Common.{subst}
-use Rattle.fs_session.specs.Session.{Live, live, GoesOnAt}
+use Rattle.fs_session.proofs.Words.{subst, Live, live, GoesOnAt}
 use Rattle.fs_session.proofs.session.Session.feed_at.Goals as goal
 
 pub returns-clause-exact : goal.returns-clause-exact

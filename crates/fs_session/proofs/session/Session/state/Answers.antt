@@ -1,5 +1,4 @@
-use Rattle.std.proofs.Common.{◌≡◌, subst}
-use Rattle.fs_session.specs.Session.{Live, state_of}
+use Rattle.fs_session.proofs.Words.{◌≡◌, subst, Live, state_of}
 use Rattle.fs_session.proofs.session.Session.state.Goals as goal
 
 pub returns : goal.returns

@@ -1,6 +1,4 @@
-use Rattle.std.proofs.Common.{◌≡◌, drop}
-use Rattle.std.specs.List.{list_all}
-use Rattle.fs_shadow.specs.Extents.{is_probed}
+use Rattle.fs_shadow.proofs.Words.{◌≡◌, drop, list_all, is_probed}
 use Rattle.fs_shadow.proofs.outlines.Outline.is_probed.Given as goal
 
 -- what is left answers for all

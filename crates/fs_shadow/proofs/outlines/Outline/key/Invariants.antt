@@ -1,5 +1,4 @@
-use Rattle.std.proofs.Common.{◌≡◌, drop, max}
-use Rattle.fs_shadow.specs.Outlines.{key_of}
+use Rattle.fs_shadow.proofs.Words.{◌≡◌, drop, max, key_of}
 use Rattle.fs_shadow.proofs.outlines.Outline.key.Given as goal
 
 -- the greatest so far and what is left answer for all

@@ -1,11 +1,4 @@
-use Rattle.std.proofs.Common.{ℕ, List, [], ap, ◌∙◌, subst}
-use Rattle.fs_attrs.specs.declared.update.Update.{Update}
-use Rattle.fs_session.specs.Session.{Live, line_of}
-use Rattle.fs_session.specs.Side.{receiver}
-use Rattle.fs_speaker.specs.End.{HandsOver}
-use Rattle.fs_speaker.specs.Ends.{Both, both, Becomes}
-use Rattle.fs_speaker.specs.Flight.{Flying, flying}
-use Rattle.fs_speaker.specs.World.{sent, delivers}
+use Rattle.fs_speaker.proofs.Words.{ℕ, List, [], ap, ◌∙◌, subst, Update, Live, line_of, receiver, HandsOver, Both, both, Becomes, Flying, flying, sent, delivers}
 use Rattle.fs_speaker.proofs.Happening.{handed_behind, taker_delivered}
 use Rattle.fs_speaker.proofs.ends.Ends.deliver_taker.Goals as goal
 

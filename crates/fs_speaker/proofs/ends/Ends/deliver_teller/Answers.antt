@@ -1,11 +1,4 @@
-use Rattle.std.proofs.Common.{ℕ, List, [], ap, ◌∙◌, subst}
-use Rattle.std.proofs.lemmas.Result.{on_ok_weaker}
-use Rattle.fs_attrs.specs.declared.update.Update.{Update}
-use Rattle.fs_session.specs.Announcer.{Announcing, machine_in}
-use Rattle.fs_speaker.specs.End.{HandsOver}
-use Rattle.fs_speaker.specs.Ends.{Both, both, Becomes}
-use Rattle.fs_speaker.specs.Flight.{Flying, flying}
-use Rattle.fs_speaker.specs.World.{sent, delivers}
+use Rattle.fs_speaker.proofs.Words.{ℕ, List, [], ap, ◌∙◌, subst, on_ok_weaker, Update, Announcing, machine_in, HandsOver, Both, both, Becomes, Flying, flying, sent, delivers}
 use Rattle.fs_speaker.proofs.Happening.{teller_delivered}
 use Rattle.fs_speaker.proofs.ends.Ends.deliver_teller.Goals as goal
 

@@ -1,11 +1,4 @@
-use Rattle.std.proofs.Common.{ℕ, List, ap, ◌∙◌, subst}
-use Rattle.std.proofs.lemmas.Result.{on_ok_weaker}
-use Rattle.fs_session.specs.Session.{Live, line_of}
-use Rattle.fs_session.specs.Side.{receiver}
-use Rattle.fs_speaker.specs.End.{TicksOver}
-use Rattle.fs_speaker.specs.Ends.{Both, both, Becomes}
-use Rattle.fs_speaker.specs.Flight.{Flying, flying}
-use Rattle.fs_speaker.specs.World.{sent, wakes}
+use Rattle.fs_speaker.proofs.Words.{ℕ, List, ap, ◌∙◌, subst, on_ok_weaker, Live, line_of, receiver, TicksOver, Both, both, Becomes, Flying, flying, sent, wakes}
 use Rattle.fs_speaker.proofs.Happening.{taker_woke}
 use Rattle.fs_speaker.proofs.ends.Ends.wake_taker.Goals as goal
 

@@ -1,8 +1,4 @@
-use Rattle.std.proofs.Common.{rules, sym, subst, Ok, ap, List, ℕ, [], false, ◌∙◌}
-use Rattle.fs_attrs.specs.declared.update.Update.{Update}
-use Rattle.fs_session.specs.Announcer.{StartsOpen}
-use Rattle.fs_speaker.specs.Ends.{both}
-use Rattle.fs_speaker.specs.Flight.{Flying, flying}
+use Rattle.fs_speaker.proofs.Words.{rules, sym, subst, Ok, ap, List, ℕ, [], false, ◌∙◌, Update, StartsOpen, both, Flying, flying}
 use Rattle.fs_speaker.proofs.Running.{joint_begins}
 use Rattle.fs_speaker.proofs.Lowest.{is_told}
 use Rattle.fs_speaker.proofs.joint.Joint.new.Goals as goal

@@ -1,6 +1,4 @@
-use Rattle.std.proofs.Common.{true, Bool, List, [], ◌∷◌, ◌++◌, refl, ap, sym, subst, ◌∙◌}
-use Rattle.fs_speaker.specs.declared.event.Event.{Event}
-use Rattle.fs_speaker.specs.Joint.{jointed, IsRun}
+use Rattle.fs_speaker.proofs.Words.{true, Bool, List, [], ◌∷◌, ◌++◌, refl, ap, sym, subst, ◌∙◌, Event, jointed, IsRun}
 use Rattle.fs_speaker.proofs.Running.{one_happened, none_happened, same_joint}
 use Rattle.fs_speaker.proofs.joint.Joint.step.Goals as goal
 

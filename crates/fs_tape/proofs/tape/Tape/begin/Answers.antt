@@ -1,10 +1,4 @@
-use Rattle.std.proofs.Common.{rules, arith, ◌≡◌, Ok, Err, []}
-use Rattle.fs_input.proofs.Fronts.{none_back, opens_not, opens_so}
-use Rattle.fs_input.specs.Opening.{IsFrontWithin, opened_answer}
-use Rattle.fs_tape.specs.Magic.{magic_field}
-use Rattle.fs_tape.specs.Tape.{TapeState}
-use Rattle.fs_tape.specs.declared.fault.TapeReason.TheVariants.{Cut}
-use Rattle.fs_tape.specs.declared.magic.Version.{Version}
+use Rattle.fs_tape.proofs.Words.{rules, arith, ◌≡◌, Ok, Err, [], none_back, opens_not, opens_so, IsFrontWithin, opened_answer, magic_field, TapeState, Cut, Version}
 use Rattle.fs_tape.proofs.tape.Tape.begin.Goals as goal
 
 pub returns-in-Err-clause-opens : goal.returns-in-Err-clause-opens

@@ -1,6 +1,4 @@
-use Rattle.std.proofs.Common.{◌<◌, ◌^◌, arith}
-use Rattle.fs_base.proofs.Lists.{each_insert}
-use Rattle.fs_unicast.specs.Unicast.{place_cmp}
+use Rattle.fs_unicast.proofs.Words.{◌<◌, ◌^◌, arith, each_insert, place_cmp}
 use Rattle.fs_unicast.proofs.unicast.Unicast.put_telling.Goals as goal
 
 pub invariant_of-self-2 : goal.invariant_of-self-2

@@ -1,7 +1,4 @@
-use Rattle.std.proofs.Common.{◌<◌, ◌^◌}
-use Rattle.std.specs.BTreeMap.{is_at}
-use Rattle.fs_base.proofs.Lists.{each_remove}
-use Rattle.fs_unicast.specs.Unicast.{place_cmp}
+use Rattle.fs_unicast.proofs.Words.{◌<◌, ◌^◌, is_at, each_remove, place_cmp}
 use Rattle.fs_unicast.proofs.unicast.Unicast.remove.Goals as goal
 
 pub invariant_of-self : goal.invariant_of-self
