@@ -291,7 +291,7 @@ ANSWERS = [
             "fs_pcapng Ng::begin read",
             "fs_pcapng Ng::next gives.read",
             "fs_mrt Dump::next gives.read",
-            "cmd_enforce Capture::begin read",
+            "cmd_enforce Capture::begin state.read",
             "cmd_enforce Capture::next gives.read",
         ],
     ),

@@ -11,6 +11,7 @@ change a line of this very function. Called by: names are read, and not types. S
 where the name before the dot tells of its type. *No program*: neither program makes the call or may lead to it.
 """
 
+import glob
 import os
 import re
 import sys
@@ -380,7 +381,7 @@ def tables():
                 if not seen:
                     seen = [way_to(crate, path, function, ways)]
                 rows.append((shown, path, clauses, ", ".join(f"`{n}`" for n in inside), ", ".join(seen)))
-                ensured[crate, shown] = with_fields(function) if trait is None else None
+                ensured[crate, shown] = with_fields(crate, function) if trait is None else None
         if not rows:
             continue
         out.append(f"### `{crate}`\n")
@@ -396,20 +397,33 @@ def tables():
     return "\n".join([*answers(ensured), "## The calls\n", *out])
 
 
-def with_fields(function):
-    """The clauses of a function, and of those that are a record of `fs_input` their fields, as `gives.again`."""
+def with_fields(crate, function):
+    """The clauses of a function, and of those that are a record their fields, as `gives.again`."""
     clauses = list(function["clauses"])
     for clause, record in function["records"].items():
-        clauses += [f"{clause}.{field}" for field in RECORDS.get(record, ())]
+        clauses += [f"{clause or 'result'}.{field}" for field in fields_of(crate, record)]
     return clauses
 
 
-def records(*path):
-    """The fields of each record of a text of definitions."""
-    found = {}
-    for name, inside in re.findall(r"^pub record (\w+)(.*?)(?=^\S|\Z)", read(*path), re.M | re.S):
-        found[name] = re.findall(r"^  pub (\w+) :", inside, re.M)
+def records():
+    """The fields of each record of the definitions, and of each word that stands for one, by crate and name."""
+    found, words = {}, {}
+    for path in sorted(glob.glob(os.path.join(ROOT, "crates", "*", "specs", "**", "*.antt"), recursive=True)):
+        crate, text = os.path.relpath(path, ROOT).split(os.sep)[1], read(path)
+        for name, inside in re.findall(r"^pub record (\w+)(.*?)(?=^\S|\Z)", text, re.M | re.S):
+            found[crate, name] = re.findall(r"^  pub (\w+) :", inside, re.M)
+        for name, body in re.findall(r"^abbrev pub (\w+) .*?^\1 [^=\n]*=\s+(\w+)", text, re.M | re.S):
+            words[crate, name] = body
+    for (crate, name), body in words.items():
+        places = [(crate, body)] if (crate, body) in {**found, **words} else [key for key in found if key[1] == body]
+        found.setdefault((crate, name), found.get(places[0], []) if len(places) == 1 else [])
     return found
+
+
+def fields_of(crate, name):
+    """The fields of the record that a clause of the crate names: its own, or the only one of that name."""
+    places = [(crate, name)] if (crate, name) in RECORDS else [key for key in RECORDS if key[1] == name]
+    return RECORDS[places[0]] if len(places) == 1 else []
 
 
 def promises():
@@ -457,7 +471,7 @@ def answers(ensured):
 
 
 ALIASES = aliases()
-RECORDS = records("crates", "fs_input", "specs", "NextRecord.antt")
+RECORDS = records()
 
 
 def main():

@@ -1,8 +1,7 @@
 -- A dump that is converted record by record: the texts that are written, in their parts, and what of all records they are.
 use Rattle.cmd_convert.proofs.Words.{◌≡◌, ℕ, Bool, Option, Result, Ok, Err, OnOk, subst, true, false, List, [], ◌∷◌, ◌++◌, length, refl, ap, sym, ◌∙◌, append_assoc, append-nil, ◌⊎◌, inr, ◌≤◌, arith, big_bytes, Config, Sent, Goes, Stops, DumpState, coming, said_from, change, message, Spoken, What, item_text_at, record_text, item_text, tape_text, Item, came_up, received, Timed, timed, Two, greeting, Life, Lives, has_width, with_life, asn_of, ended, is_taken, made_by, opening, text_at, items_from, made, timed_at, flat_map, Rose, End, goes_then, goes_stops, stops_more, goes_as, stops_as, DumpReason, Refusal, Outside, magic_of, Breaks}
-use Rattle.std.proofs.lemmas.Grind.{flat_map-append}
+use Rattle.std.proofs.lemmas.{Grind.{flat_map-append}, List.Folds.{flat_map-map}}
 use Rattle.fs_mrt.specs.declared.heard.What.TheVariants.{Change}
-use Rattle.std.proofs.lemmas.List.Folds.{flat_map-map}
 use Rattle.fs_base.specs.Parts.{with_part}
 
 -- a head and its payload

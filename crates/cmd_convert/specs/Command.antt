@@ -1,27 +1,12 @@
 -- What `convert` is given, and what it answers and writes (the order of work: configuration, dump).
 use Rattle.std.specs.Prelude.{ℕ, List, [], ◌≡◌, ◌≢◌, ◌⊎◌, Option, Some, None, Result, MatchResult}
-use Rattle.fs_base.specs.Happened.{Happened, FilesFailed, SinkFailed, Wrote}
-use Rattle.fs_base.specs.Language.{IsOctets}
-use Rattle.fs_base.specs.Parts.{with_part}
-use Rattle.fs_base.specs.declared.config.Config.{Config}
+use Rattle.fs_base.specs.{Happened.{Happened, FilesFailed, SinkFailed, Wrote}, Language.{IsOctets}, Parts.{with_part}, declared.config.Config.{Config}}
 use Rattle.fs_input.specs.Records.{End, done, limited, bad}
-use Rattle.fs_input.specs.declared.fault.Fault.{Fault}
-use Rattle.fs_input.specs.declared.fault.Fault.TheVariants.{Read, Limit, Bad}
 use Rattle.fs_line.specs.Output.{Goes, Partly}
-use Rattle.fs_mrt.specs.Dump.{spoken_from}
-use Rattle.fs_mrt.specs.Record.{Spoken}
-use Rattle.fs_mrt.specs.declared.fault.DumpReason.{DumpReason}
-use Rattle.fs_mrt.specs.declared.heard.Heard.{Heard}
-use Rattle.cmd_stages.specs.Load.{HoldsConfig, Names, config_stage}
-use Rattle.cmd_stages.specs.Refusal.{Answers, EndsEarly, HasReason, Stage, Found, Stopped, Verdict, or_stop, status_of, verdict_with}
-use Rattle.cmd_stages.specs.declared.refusal.Refusal.{Refusal}
-use Rattle.cmd_stages.specs.declared.refusal.Refusal.TheVariants.{Outside, Dump as DumpRefusal, Limit as AtLimit}
-use Rattle.fs_tape.specs.Laws.{tape_text}
-use Rattle.fs_tape.specs.Tape.{Timed}
-use Rattle.fs_tape.specs.declared.magic.Version.TheVariants.{Two}
-use Rattle.cmd_convert.specs.Laws.{GivesBack}
-use Rattle.cmd_convert.specs.Lives.{lives_of}
-use Rattle.cmd_convert.specs.Making.{MakingState, items_from, remade}
+use Rattle.fs_mrt.specs.{Dump.{spoken_from}, Record.{Spoken}, declared.{fault.DumpReason.{DumpReason}, heard.Heard.{Heard}}}
+use Rattle.cmd_stages.specs.{Load.{HoldsConfig, Names, config_stage}, Refusal.{Answers, EndsEarly, HasReason, Stage, Found, Stopped, Verdict, or_stop, status_of, verdict_with}, declared.refusal.Refusal.{Refusal, TheVariants.{Outside}}}
+use Rattle.fs_tape.specs.{Laws.{tape_text}, Tape.{Timed}, declared.magic.Version.TheVariants.{Two}}
+use Rattle.cmd_convert.specs.{Laws.{GivesBack}, Lives.{lives_of}, Making.{MakingState, items_from, remade}}
 
 -- the status at the end of a dump
 abbrev pub status_at : End DumpReason → ℕ
@@ -82,12 +67,6 @@ IsOfDump status = (status ≢ 4) × (status ≢ 5) × (status ≢ 8)
 -- a status at a record: of the dump, and memory wasn't wanting
 abbrev pub IsAtRecord : ℕ → Type 0
 IsAtRecord status = IsOfDump status × (status ≢ 3) × (status ≢ 6)
-
--- the refusal for a fault of a dump
-abbrev pub refused_by : Fault DumpReason → Refusal
-refused_by Read = Outside
-refused_by Limit = AtLimit
-refused_by (Bad reason place) = DumpRefusal
 
 -- a dump was opened of which this is left; or it couldn't be
 abbrev pub IsOpened : {T : Type 0} → Names → (name left : List ℕ) → Type 0 → Result T Refusal → Type 0

@@ -1,12 +1,9 @@
 -- A dump that was converted is read back as a tape.
 use Rattle.std.specs.Prelude.{ℕ, List, ◌≡◌, ◌↔◌, ◌<◌, length, Some}
-use Rattle.fs_base.specs.Language.{IsOctets}
-use Rattle.fs_base.specs.declared.config.Config.{Config}
+use Rattle.fs_base.specs.{Language.{IsOctets}, declared.config.Config.{Config}}
 use Rattle.fs_conf.specs.Config.{config_of}
 use Rattle.fs_input.specs.Records.{done}
-use Rattle.fs_tape.specs.Laws.{tape_text}
-use Rattle.fs_tape.specs.Tape.{Timed, tape_of}
-use Rattle.fs_tape.specs.declared.magic.Version.TheVariants.{Two}
+use Rattle.fs_tape.specs.{Laws.{tape_text}, Tape.{Timed, tape_of}, declared.magic.Version.TheVariants.{Two}}
 use Rattle.cmd_convert.specs.Making.{remade}
 
 -- a tape of the second version with these items gives them all where it lies below the limit, and nowhere else

@@ -1,18 +1,10 @@
 -- A dump as a tape of the second version: the items that its records make, one after the other.
-use Rattle.std.specs.Prelude.{ℕ, Bool, false, List, [], ◌∷◌, ◌++◌, Some, None, ◌==◌, ◌||◌, flat_map, map, if◌then◌else◌}
-use Rattle.std.specs.List.{slice_get}
-use Rattle.std.specs.Option.{option_map_or}
-use Rattle.fs_base.specs.Config.{peer_of}
-use Rattle.fs_base.specs.declared.config.Config.{Config}
+use Rattle.std.specs.{Prelude.{ℕ, Bool, false, List, [], ◌∷◌, ◌++◌, Some, None, ◌==◌, ◌||◌, flat_map, map, if◌then◌else◌}, List.{slice_get}, Option.{option_map_or}}
+use Rattle.fs_base.specs.{Config.{peer_of}, declared.config.Config.{Config}}
 use Rattle.fs_input.specs.Records.{End}
-use Rattle.fs_mrt.specs.Dump.{dump_of}
-use Rattle.fs_mrt.specs.Record.{Said, Spoken, change, message}
-use Rattle.fs_mrt.specs.declared.fault.DumpReason.{DumpReason}
-use Rattle.fs_tape.specs.Laws.{item_text_at}
-use Rattle.fs_tape.specs.Tape.{Item, Timed, came_up, received, timed, was_lost}
-use Rattle.fs_tape.specs.declared.magic.Version.TheVariants.{Two}
-use Rattle.cmd_convert.specs.Greeting.{greeting}
-use Rattle.cmd_convert.specs.Lives.{Life, Lives, has_width, no_lives, with_life}
+use Rattle.fs_mrt.specs.{Dump.{dump_of}, Record.{Said, Spoken, change, message}, declared.fault.DumpReason.{DumpReason}}
+use Rattle.fs_tape.specs.{Laws.{item_text_at}, Tape.{Item, Timed, came_up, received, timed, was_lost}, declared.magic.Version.TheVariants.{Two}}
+use Rattle.cmd_convert.specs.{Greeting.{greeting}, Lives.{Life, Lives, has_width, no_lives, with_life}}
 
 -- the AS of a configured peer
 abbrev pub asn_of : Config → ℕ → ℕ

@@ -1,12 +1,10 @@
 //! The command `convert`.
 
 ghost use Rattle.std.specs.Prelude.{◌≡◌, ◌≤◌, ◌⊎◌, [], None, IsTrue, IfOk, IfSome, MatchResult, length};
-ghost use Rattle.fs_base.specs.Files.{OnlySlot};
-ghost use Rattle.fs_base.specs.Happened.{happened};
-ghost use Rattle.fs_base.specs.Outside.{Rose};
+ghost use Rattle.fs_base.specs.{Files.{OnlySlot, one_opening}, Happened.{happened}, Outside.{Rose}, Sink.{Grew}};
 ghost use Rattle.fs_mrt.specs.Dump.{Grows, IsBegun, coming};
-ghost use Rattle.cmd_stages.specs.Refusal.{answered, status_of};
-ghost use Rattle.cmd_convert.specs.Command.{Ceases, Converts, IsAtRecord, IsOfDump, IsOpened, MakesAll, Yields, refused_by};
+ghost use Rattle.cmd_stages.specs.{Load.{OpensFront, config_then}, Refusal.{answered}};
+ghost use Rattle.cmd_convert.specs.Command.{Ceases, Converts, IsAtRecord, IsOfDump, IsOpened, MakesAll, Yields};
 
 use crate::making::Making;
 use cmd_stages::{Refusal, TAPE_SLOT, load_config, open};
@@ -44,6 +42,8 @@ pub fn convert<F: Files, S: Sink>(
     ensures sink_later { S.faults sink.old ≤ S.faults sink.new }
     ensures possible { IsOfDump (answered result) }
     ensures quiet { (answered result ≡ 3) ⊎ (answered result ≡ 6) → sink.new ≡ sink.old }
+    ensures opens { OpensFront (config_then 1 names.now.config.now names.now.dump.now)
+        (F.opened files.old) (F.opened files.new) (answered result) }
 
     ensures converts { IsTrue F.tells
         → Converts limit (F.holds files.old) names.now.config.now names.now.dump.now
@@ -60,7 +60,7 @@ pub fn convert<F: Files, S: Sink>(
 
 /// Opens the dump, up to its first record.
 fn open_dump<F: Files>(files: &mut F, name: &str, limit: u64) -> Result<Dump, Refusal>
-    ensures possible { IsOfDump (answered result) }
+    ensures possible { IsAtRecord (answered result) }
     ensures later { F.faults files.old ≤ F.faults files.new }
     ensures begun { IfOk result (IsBegun 1 limit []) }
     ensures within { IfOk result (λ dump. dump.place ≤ dump.limit) }
@@ -69,12 +69,15 @@ fn open_dump<F: Files>(files: &mut F, name: &str, limit: u64) -> Result<Dump, Re
     ensures opened { IsTrue F.tells
         → IsOpened (F.holds files.old) name.now (F.left files.new 1)
         (Rose (F.faults files.old) (F.faults files.new)) result }
+    ensures opens { Grew (F.opened files.old) (F.opened files.new) (one_opening 1 name.now) }
     ensures others { OnlySlot F.tells F.left F.holds 1 files.old files.new }
 {
     open(files, TAPE_SLOT, name)?;
     match Dump::begin(Counted::new(TAPE_SLOT, limit), files) {
         Ok(dump) => Ok(dump),
-        Err(fault) => Err(refusal_of(fault)),
+        Err(DumpFault::Read) => Err(Refusal::Outside),
+        Err(DumpFault::Limit) => Err(Refusal::Limit),
+        Err(DumpFault::Bad { .. }) => Err(Refusal::Dump),
     }
 }
 
@@ -91,6 +94,7 @@ fn convert_dump<F: Files, S: Sink>(
     requires within { dump.old.place ≤ dump.old.limit }
     ensures possible { IsAtRecord (answered result) }
     ensures files_later { F.faults files.old ≤ F.faults files.new }
+    ensures opened { F.opened files.new ≡ F.opened files.old }
     ensures sink_later { S.faults sink.old ≤ S.faults sink.new }
 
     ensures made { IsTrue F.tells
@@ -119,6 +123,7 @@ fn next_heard<F: Files>(
     ensures room { length buffer.new ≡ length buffer.old }
     ensures possible { IsAtRecord (answered result) }
     ensures later { F.faults files.old ≤ F.faults files.new }
+    ensures opened { F.opened files.new ≡ F.opened files.old }
     ensures holds { IsTrue F.tells → F.holds files.new ≡ F.holds files.old }
     ensures slot { dump.new.slot ≡ dump.old.slot }
     ensures limit { dump.new.limit ≡ dump.old.limit }
@@ -136,18 +141,8 @@ fn next_heard<F: Files>(
 {
     match dump.next(files, config, buffer) {
         Ok(found) => Ok(found),
-        Err(fault) => Err(refusal_of(fault)),
-    }
-}
-
-/// The refusal for a dump's fault.
-fn refusal_of(fault: DumpFault) -> Refusal
-    ensures result { result ≡ refused_by fault }
-    ensures possible { IsAtRecord (status_of result) }
-{
-    match fault {
-        DumpFault::Read => Refusal::Outside,
-        DumpFault::Limit => Refusal::Limit,
-        DumpFault::Bad { .. } => Refusal::Dump,
+        Err(DumpFault::Read) => Err(Refusal::Outside),
+        Err(DumpFault::Limit) => Err(Refusal::Limit),
+        Err(DumpFault::Bad { .. }) => Err(Refusal::Dump),
     }
 }

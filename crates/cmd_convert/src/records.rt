@@ -3,9 +3,7 @@
 ghost use Rattle.std.specs.Prelude.{◌≡◌, ◌≤◌, ◌∷◌, ◌++◌, length};
 ghost use Rattle.byteorder.specs.Endian.{big_bytes};
 ghost use Rattle.fs_line.specs.Output.{Sends};
-ghost use Rattle.fs_tape.specs.Laws.{record_text};
-ghost use Rattle.fs_tape.specs.Magic.{magic_of};
-ghost use Rattle.fs_tape.specs.declared.magic.Version.TheVariants.{Two};
+ghost use Rattle.fs_tape.specs.{Laws.{record_text}, Magic.{magic_of}, declared.magic.Version.TheVariants.{Two}};
 
 use byteorder::{BigEndian, ByteOrder};
 use fs_base::{Failed, Sink};

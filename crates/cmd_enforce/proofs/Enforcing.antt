@@ -1,9 +1,7 @@
 -- How the answer of `enforce` follows from those of its stages, and from what was judged at the packets' moments.
 use Rattle.cmd_enforce.proofs.Words.{◌≡◌, ◌≢◌, ◌⊎◌, inl, inr, ◌∙◌, ◌≤◌, ℕ, List, [], Option, Result, Ok, Err, refl, ap, sym, subst, IsErrAnd, Grew, GrewPart, Config, Grew-refl, part_whole, part_none, End, done, limited, bad, Rose, Goes, Partly, partly_flushed, goes_flush, goes_flush_part, Captured, Recorded, recorded, CaptureState, coming, CaptureReason, Held, Timed, Stage, Found, Stopped, answered, status_of, and_then, HasReason, Refusal, Memory, answered_err, answers_for, outside_one, rose_earlier, rose_later, accepted_with, ends_early, reason_then, IsOfPackets, always, status_at, capture_stage, AnswersAt, CameTo, EndsBefore, IsUnjudged, Judged, Judging, Outcome, WroteJudged, came_lines, judging, packets_of, verdict_at, Desked, Played, EnforcesSo, Unfinished, Names, config_stage, HasVersion, HaveNoMoments, IsWhole, tape_stage, accepted_stage, untimed, PlayerState, Stands}
-use Rattle.cmd_stages.specs.Writing.{Finishes}
-use Rattle.cmd_stages.proofs.Texts.{said_by, said_front}
-use Rattle.fs_tape.specs.declared.magic.Version.{Version}
-use Rattle.fs_tape.specs.declared.magic.Version.TheVariants.{One, Two}
+use Rattle.cmd_stages.{specs.Writing.{Finishes}, proofs.Texts.{said_by, said_front}}
+use Rattle.fs_tape.specs.declared.magic.Version.{Version, TheVariants.{One, Two}}
 
 -- of no packets there are no lines
 

@@ -1,12 +1,8 @@
 -- How the walk goes on from one matching rule to the next.
 use Rattle.cmd_enforce.proofs.Words.{◌≡◌, ◌+◌, ◌<◌, ◌≤◌, ℕ, zero, suc, List, [], ◌∷◌, ◌++◌, Bool, true, false, Option, Some, None, IfSome, Ok, Err, if◌then◌else◌, length, drop, get_or, refl, ap, sym, subst, ◌∙◌, arith, append_assoc, append-nil, map-append, length-map, StandsForLists, WalksOn, admitted_in, AreMatchesOf, Matching, behind, Walked, entry_of, entries, Listed, Held, first_from, goes_on, walk_from, walk_of, line_of, unread_line_of, AdmittedRules, admitted_rules, packet_text, rules_for, seen_of, text_by, HasRoom, StandsFor, WalksWith}
-use Rattle.fs_base.specs.declared.prefix.Family.{Family}
-use Rattle.fs_base.specs.declared.link.Link.{Link}
-use Rattle.fs_compile.specs.Index.{actions_of}
-use Rattle.fs_compile.specs.declared.compiled.Compiled.{Compiled}
-use Rattle.fs_compile.proofs.Walking.{walks_by_next_law}
-use Rattle.fs_packet.specs.Fields.{Viewed, unread_number}
-use Rattle.fs_packet.specs.declared.fields.Unread.{Unread}
+use Rattle.fs_base.specs.declared.{prefix.Family.{Family}, link.Link.{Link}}
+use Rattle.fs_compile.{specs.{Index.{actions_of}, declared.compiled.Compiled.{Compiled}}, proofs.Walking.{walks_by_next_law}}
+use Rattle.fs_packet.specs.{Fields.{Viewed, unread_number}, declared.fields.Unread.{Unread}}
 
 abbrev Walk : Type 0
 Walk = List (ℕ × List (List ℕ))

@@ -1,23 +1,14 @@
 -- A capture of either format: of the pcapng format where its first four octets are the type of a section header, and of
 -- the libpcap format else.
-use Rattle.std.specs.Prelude.{ℕ, List, [], Option, Some, None, Bool, Result, Ok, Err, ◌≡◌, ◌≤◌, ◌==◌, ◌&&◌, if◌then◌else◌, length, map, take, ⊤}
+use Rattle.std.specs.{Prelude.{ℕ, List, [], Option, Some, None, Bool, Result, Ok, Err, IfOk, ◌≡◌, ◌≤◌, ◌<◌, ◌^◌, ◌==◌, ◌&&◌, if◌then◌else◌, length, map, take, ⊤}, Result.{IsErrOf}}
 use Rattle.byteorder.specs.Endian.{big_number}
-use Rattle.fs_base.specs.Parts.{window}
-use Rattle.fs_pcap.specs.Capture.{Captured as Record, Recorded as Records, capture_of as pcap_of, packets_to_come as records_to_come}
-use Rattle.fs_pcap.specs.Head.{longest_record}
-use Rattle.fs_pcap.specs.declared.header.Heading.{Heading}
-use Rattle.fs_base.specs.declared.link.Link.{Link}
-use Rattle.fs_pcapng.specs.Block.{Packet as Block, Stands, section_header}
-use Rattle.fs_pcapng.specs.Pcapng.{packets_to_come as blocks_to_come, pcapng_of}
-use Rattle.fs_pcapng.specs.declared.fault.NgReason.{NgReason}
-use Rattle.fs_input.specs.NextRecord.{Grows as GrowsBy}
-use Rattle.fs_input.specs.Records.{End}
-use Rattle.fs_input.specs.declared.fault.Ended.{Ended}
-use Rattle.fs_input.specs.declared.fault.Fault.{Fault}
-use Rattle.cmd_enforce.specs.Answer.{end_as}
-use Rattle.cmd_enforce.specs.declared.caught.Caught.{Caught}
-use Rattle.cmd_enforce.specs.declared.fault.CaptureReason.{CaptureReason}
-use Rattle.cmd_enforce.specs.declared.fault.CaptureReason.TheVariants.{Pcap, Pcapng}
+use Rattle.fs_base.specs.{Files.{OnlySlot}, Outside.{Rose}, Parts.{window, with_part}}
+use Rattle.fs_base.specs.declared.Files as files
+use Rattle.fs_base.specs.declared.{counted.Counted.{Counted}, link.Link.{Link}}
+use Rattle.fs_pcap.specs.{Capture.{Captured as Record, Recorded as Records, capture_of as pcap_of, packets_to_come as records_to_come}, Head.{longest_record}, declared.header.Heading.{Heading}}
+use Rattle.fs_pcapng.specs.{Block.{Packet as Block, Stands, section_header}, Pcapng.{packets_to_come as blocks_to_come, pcapng_of}, declared.fault.NgReason.{NgReason}}
+use Rattle.fs_input.specs.{NextRecord.{GivesNext, Grows as GrowsBy}, Records.{End}, declared.fault.{Ended.{Ended}, Fault.{Fault, TheVariants.{Read}}}}
+use Rattle.cmd_enforce.specs.{Answer.{end_as}, declared.{caught.Caught.{Caught}, fault.CaptureReason.{CaptureReason, TheVariants.{Pcap, Pcapng}}}}
 
 -- A captured packet: the link type of its capture or interface, where it is one of the six that are read; its moment, in
 -- nanoseconds since the start of 1970, the greatest time of the packets up to and with it; and its captured octets.
@@ -79,6 +70,14 @@ pub record CaptureState : Type 0 where
   pub moment : ℕ
   pub context : Context
 
+-- it stands open in the slot of captures, and its packets are read into this buffer
+pub record IsRead (capture : CaptureState) (buffer : List ℕ) : Type 0 where
+  pub room : longest_record ≤ length buffer
+  pub slot : capture.slot ≡ 2
+  pub unended : capture.end ≡ None
+  pub within : capture.place ≤ capture.limit
+  pub fits : capture.limit < 2 ^ 64
+
 abbrev pub coming_by : (limit place moment : ℕ) → Context → List ℕ → List Captured × End CaptureReason
 coming_by limit place moment (records heading) left =
     let found = records_to_come heading limit place moment left in
@@ -102,3 +101,23 @@ abbrev pub Times : (old new : ℕ) → Result (Option Caught) (Fault CaptureReas
 Times old new (Ok (Some caught)) = (new ≡ caught.moment) × (old ≤ new)
 Times old new (Ok None) = ⊤
 Times old new (Err fault) = ⊤
+
+-- a capture is begun behind the octets that were counted in a slot
+pub record BeginsSo {F : Type 0} (of_files : files.Ghosts F) (old new : F) (counted : Counted) (result : Result CaptureState (Fault CaptureReason)) : Type 0 where
+  pub later : of_files.faults old ≤ of_files.faults new
+  pub read : IsErrOf result Read → Rose (of_files.faults old) (of_files.faults new)
+  pub slot : IfOk result (λ capture. capture.slot ≡ counted.slot)
+  pub limit : IfOk result (λ capture. capture.limit ≡ counted.limit)
+  pub end : IfOk result (λ capture. capture.end ≡ None)
+  pub moment : IfOk result (λ capture. capture.moment ≡ 0)
+  pub within : IfOk result (λ capture. capture.place ≤ capture.limit)
+  pub opened : of_files.opened new ≡ of_files.opened old
+  pub others : OnlySlot of_files.tells of_files.left of_files.holds counted.slot old new
+
+-- the next packet is given, of which the octets stand at the front of the buffer
+abbrev pub GivesPacket : {F : Type 0} → files.Ghosts F → (old new : F) → (before now : CaptureState) → List ℕ
+    → Result (Option Caught) (Fault CaptureReason) → Type 0
+GivesPacket of_files old new before now into result =
+    GivesNext of_files old new before.slot now.slot before.limit now.limit before.end now.end (now ≡ before)
+    (coming before (of_files.left old before.slot))
+    (λ caught. with_part (packet_from caught into) (coming now (of_files.left new before.slot))) result

@@ -1,17 +1,11 @@
 -- What `enforce` is given, and what it answers and writes (the order of work: configuration, tape, capture).
-use Rattle.std.specs.Prelude.{ℕ, List, [], ◌≡◌, ◌⊎◌, Option, Some}
+use Rattle.std.specs.Prelude.{ℕ, List, [], ◌≡◌, ◌⊎◌, ◌++◌, Option, Some}
 use Rattle.fs_input.specs.Records.{done}
-use Rattle.fs_base.specs.declared.config.Config.{Config}
-use Rattle.fs_tape.specs.Tape.{Timed}
-use Rattle.cmd_enforce.specs.Capture.{CaptureState, Recorded, capture_of, coming}
-use Rattle.cmd_stages.specs.Refusal.{Stage, Found, Stopped, and_then, status_of, EndsEarly}
-use Rattle.cmd_stages.specs.Load.{HoldsConfig, Names}
-use Rattle.fs_base.specs.Happened.{Happened, FilesFailed, SinkFailed, Wrote}
+use Rattle.fs_base.specs.{declared.config.Config.{Config}, Files.{one_opening}, Happened.{Happened, FilesFailed, SinkFailed, Wrote}}
+use Rattle.fs_tape.specs.{Tape.{Timed}, declared.magic.Version.TheVariants.{Two}}
+use Rattle.cmd_enforce.specs.{Capture.{CaptureState, Recorded, capture_of, coming}, Judge.{capture_stage, status_at, output_of}, Moments.{AnswersAt, HoldAt, WroteJudged, packets_of}}
+use Rattle.cmd_stages.specs.{Refusal.{Stage, Found, Stopped, and_then, status_of, EndsEarly}, Load.{HoldsConfig, Names, Openings}, Play.{HasVersion, HoldsTape, accepted_stage}}
 use Rattle.fs_rules.specs.Table.{Held}
-use Rattle.cmd_stages.specs.Play.{HasVersion, HoldsTape, accepted_stage}
-use Rattle.fs_tape.specs.declared.magic.Version.TheVariants.{Two}
-use Rattle.cmd_enforce.specs.Judge.{capture_stage, status_at, output_of}
-use Rattle.cmd_enforce.specs.Moments.{AnswersAt, HoldAt, WroteJudged, packets_of}
 
 pub record Inputs : Type 0 where
   pub config : Config
@@ -78,3 +72,12 @@ pub record Enforced (limit : ℕ) (holds : Names) (config tape capture : List �
   pub held : ℕ → Held
   pub leaves : HoldAt accepted items held (capture_of limit capture_octets).packets
   pub wrote : Wrote call (output_of held (capture_of limit capture_octets))
+
+-- What `enforce` opens: the configuration, the tape, the capture, and behind them the tape again, which one of the second
+-- version is; at 0 the first three at least.
+abbrev pub openings_of : (config tape capture : List ℕ) → Openings
+openings_of config tape capture = record {
+  files = one_opening 0 config ++ one_opening 1 tape ++ one_opening 2 capture ++ one_opening 1 tape;
+  judged = 1;
+  due = 3;
+}

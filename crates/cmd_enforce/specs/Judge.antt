@@ -1,29 +1,12 @@
 -- The lines of a capture's packets under the rules that are admitted, and what becomes of them.
 use Rattle.std.specs.Prelude.{ℕ, ◌+◌, List, [], ◌∷◌, ◌++◌, map, Option, Some, None, Result, Ok, Err, MatchResult, ◌≡◌, ◌≢◌, ◌⊎◌}
-use Rattle.fs_base.specs.declared.prefix.Family.{Family}
-use Rattle.fs_base.specs.declared.prefix.Family.TheVariants.{V4, V6}
+use Rattle.fs_base.specs.{declared.{prefix.Family.{Family, TheVariants.{V4, V6}}, link.Link.{Link}}, Parts.{with_part}}
 use Rattle.fs_line.specs.Line.{line_of, unread_line_of}
-use Rattle.fs_packet.specs.Fields.{Viewed, unread_number}
-use Rattle.fs_packet.specs.Reading.{view_of}
-use Rattle.fs_base.specs.declared.link.Link.{Link}
-use Rattle.fs_packet.specs.declared.fields.Unread.{Unread}
-use Rattle.fs_packet.specs.declared.fields.Unread.TheVariants.{Foreign}
-use Rattle.cmd_enforce.specs.Capture.{Captured, Recorded, capture_of, packet_from}
-use Rattle.fs_rules.specs.Table.{admitted, Held}
-use Rattle.fs_rules.specs.Lent.{Listed, listed}
-use Rattle.fs_rules.specs.Walk.{walk_of}
+use Rattle.fs_packet.specs.{Fields.{Viewed, unread_number}, Reading.{view_of}, declared.fields.Unread.{Unread, TheVariants.{Foreign}}}
+use Rattle.cmd_enforce.specs.{Capture.{Captured, Recorded, capture_of, packet_from}, declared.{fault.CaptureReason.{CaptureReason}, caught.Caught.{Caught}}}
+use Rattle.fs_rules.specs.{Table.{admitted, Held}, Lent.{Listed, listed}, Walk.{walk_of}}
 use Rattle.fs_input.specs.Records.{End, done, limited, bad}
-use Rattle.cmd_enforce.specs.declared.fault.CaptureReason.{CaptureReason}
-use Rattle.cmd_stages.specs.Refusal.{Stage, Found, and_then, or_stop, status_of}
-use Rattle.cmd_stages.specs.declared.refusal.Refusal.TheVariants.{Outside, Capture as CaptureRefusal, Limit as AtLimit}
-use Rattle.cmd_stages.specs.Load.{Names}
-use Rattle.cmd_stages.specs.Play.{EndsBy, IsOpenOrDone}
-use Rattle.cmd_stages.specs.Player.{PlayerState}
-use Rattle.cmd_stages.specs.declared.refusal.Refusal.{Refusal}
-use Rattle.fs_base.specs.Parts.{with_part}
-use Rattle.cmd_enforce.specs.declared.caught.Caught.{Caught}
-use Rattle.fs_input.specs.declared.fault.Fault.{Fault}
-use Rattle.fs_input.specs.declared.fault.Fault.TheVariants.{Read, Limit, Bad}
+use Rattle.cmd_stages.specs.{Refusal.{Stage, Found, and_then, or_stop, status_of}, declared.refusal.Refusal.{Refusal, TheVariants.{Outside}}, Load.{Names}, Play.{EndsBy, IsOpenOrDone}, Player.{PlayerState}}
 
 -- the admitted rules of each family in order
 pub record AdmittedRules : Type 0 where
@@ -94,12 +77,6 @@ IsOfPackets status = (status ≢ 3) × (status ≢ 8) × (status ≢ 10)
 abbrev pub EndsTape : {T : Type 0} → PlayerState → Result T Refusal → Type 0
 EndsTape player result =
     MatchResult result (λ _. IsOpenOrDone player.tape player.ahead) (λ refusal. status_of refusal ≡ 4 → EndsBy player.tape refusal)
-
--- the refusal for a fault of a capture
-abbrev pub refused_by : Fault CaptureReason → Refusal
-refused_by Read = Outside
-refused_by Limit = AtLimit
-refused_by (Bad reason place) = CaptureRefusal
 
 -- a packet was given, and these are the packets to come behind it; or the capture is done
 abbrev pub Yields : List Captured × End CaptureReason → List Captured × End CaptureReason → List ℕ → Option Caught → Type 0

@@ -1,22 +1,13 @@
 -- The lines of a capture's packets, each under the routes that a tape holds at its moment, and what becomes of them.
-use Rattle.std.specs.Prelude.{ℕ, List, [], ◌∷◌, ◌++◌, Option, Result, ◌≡◌, ◌≢◌, ◌⊎◌, MatchResult, length}
-use Rattle.std.specs.List.{AllByRecursion}
-use Rattle.fs_base.specs.Sink.{Grew}
-use Rattle.fs_base.specs.declared.config.Config.{Config}
+use Rattle.std.specs.{Prelude.{ℕ, List, [], ◌∷◌, ◌++◌, Option, Result, ◌≡◌, ◌≢◌, ◌⊎◌, MatchResult, length}, List.{AllByRecursion}}
+use Rattle.fs_base.specs.{Sink.{Grew}, declared.config.Config.{Config}}
 use Rattle.fs_input.specs.Records.{End, done}
-use Rattle.cmd_enforce.specs.Capture.{Captured, CaptureState, Recorded, coming, recorded}
-use Rattle.cmd_enforce.specs.declared.fault.CaptureReason.{CaptureReason}
+use Rattle.cmd_enforce.specs.{Capture.{Captured, CaptureState, Recorded, coming, recorded}, declared.fault.CaptureReason.{CaptureReason}, Judge.{capture_stage, lines_from, rules_by, status_at}}
 use Rattle.fs_rules.specs.Table.{Held}
 use Rattle.fs_tape.specs.Tape.{Timed}
-use Rattle.fs_desk.specs.Laws.{LeaveSame}
-use Rattle.fs_desk.specs.Leaves.{Leaves}
+use Rattle.fs_desk.specs.{Laws.{LeaveSame}, Leaves.{Leaves}}
 use Rattle.fs_line.specs.Output.{Goes, Partly}
-use Rattle.cmd_stages.specs.Play.{until}
-use Rattle.cmd_stages.specs.Load.{Names}
-use Rattle.cmd_stages.specs.Refusal.{Answers, Stage, Found, Stopped, Verdict, status_of, verdict_with}
-use Rattle.cmd_stages.specs.declared.refusal.Refusal.{Refusal}
-use Rattle.cmd_stages.specs.declared.refusal.Refusal.TheVariants.{Outside, Memory}
-use Rattle.cmd_enforce.specs.Judge.{capture_stage, lines_from, rules_by, status_at}
+use Rattle.cmd_stages.specs.{Play.{until}, Load.{Names}, Refusal.{Answers, Stage, Found, Stopped, Verdict, status_of, verdict_with}, declared.refusal.Refusal.{Refusal, TheVariants.{Outside, Memory}}}
 
 -- At the moment of each of these packets the items up to that moment leave these routes held.
 abbrev pub HoldAt : Config → List Timed → (ℕ → Held) → List Captured → Type 0

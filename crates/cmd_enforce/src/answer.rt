@@ -1,10 +1,9 @@
 //! The answers of both formats, as those of one capture.
 ghost use Rattle.std.specs.Prelude.{◌≡◌};
-ghost use Rattle.cmd_enforce.specs.Answer.{block_answer, fault_as, record_answer};
-ghost use Rattle.cmd_enforce.specs.declared.fault.CaptureReason.TheVariants.{Pcap, Pcapng};
+ghost use Rattle.cmd_enforce.specs.{Answer.{block_answer, fault_as, record_answer}, declared.fault.CaptureReason.TheVariants.{Pcap, Pcapng}};
 
 use crate::caught::Caught;
-use crate::fault::{CaptureFault, CaptureReason};
+use crate::fault::{Answer, CaptureFault, CaptureReason};
 use fs_base::Link;
 use fs_pcap::{CaptureFault as PcapFault, Caught as Record};
 use fs_pcapng::{NgCaught, NgFault};
@@ -41,7 +40,7 @@ pub(crate) fn block_fault(fault: NgFault) -> CaptureFault
 pub(crate) fn record_answer(
     link: Link,
     found: Result<Option<Record>, PcapFault>,
-) -> Result<Option<Caught>, CaptureFault>
+) -> Answer<Option<Caught>>
     ensures { result ≡ record_answer link found }
 {
     match found {
@@ -59,7 +58,7 @@ pub(crate) fn record_answer(
 pub(crate) fn block_answer(
     link: Option<Link>,
     found: Result<Option<NgCaught>, NgFault>,
-) -> Result<Option<Caught>, CaptureFault>
+) -> Answer<Option<Caught>>
     ensures { result ≡ block_answer link found }
 {
     match found {

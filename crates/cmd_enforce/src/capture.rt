@@ -1,18 +1,12 @@
 //! A capture, read packet by packet.
-ghost use Rattle.std.specs.Prelude.{◌≡◌, ◌≤◌, ◌++◌, None, IsTrue, IfOk, length};
-ghost use Rattle.std.specs.Result.{IsErrOf};
-ghost use Rattle.fs_base.specs.Files.{OnlySlot};
-ghost use Rattle.fs_base.specs.Outside.{Rose};
-ghost use Rattle.fs_base.specs.Parts.{with_part};
+ghost use Rattle.std.specs.Prelude.{◌≡◌, ◌≤◌, ◌++◌, None, IsTrue, length};
 ghost use Rattle.fs_pcap.specs.Head.{longest_record};
-ghost use Rattle.fs_input.specs.NextRecord.{GivesNext};
-ghost use Rattle.fs_input.specs.declared.fault.Fault.TheVariants.{Read};
 ghost use Rattle.fs_input.specs.Opening.{Begins};
-ghost use Rattle.cmd_enforce.specs.Capture.{Grows, Times, captured_by, captured_in, coming, is_section, packet_from};
+ghost use Rattle.cmd_enforce.specs.Capture.{BeginsSo, GivesPacket, Grows, Times, captured_by, captured_in, coming, is_section};
 
 use crate::answer::{block_answer, block_fault, record_answer, record_fault};
 use crate::caught::Caught;
-use crate::fault::CaptureFault;
+use crate::fault::{Answer, CaptureFault};
 use crate::reader::Reader;
 use byteorder::{BigEndian, ByteOrder};
 use fs_base::{Counted, Files, fill};
@@ -45,23 +39,12 @@ impl Capture {
     ///
     /// The first field of the header, or of the first block, that stands whole and is wrong; `Cut` where the capture
     /// ends within it; `Limit` where the limit is reached in it; `Read` where the files failed.
-    pub fn begin<F: Files>(mut counted: Counted, files: &mut F) -> Result<Capture, CaptureFault>
+    pub fn begin<F: Files>(mut counted: Counted, files: &mut F) -> Answer<Capture>
         requires start { counted.taken ≡ 0 }
-        ensures later { F.faults files.old ≤ F.faults files.new }
-        ensures read { IsErrOf result Read → Rose (F.faults files.old) (F.faults files.new) }
-        ensures slot { IfOk result (λ capture. capture.slot ≡ counted.slot) }
-        ensures limit { IfOk result (λ capture. capture.limit ≡ counted.limit) }
-        ensures end { IfOk result (λ capture. capture.end ≡ None) }
-        ensures moment { IfOk result (λ capture. capture.moment ≡ 0) }
-        ensures within { IfOk result (λ capture. capture.place ≤ capture.limit) }
-
+        ensures state { BeginsSo F.Files files.old files.new counted result }
         ensures begins { IsTrue F.tells
-            → Begins
-            (captured_in counted.limit (counted.back ++ F.left files.old counted.slot))
-            (λ capture. coming capture (F.left files.new counted.slot))
-            result }
-        ensures opened { F.opened files.new ≡ F.opened files.old }
-        ensures others { OnlySlot F.tells F.left F.holds counted.slot files.old files.new }
+            → Begins (captured_in counted.limit (counted.back ++ F.left files.old counted.slot))
+            (λ capture. coming capture (F.left files.new counted.slot)) result }
     {
         let mut front = [0u8; 4];
         let Ok(count) = fill(&mut counted, files, &mut front) else {
@@ -81,19 +64,9 @@ impl Capture {
     /// record or block; `Limit` where the limit is reached and no field before it is wrong; `Read` where the files
     /// failed.
     #[inline(always)]
-    pub fn next<F: Files>(
-        &mut self,
-        files: &mut F,
-        into: &mut [u8],
-    ) -> Result<Option<Caught>, CaptureFault>
+    pub fn next<F: Files>(&mut self, files: &mut F, into: &mut [u8]) -> Answer<Option<Caught>>
         requires { longest_record ≤ length into.old }
-        ensures gives { GivesNext F.Files files.old files.new self.old.slot self.new.slot self.old.limit self.new.limit
-            self.old.end self.new.end (self.new ≡ self.old)
-            (coming self.old (F.left files.old self.old.slot))
-            (λ caught. with_part
-            (packet_from caught into.new)
-            (coming self.new (F.left files.new self.old.slot)))
-            result }
+        ensures gives { GivesPacket F.Files files.old files.new self.old self.new into.new result }
         ensures grows { self.old.end ≡ None → Grows self.old.place self.new.place self.new.limit result }
         ensures times { self.old.end ≡ None → Times self.old.moment self.new.moment result }
     {
@@ -118,23 +91,12 @@ fn is_section(front: &[u8]) -> bool
 }
 
 /// Begins to read a capture of the pcapng format or of the libpcap format. Octets of its front were put back.
-fn open<F: Files>(section: bool, counted: Counted, files: &mut F) -> Result<Capture, CaptureFault>
+fn open<F: Files>(section: bool, counted: Counted, files: &mut F) -> Answer<Capture>
     requires start { counted.taken ≡ 0 }
-    ensures later { F.faults files.old ≤ F.faults files.new }
-    ensures read { IsErrOf result Read → Rose (F.faults files.old) (F.faults files.new) }
-    ensures slot { IfOk result (λ capture. capture.slot ≡ counted.slot) }
-    ensures limit { IfOk result (λ capture. capture.limit ≡ counted.limit) }
-    ensures end { IfOk result (λ capture. capture.end ≡ None) }
-    ensures moment { IfOk result (λ capture. capture.moment ≡ 0) }
-    ensures within { IfOk result (λ capture. capture.place ≤ capture.limit) }
-
+    ensures state { BeginsSo F.Files files.old files.new counted result }
     ensures begins { IsTrue F.tells
-        → Begins
-        (captured_by section counted.limit (counted.back ++ F.left files.old counted.slot))
-        (λ capture. coming capture (F.left files.new counted.slot))
-        result }
-    ensures opened { F.opened files.new ≡ F.opened files.old }
-    ensures others { OnlySlot F.tells F.left F.holds counted.slot files.old files.new }
+        → Begins (captured_by section counted.limit (counted.back ++ F.left files.old counted.slot))
+        (λ capture. coming capture (F.left files.new counted.slot)) result }
 {
     if section {
         match Ng::begin(counted, files) {

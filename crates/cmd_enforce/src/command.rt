@@ -2,9 +2,8 @@
 
 ghost use Rattle.std.specs.Prelude.{◌≡◌, ◌≢◌, ◌≤◌, IsTrue};
 ghost use Rattle.fs_base.specs.Happened.{happened};
-ghost use Rattle.cmd_enforce.specs.Command.{Enforces, Wants};
-ghost use Rattle.cmd_stages.specs.Play.{HasVersion};
-ghost use Rattle.cmd_stages.specs.Refusal.{answered};
+ghost use Rattle.cmd_enforce.specs.Command.{Enforces, Wants, openings_of};
+ghost use Rattle.cmd_stages.specs.{Load.{OpensFront}, Play.{HasVersion}, Refusal.{answered}};
 ghost use Rattle.fs_tape.specs.declared.magic.Version.TheVariants.{Two};
 
 use crate::judge::judge_capture;
@@ -40,6 +39,8 @@ pub fn enforce<F: Files, S: Sink>(
     ensures files_later { F.faults files.old ≤ F.faults files.new }
     ensures sink_later { S.faults sink.old ≤ S.faults sink.new }
     ensures possible { (answered result ≢ 8) × (answered result ≢ 10) }
+    ensures opens { OpensFront (openings_of names.now.config.now names.now.tape.now names.now.capture.now)
+        (F.opened files.old) (F.opened files.new) (answered result) }
     ensures quiet { answered result ≡ 3 → sink.new ≡ sink.old }
     ensures still { IsTrue F.tells → answered result ≡ 4 → sink.new ≡ sink.old }
     ensures unwritten { IsTrue F.tells → answered result ≡ 6

@@ -15,3 +15,6 @@ pub enum CaptureReason {
 
 /// Why a capture gives no further packet. The place of a wrong field is as its format has it.
 pub type CaptureFault = Fault<CaptureReason>;
+
+/// What a call answers that reads a capture.
+pub type Answer<T> = Result<T, CaptureFault>;

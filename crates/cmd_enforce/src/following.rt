@@ -1,17 +1,11 @@
 //! The tape, as it is followed along a capture.
 
 ghost use Rattle.std.specs.Prelude.{◌≡◌, ◌≤◌, List, IsTrue, IfOk, MatchResult};
-ghost use Rattle.fs_base.specs.Files.{OnlySlot};
-ghost use Rattle.fs_base.specs.Outside.{Rose};
+ghost use Rattle.fs_base.specs.{Files.{OnlySlot}, Outside.{Rose}};
 ghost use Rattle.fs_desk.specs.Leaves.{Leaves};
-ghost use Rattle.cmd_stages.specs.Play.{EndsBy, IsOpenOrDone, until};
-ghost use Rattle.cmd_stages.specs.Player.{IsUnplayed, Stands};
-ghost use Rattle.cmd_stages.specs.Refusal.{IsOfTape, answered};
+ghost use Rattle.cmd_stages.specs.{Play.{EndsBy, IsOpenOrDone, until}, Player.{IsUnplayed, Stands}, Refusal.{IsOfTape, answered}};
 ghost use Rattle.fs_tape.specs.Tape.{Timed};
-ghost use Rattle.cmd_enforce.specs.Judge.{admitted_rules};
-ghost use Rattle.fs_compile.specs.Matcher.{admitted_in};
-ghost use Rattle.fs_compile.specs.Mending.{AreOwn};
-ghost use Rattle.cmd_enforce.specs.Matcher.{StandsFor};
+ghost use Rattle.cmd_enforce.specs.Matcher.{IsCompiled};
 
 use cmd_stages::{Player, Refusal};
 use fs_base::{Files, Memory};
@@ -29,9 +23,7 @@ pub(crate) struct Following<'a> {
 impl<'a> Following<'a> {
     pub(crate) fn new(alloc: Global, player: Player<'a>) -> Result<Following<'a>, Memory>
         ensures same { IfOk result (λ following. following.player ≡ player.entry) }
-        ensures stands { IfOk result (λ following.
-            StandsFor (admitted_rules player.entry.desk.held) following.rules) }
-        ensures own { IfOk result (λ _. AreOwn (admitted_in player.entry.desk.held)) }
+        ensures compiled { IfOk result (λ following. IsCompiled player.entry.desk.held following.rules) }
     {
         let rules = Compiled::build(alloc, player.table())?;
         Ok(Following {
@@ -48,9 +40,9 @@ impl<'a> Following<'a> {
     /// `Outside` where the files failed, `Tape` and `Limit` where the tape ends so, `Memory` where the machine refused
     /// memory.
     pub(crate) fn follow<F: Files>(&mut self, files: &mut F, moment: u64) -> Result<(), Refusal>
-        requires stands { StandsFor (admitted_rules self.old.player.desk.held) self.old.rules }
-        requires own { AreOwn (admitted_in self.old.player.desk.held) }
+        requires { IsCompiled self.old.player.desk.held self.old.rules }
         ensures later { F.faults files.old ≤ F.faults files.new }
+        ensures opened { F.opened files.new ≡ F.opened files.old }
         ensures slot { self.new.player.tape.slot ≡ self.old.player.tape.slot }
         ensures config { self.new.player.desk.config ≡ self.old.player.desk.config }
         ensures possible { IsOfTape (answered result) }
@@ -58,8 +50,7 @@ impl<'a> Following<'a> {
             → MatchResult result
             (λ _. IsOpenOrDone self.new.player.tape self.new.player.ahead)
             (EndsBy self.new.player.tape) }
-        ensures stands { IfOk result (λ _. StandsFor (admitted_rules self.new.player.desk.held) self.new.rules) }
-        ensures own { IfOk result (λ _. AreOwn (admitted_in self.new.player.desk.held)) }
+        ensures compiled { IfOk result (λ _. IsCompiled self.new.player.desk.held self.new.rules) }
 
         ensures played { IsTrue F.tells
             → (items : List Timed)

@@ -1,19 +1,11 @@
 //! The packets of a capture, each judged by the rules that the tape admits at its moment.
 
-ghost use Rattle.std.specs.Prelude.{◌≡◌, ◌≤◌, ◌<◌, ◌^◌, ◌⊎◌, List, None, true, IsTrue, IfOk, IfSome, MatchResult, length};
-ghost use Rattle.std.specs.Option.{is_some};
+ghost use Rattle.std.specs.{Prelude.{◌≡◌, ◌≤◌, ◌<◌, ◌^◌, ◌⊎◌, List, None, true, IsTrue, IfOk, IfSome, MatchResult, length}, Option.{is_some}};
 ghost use Rattle.fs_base.specs.Outside.{Rose};
-ghost use Rattle.cmd_enforce.specs.Capture.{coming, recorded};
+ghost use Rattle.cmd_enforce.specs.{Capture.{IsRead, coming, recorded}, Judge.{admitted_rules, EndsTape, found_behind, IsOfCapture, IsOfPackets}, Matcher.{IsCompiled, StandsFor}, Moments.{AnswersAt, BreaksOff, Follows, Judged, Judging, WroteJudged, judging, outcome, progress}};
 ghost use Rattle.fs_pcap.specs.Head.{longest_record};
-ghost use Rattle.cmd_stages.specs.Play.{IsOpenOrDone};
-ghost use Rattle.cmd_stages.specs.Player.{Stands, due_item};
-ghost use Rattle.cmd_stages.specs.Refusal.{Found, answered};
+ghost use Rattle.cmd_stages.specs.{Play.{IsOpenOrDone}, Player.{Stands, due_item}, Refusal.{Found, answered}};
 ghost use Rattle.fs_tape.specs.Tape.{Timed};
-ghost use Rattle.cmd_enforce.specs.Judge.{admitted_rules, EndsTape, found_behind, IsOfCapture, IsOfPackets};
-ghost use Rattle.fs_compile.specs.Matcher.{admitted_in};
-ghost use Rattle.fs_compile.specs.Mending.{AreOwn};
-ghost use Rattle.cmd_enforce.specs.Matcher.{StandsFor};
-ghost use Rattle.cmd_enforce.specs.Moments.{AnswersAt, BreaksOff, Follows, Judged, Judging, WroteJudged, judging, outcome, progress};
 
 use crate::capture::Capture;
 use crate::caught::Caught;
@@ -53,6 +45,7 @@ pub(crate) fn judge_capture<F: Files, S: Sink>(
     ensures files_later { F.faults files.old ≤ F.faults files.new }
     ensures sink_later { S.faults sink.old ≤ S.faults sink.new }
     ensures possible { IsOfPackets (answered result) }
+    ensures opened { F.opened files.new ≡ F.opened files.old }
     ensures unwritten { player.entry.ahead ≡ None
         → answered result ≡ 6
         → (sink.new ≡ sink.old) × (files.new ≡ files.old) × (capture.new ≡ capture.old) }
@@ -100,19 +93,15 @@ fn judge_packets<F: Files, S: Sink>(
     lines: &mut Lines,
     sink: &mut S,
 ) -> Result<(), Refusal>
-    requires room { longest_record ≤ length buffer.old }
-    requires slot { capture.old.slot ≡ 2 }
-    requires open { capture.old.end ≡ None }
-    requires within { capture.old.place ≤ capture.old.limit }
-    requires fits { capture.old.limit < 2 ^ 64 }
+    requires reads { IsRead capture.old buffer.old }
     requires tape { following.old.player.tape.slot ≡ 1 }
     requires ends { IsOpenOrDone following.old.player.tape following.old.player.ahead }
-    requires stands { StandsFor (admitted_rules following.old.player.desk.held) following.old.rules }
-    requires own { AreOwn (admitted_in following.old.player.desk.held) }
+    requires compiled { IsCompiled following.old.player.desk.held following.old.rules }
     requires first { lines.old.number ≡ 0 }
     ensures files_later { F.faults files.old ≤ F.faults files.new }
     ensures sink_later { S.faults sink.old ≤ S.faults sink.new }
     ensures possible { IsOfPackets (answered result) }
+    ensures opened { F.opened files.new ≡ F.opened files.old }
     ensures ends { EndsTape following.new.player result }
     ensures early { following.old.player.ahead ≡ None
         → answered result ≡ 6
@@ -151,16 +140,13 @@ fn judge_on<F: Files, S: Sink>(
     lines: &mut Lines,
     sink: &mut S,
 ) -> Result<Option<Caught>, Refusal>
-    requires room { longest_record ≤ length buffer.old }
-    requires slot { capture.old.slot ≡ 2 }
-    requires open { capture.old.end ≡ None }
-    requires within { capture.old.place ≤ capture.old.limit }
-    requires fits { capture.old.limit < 2 ^ 64 }
+    requires reads { IsRead capture.old buffer.old }
     requires stands { StandsFor (admitted_rules following.now.player.desk.held) following.now.rules }
     requires number { lines.old.number ≤ capture.old.place }
     ensures files_later { F.faults files.old ≤ F.faults files.new }
     ensures sink_later { S.faults sink.old ≤ S.faults sink.new }
     ensures possible { IsOfCapture (answered result) }
+    ensures opened { F.opened files.new ≡ F.opened files.old }
     ensures slot { capture.new.slot ≡ capture.old.slot }
     ensures limit { capture.new.limit ≡ capture.old.limit }
     ensures early { answered result ≡ 6

@@ -2,11 +2,9 @@
 
 ghost use Rattle.std.specs.Prelude.{◌≡◌, ℕ, List};
 ghost use Rattle.fs_base.specs.declared.config.Config.{Config};
-ghost use Rattle.cmd_enforce.specs.Capture.{Recorded};
+ghost use Rattle.cmd_enforce.specs.{Capture.{Recorded}, Judge.{output_of}, Moments.{HoldAt, LeaveSameAt}};
 ghost use Rattle.fs_rules.specs.Table.{Held};
 ghost use Rattle.fs_tape.specs.Tape.{Timed};
-ghost use Rattle.cmd_enforce.specs.Judge.{output_of};
-ghost use Rattle.cmd_enforce.specs.Moments.{HoldAt, LeaveSameAt};
 
 use fs_desk::same_routes;
 

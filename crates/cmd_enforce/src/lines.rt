@@ -1,12 +1,10 @@
 //! The lines of packets.
 
 ghost use Rattle.std.specs.Prelude.{◌≡◌, ◌≤◌, ◌<◌, ◌+◌, ◌^◌, [], IfOk, vec_capacity};
-ghost use Rattle.cmd_enforce.specs.Judge.{AdmittedRules, packet_text, rules_for, seen_of};
-ghost use Rattle.cmd_enforce.specs.Matcher.{HasRoom, IsSound, StandsFor};
+ghost use Rattle.cmd_enforce.specs.{Judge.{AdmittedRules, packet_text, rules_for, seen_of}, Matcher.{IsReady, StandsFor}};
 ghost use Rattle.cmd_stages.specs.Writing.{Finishes};
 ghost use Rattle.fs_base.specs.Outside.{Rose};
-ghost use Rattle.fs_line.specs.Line.{line_of};
-ghost use Rattle.fs_line.specs.Output.{Sends};
+ghost use Rattle.fs_line.specs.{Line.{line_of}, Output.{Sends}};
 ghost use Rattle.fs_rules.specs.Walk.{walk_of};
 
 use crate::walk::walk_packet;
@@ -59,8 +57,7 @@ pub(crate) fn judge_packet<'r, S: Sink>(
     lines: &mut Lines,
     sink: &mut S,
 ) -> Result<(), Failed>
-    requires sound { IsSound rules.now }
-    requires room { HasRoom rules.now (vec_capacity walked.old) }
+    requires ready { IsReady rules.now (vec_capacity walked.old) }
     requires fits { lines.old.number + 1 < 2 ^ 64 }
     ensures room { vec_capacity walked.new ≡ vec_capacity walked.old }
     ensures number { lines.new.number ≡ lines.old.number + 1 }
@@ -100,8 +97,7 @@ fn write_walk<'r, S: Sink>(
     lines: &mut Lines,
     sink: &mut S,
 ) -> Result<(), Failed>
-    requires sound { IsSound rules.now }
-    requires room { HasRoom rules.now (vec_capacity walked.old) }
+    requires ready { IsReady rules.now (vec_capacity walked.old) }
     ensures room { vec_capacity walked.new ≡ vec_capacity walked.old }
     ensures number { lines.new.number ≡ lines.old.number }
     ensures later { S.faults sink.old ≤ S.faults sink.new }

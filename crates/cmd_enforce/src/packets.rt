@@ -1,13 +1,10 @@
 //! The packets that are judged: their capture opened, and read packet by packet.
 
 ghost use Rattle.std.specs.Prelude.{◌≡◌, ◌≤◌, ◌<◌, ◌^◌, None, IsTrue, IfOk, IfSome, MatchResult, length};
-ghost use Rattle.fs_base.specs.Files.{OnlySlot};
-ghost use Rattle.fs_base.specs.Outside.{Rose};
-ghost use Rattle.cmd_enforce.specs.Capture.{coming};
+ghost use Rattle.fs_base.specs.{Files.{OnlySlot, one_opening}, Sink.{Grew}, Outside.{Rose}};
+ghost use Rattle.cmd_enforce.specs.{Capture.{coming}, Judge.{capture_stage, Ceases, IsAtPacket, Yields}, Moments.{EndsBefore, IsCaptureOpened}};
 ghost use Rattle.fs_pcap.specs.Head.{longest_record};
-ghost use Rattle.cmd_enforce.specs.Judge.{capture_stage, Ceases, IsAtPacket, refused_by, Yields};
-ghost use Rattle.cmd_enforce.specs.Moments.{EndsBefore, IsCaptureOpened};
-ghost use Rattle.cmd_stages.specs.Refusal.{answered, status_of};
+ghost use Rattle.cmd_stages.specs.Refusal.{answered};
 
 use crate::capture::Capture;
 use crate::caught::Caught;
@@ -38,12 +35,15 @@ pub(crate) fn open_capture<F: Files>(
         (IsCaptureOpened limit (F.holds files.old) name.now (F.left files.new 2))
         (EndsBefore (capture_stage limit (F.holds files.old) name.now)
         (Rose (F.faults files.old) (F.faults files.new))) }
+    ensures opens { Grew (F.opened files.old) (F.opened files.new) (one_opening 2 name.now) }
     ensures others { OnlySlot F.tells F.left F.holds 2 files.old files.new }
 {
     open(files, CAPTURE_SLOT, name)?;
     match Capture::begin(Counted::new(CAPTURE_SLOT, limit), files) {
         Ok(capture) => Ok(capture),
-        Err(fault) => Err(refusal_of(fault)),
+        Err(CaptureFault::Read) => Err(Refusal::Outside),
+        Err(CaptureFault::Limit) => Err(Refusal::Limit),
+        Err(CaptureFault::Bad { .. }) => Err(Refusal::Capture),
     }
 }
 
@@ -62,6 +62,7 @@ pub(crate) fn next_packet<F: Files>(
     requires open { capture.old.end ≡ None }
     ensures possible { IsAtPacket (answered result) }
     ensures later { F.faults files.old ≤ F.faults files.new }
+    ensures opened { F.opened files.new ≡ F.opened files.old }
     ensures slot { capture.new.slot ≡ capture.old.slot }
     ensures limit { capture.new.limit ≡ capture.old.limit }
     ensures times { IfOk result (λ found. IfSome found (λ caught.
@@ -82,18 +83,8 @@ pub(crate) fn next_packet<F: Files>(
 {
     match capture.next(files, buffer) {
         Ok(found) => Ok(found),
-        Err(fault) => Err(refusal_of(fault)),
-    }
-}
-
-/// The refusal for a capture's fault.
-fn refusal_of(fault: CaptureFault) -> Refusal
-    ensures result { result ≡ refused_by fault }
-    ensures possible { IsAtPacket (status_of result) }
-{
-    match fault {
-        CaptureFault::Read => Refusal::Outside,
-        CaptureFault::Limit => Refusal::Limit,
-        CaptureFault::Bad { .. } => Refusal::Capture,
+        Err(CaptureFault::Read) => Err(Refusal::Outside),
+        Err(CaptureFault::Limit) => Err(Refusal::Limit),
+        Err(CaptureFault::Bad { .. }) => Err(Refusal::Capture),
     }
 }

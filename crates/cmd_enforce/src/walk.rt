@@ -1,14 +1,11 @@
 //! The rules that a packet walks.
 
-ghost use Rattle.std.specs.Prelude.{◌≡◌, ◌≤◌, ◌<◌, ◌+◌, List, length, vec_capacity};
-ghost use Rattle.std.specs.List.{list_any};
+ghost use Rattle.std.specs.{Prelude.{◌≡◌, ◌≤◌, ◌<◌, ◌+◌, List, length, vec_capacity}, List.{list_any}};
 ghost use Rattle.fs_actions.specs.Community.{is_discard};
 ghost use Rattle.fs_compile.specs.Reach.{reaching};
-ghost use Rattle.cmd_enforce.specs.Judge.{AdmittedRules, rules_for};
-ghost use Rattle.cmd_enforce.specs.Matcher.{HasRoom, IsSound, StandsFor, WalksWith};
+ghost use Rattle.cmd_enforce.specs.{Judge.{AdmittedRules, rules_for}, Matcher.{IsReady, StandsFor, WalksWith}};
 ghost use Rattle.fs_line.specs.Walked.{actions_walked, entries};
-ghost use Rattle.fs_rules.specs.Lent.{Listed};
-ghost use Rattle.fs_rules.specs.Walk.{walk_of};
+ghost use Rattle.fs_rules.specs.{Lent.{Listed}, Walk.{walk_of}};
 
 use fs_base::Steps;
 use fs_compile::Compiled;
@@ -21,8 +18,7 @@ use std::sync::ledger::{Blank, Ledger};
 /// Whether some rule that the packet walks drops it. The rules walked stand in `walked` afterwards, which has room for
 /// all of a family, so that no memory is taken.
 pub fn drops<'r>(rules: &'r Compiled, view: &View<'_>, walked: &mut Vec<Walked<'r>>) -> bool
-    requires sound { IsSound rules.now }
-    requires room { HasRoom rules.now (vec_capacity walked.old) }
+    requires { IsReady rules.now (vec_capacity walked.old) }
     ensures room { vec_capacity walked.new ≡ vec_capacity walked.old }
     ensures drops { (admitted : AdmittedRules)
         → StandsFor admitted rules.now
@@ -35,8 +31,7 @@ pub fn drops<'r>(rules: &'r Compiled, view: &View<'_>, walked: &mut Vec<Walked<'
 /// Puts the rules of its family that the packet walks into `walked`, in place of what stands there.
 #[inline(always)]
 pub(crate) fn walk_packet<'r>(rules: &'r Compiled, view: &View<'_>, walked: &mut Vec<Walked<'r>>)
-    requires sound { IsSound rules.now }
-    requires room { HasRoom rules.now (vec_capacity walked.old) }
+    requires { IsReady rules.now (vec_capacity walked.old) }
     ensures room { vec_capacity walked.new ≡ vec_capacity walked.old }
     ensures walk { (admitted : AdmittedRules)
         → StandsFor admitted rules.now
@@ -55,8 +50,7 @@ fn walk_family<'r, L: Ledger>(
     requires name { blank.name ≡ L.name }
     requires parts { blank.parts ≡ L.parts }
     requires some { 0 < L.parts }
-    requires sound { IsSound rules.now }
-    requires room { HasRoom rules.now (vec_capacity walked.old) }
+    requires ready { IsReady rules.now (vec_capacity walked.old) }
     ensures room { vec_capacity walked.new ≡ vec_capacity walked.old }
     ensures walk { (admitted : AdmittedRules)
         → StandsFor admitted rules.now

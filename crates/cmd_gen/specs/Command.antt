@@ -1,21 +1,12 @@
 -- What `gen` writes and answers: the counts of the admitted rules and of the lines, over the generator's tape and packets.
-use Rattle.std.specs.Prelude.{◌≡◌, ◌⊎◌, ℕ, List, ◌++◌, [], Bool, false, not, if◌then◌else◌, Option, Result, Ok, Err, codes, length}
-use Rattle.std.specs.List.{count_by, list_any}
+use Rattle.std.specs.{Prelude.{◌≡◌, ◌⊎◌, ℕ, List, ◌++◌, [], Bool, false, not, if◌then◌else◌, Option, Result, Ok, Err, codes, length}, List.{count_by, list_any}}
 use Rattle.fs_actions.specs.Community.{is_discard}
-use Rattle.fs_base.specs.Happened.{Happened, SinkFailed, Wrote}
-use Rattle.fs_base.specs.Sink.{Grew}
-use Rattle.fs_base.specs.declared.prefix.Family.TheVariants.{V4}
+use Rattle.fs_base.specs.{Happened.{Happened, SinkFailed, Wrote}, Sink.{Grew}, declared.{prefix.Family.TheVariants.{V4}, link.Link.TheVariants.{Raw}}}
 use Rattle.fs_desk.specs.Leaves.{Leaves}
-use Rattle.cmd_gen.specs.Configuration.{three_peers}
-use Rattle.cmd_gen.specs.Generator.{packets_of_seed, tape_of_seed}
-use Rattle.fs_line.specs.Line.{numbered}
-use Rattle.fs_line.specs.Walked.{actions_walked}
-use Rattle.fs_packet.specs.Fields.{Viewed}
-use Rattle.fs_packet.specs.Reading.{view_of}
-use Rattle.fs_packet.specs.declared.fields.Unread.{Unread}
-use Rattle.fs_base.specs.declared.link.Link.TheVariants.{Raw}
-use Rattle.fs_rules.specs.Table.{admitted, Held}
-use Rattle.fs_rules.specs.Walk.{walk_of}
+use Rattle.cmd_gen.specs.{Configuration.{three_peers}, Generator.{packets_of_seed, tape_of_seed}}
+use Rattle.fs_line.specs.{Line.{numbered}, Walked.{actions_walked}}
+use Rattle.fs_packet.specs.{Fields.{Viewed}, Reading.{view_of}, declared.fields.Unread.{Unread}}
+use Rattle.fs_rules.specs.{Table.{admitted, Held}, Walk.{walk_of}}
 use Rattle.cmd_enforce.specs.Judge.{AdmittedRules, admitted_rules, rules_for}
 use Rattle.cmd_stages.specs.Refusal.{Verdict, Answers}
 

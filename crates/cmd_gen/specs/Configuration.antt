@@ -1,8 +1,6 @@
 -- The configuration that the generator's tape is played under.
 use Rattle.std.specs.Prelude.{ℕ, ◌+◌, [], ◌∷◌, true, false, None}
-use Rattle.fs_base.specs.declared.config.Address.TheVariants.{V4}
-use Rattle.fs_base.specs.declared.config.Config.{Config}
-use Rattle.fs_base.specs.declared.config.Peer.{Peer}
+use Rattle.fs_base.specs.declared.config.{Address.TheVariants.{V4}, Config.{Config}, Peer.{Peer}}
 
 -- a peer at 198.51.100.0 and its number
 abbrev pub peer_at : (number asn : ℕ) → Peer

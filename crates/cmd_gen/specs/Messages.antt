@@ -2,8 +2,7 @@
 use Rattle.std.specs.Prelude.{ℕ, ◌+◌, List, [], ◌∷◌, ◌++◌, length}
 use Rattle.byteorder.specs.Endian.{big_bytes}
 use Rattle.fs_message.specs.Write.{message_text}
-use Rattle.cmd_gen.specs.declared.message.Message.{Message}
-use Rattle.cmd_gen.specs.declared.message.Message.TheVariants.{Wide, Net, Rule, Withdrawal}
+use Rattle.cmd_gen.specs.declared.message.Message.{Message, TheVariants.{Wide, Net, Rule, Withdrawal}}
 
 -- the AS of a peer, and its address, which is its identifier too
 abbrev pub asn_of : ℕ → ℕ

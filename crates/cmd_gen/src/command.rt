@@ -1,17 +1,11 @@
 //! The command `gen`.
 
 ghost use Rattle.std.specs.Prelude.{◌≡◌, ◌++◌, ◌⊎◌, List, IfOk, IsSome, OnOk, vec_capacity};
-ghost use Rattle.fs_base.specs.Config.{peer_of};
-ghost use Rattle.fs_base.specs.Outside.{Rose};
-ghost use Rattle.fs_base.specs.declared.config.Config.{Config};
-ghost use Rattle.cmd_enforce.specs.Judge.{AdmittedRules};
-ghost use Rattle.cmd_enforce.specs.Matcher.{HasRoom, IsSound, StandsFor};
-ghost use Rattle.cmd_gen.specs.Command.{GeneratesSo, dropped_of, gen_line, gen_text, passed_of};
+ghost use Rattle.fs_base.specs.{Config.{peer_of}, Outside.{Rose}, declared.config.Config.{Config}};
+ghost use Rattle.cmd_enforce.specs.{Judge.{AdmittedRules}, Matcher.{HasRoom, IsSound, StandsFor}};
+ghost use Rattle.cmd_gen.specs.{Command.{GeneratesSo, dropped_of, gen_line, gen_text, passed_of}, Configuration.{three_peers}, Draws.{behind_pairs}, Generator.{opening, packets_of_seed, steps, tape_of_seed}};
 ghost use Rattle.cmd_stages.specs.Refusal.{IsLate, answered};
 ghost use Rattle.fs_desk.specs.Desk.{Played};
-ghost use Rattle.cmd_gen.specs.Configuration.{three_peers};
-ghost use Rattle.cmd_gen.specs.Draws.{behind_pairs};
-ghost use Rattle.cmd_gen.specs.Generator.{opening, packets_of_seed, steps, tape_of_seed};
 ghost use Rattle.fs_tape.specs.Tape.{Item};
 
 use crate::configuration::three_peers;
@@ -22,9 +16,8 @@ use cmd_stages::{Refusal, write_made};
 use fs_base::{Config, Family, Memory, Sink};
 use fs_compile::Compiled;
 use fs_desk::Desk;
-use fs_line::{Walked, append, append_decimal};
+use fs_line::{Walked, append, append_numbered};
 use fs_rules::Table;
-use itoa::Integer;
 use std::alloc::Global;
 
 /// Plays the generator's tape, counts what becomes of its packets, so many of each, and writes the counts. Neither the
@@ -54,9 +47,9 @@ fn play_generated<'a>(
     count: u32,
 ) -> Result<Desk<'a>, Memory>
     requires config { config.now ≡ three_peers }
-    requires seed { draws.old ≡ count }
+    requires seed { draws.old.state ≡ count }
     ensures played { IfOk result (Played three_peers (tape_of_seed count)) }
-    ensures draws { OnOk result (draws.new ≡ behind_pairs count count) }
+    ensures draws { OnOk result (draws.new.state ≡ behind_pairs count count) }
 {
     let mut desk = Desk::new(alloc, config)?;
     let mut replies = Vec::new(alloc);
@@ -88,8 +81,8 @@ fn play_steps(
     count: u32,
     replies: &mut Vec<u8>,
 ) -> Result<(), Memory>
-    requires seed { draws.old ≡ count }
-    ensures draws { OnOk result (draws.new ≡ behind_pairs count count) }
+    requires seed { draws.old.state ≡ count }
+    ensures draws { OnOk result (draws.new.state ≡ behind_pairs count count) }
     ensures played { OnOk result ((config : Config)
         → (items : List Item)
         → Played config items desk.old
@@ -110,7 +103,7 @@ fn gen_text(
     draws: &mut Draws,
     count: u32,
 ) -> Result<Vec<u8>, Memory>
-    requires seed { draws.old ≡ behind_pairs count count }
+    requires seed { draws.old.state ≡ behind_pairs count count }
     ensures { IfOk result (λ text. text.items ≡ gen_text count table.now) }
 {
     let rules = Compiled::build(alloc, table)?;
@@ -128,7 +121,7 @@ fn count_packets<'r>(
 ) -> Tally
     requires sound { IsSound rules.now }
     requires room { HasRoom rules.now (vec_capacity walked.old) }
-    requires seed { draws.old ≡ behind_pairs count count }
+    requires seed { draws.old.state ≡ behind_pairs count count }
     ensures passed { (admitted : AdmittedRules)
         → StandsFor admitted rules.now
         → result.passed ≡ passed_of admitted (packets_of_seed count) }
@@ -158,12 +151,4 @@ fn gen_line(alloc: Global, count: u32, rules: usize, tally: Tally) -> Result<Vec
     append_numbered(b" discard ", tally.dropped, &mut text)?;
     append(b"\n", &mut text)?;
     Ok(text)
-}
-
-/// Appends a word, and a number directly after it.
-fn append_numbered<N: Integer>(word: &[u8], number: N, text: &mut Vec<u8>) -> Result<(), Memory>
-    ensures { OnOk result (text.new.items ≡ text.old.items ++ (word.now ++ N.text number)) }
-{
-    append(word, text)?;
-    append_decimal(number, text)
 }

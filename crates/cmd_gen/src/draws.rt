@@ -4,7 +4,6 @@ ghost use Rattle.std.specs.Prelude.{◌≡◌};
 ghost use Rattle.cmd_gen.specs.Draws.{behind_pair, drawn, next_state, pair_of};
 
 use crate::pair::Pair;
-use std::marker::Model;
 
 /// The multiplier of the draws.
 const FACTOR: u64 = 6364136223846793005;
@@ -15,29 +14,21 @@ const SUMMAND: u64 = 1442695040888963407;
 /// A source of numbers: a state of 64 bits, of whose next states the high 32 bits are drawn.
 #[derive(Drop)]
 pub struct Draws {
-    state: u64,
-}
-
-impl Model for Draws {
-    ghost use Rattle.std.specs.Prelude.{ℕ};
-
-    ghost Value = { ℕ };
-
-    ghost view = { λ draws. draws.state };
+    pub state: u64,
 }
 
 impl Draws {
     /// A source whose state is the seed.
     pub fn new(seed: u64) -> Draws
-        ensures { result ≡ seed }
+        ensures { result.state ≡ seed }
     {
         Draws { state: seed }
     }
 
     /// The next two numbers.
     pub fn pair(&mut self) -> Pair
-        ensures pair { result ≡ pair_of self.old }
-        ensures state { self.new ≡ behind_pair self.old }
+        ensures pair { result ≡ pair_of self.old.state }
+        ensures state { self.new.state ≡ behind_pair self.old.state }
     {
         let first = self.draw();
         let second = self.draw();
@@ -46,8 +37,8 @@ impl Draws {
 
     /// The next number.
     fn draw(&mut self) -> u32
-        ensures number { result ≡ drawn self.new }
-        ensures state { self.new ≡ next_state self.old }
+        ensures number { result ≡ drawn self.new.state }
+        ensures state { self.new.state ≡ next_state self.old.state }
     {
         self.state = self.state.wrapping_mul(FACTOR).wrapping_add(SUMMAND);
         (self.state >> 32) as u32

@@ -1,8 +1,7 @@
 //! What two numbers choose: a peer and its UPDATE, or a packet.
 
 ghost use Rattle.std.specs.Prelude.{◌≡◌, ◌⊎◌};
-ghost use Rattle.cmd_gen.specs.Messages.{octets_of};
-ghost use Rattle.cmd_gen.specs.Generator.{host_of, packet_of, peer_of, port_of, update_of, x_of, y_of};
+ghost use Rattle.cmd_gen.specs.{Messages.{octets_of}, Generator.{packet_of, peer_of, port_of, update_of, x_of, y_of}};
 
 use crate::message::{Message, announce_net, announce_rule, announce_wide, withdraw_net};
 
@@ -40,7 +39,7 @@ impl Pair {
         ensures { result ≡ packet_of self }
     {
         let [high, low] = self.port().to_be_bytes();
-        let (x, y, host) = (self.x(), self.y(), self.host());
+        let (x, y, host) = (self.x(), self.y(), (self.first % 256) as u8);
         [
             0x45, 0, 0, 28, 0, 0, 0, 0, 64, 17, 0, 0, // 28 octets, time to live, protocol
             203, 0, 113, 1, // source
@@ -61,13 +60,6 @@ impl Pair {
         ensures { result ≡ y_of self }
     {
         (self.second / 16 % 16) as u8
-    }
-
-    /// The fourth octet of a packet's destination.
-    fn host(self) -> u8
-        ensures { result ≡ host_of self }
-    {
-        (self.first % 256) as u8
     }
 
     /// The destination port.

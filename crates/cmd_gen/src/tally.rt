@@ -1,8 +1,7 @@
 //! What becomes of packets, counted.
 
 ghost use Rattle.std.specs.Prelude.{◌≡◌, ◌<◌, ◌+◌, ◌-◌, ◌^◌, vec_capacity};
-ghost use Rattle.cmd_enforce.specs.Judge.{AdmittedRules};
-ghost use Rattle.cmd_enforce.specs.Matcher.{HasRoom, IsSound, StandsFor};
+ghost use Rattle.cmd_enforce.specs.{Judge.{AdmittedRules}, Matcher.{HasRoom, IsSound, StandsFor}};
 ghost use Rattle.cmd_gen.specs.Command.{is_dropped, is_passed, one_if};
 ghost use Rattle.fs_base.specs.declared.link.Link.TheVariants.{Raw};
 ghost use Rattle.fs_packet.specs.Reading.{view_of};

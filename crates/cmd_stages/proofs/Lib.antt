@@ -2,5 +2,6 @@ mod Words
 pub mod LookingAhead
 pub mod Playing
 pub mod Stages
+pub mod Openings
 pub mod Sendable
 pub mod Texts

@@ -1,16 +1,9 @@
 -- A player that holds one item ahead.
-use Rattle.cmd_stages.proofs.Words.{◌≡◌, inl, inr, ◌≤◌, ◌<◌, ◌-◌, ℕ, suc, List, [], ◌∷◌, ◌++◌, Bool, true, false, Option, Some, None, refl, ap, sym, ◌∙◌, subst, append_assoc, append-nil, arith, filter, nat_le, if◌then◌else◌, IfSome, each_append, each_weaker, filter-append, filter_all, filter_none, OnlySlot, Rose, with_part, End, done, limited, bad, Config, IsItem, Item, TapeState, Timed, coming, item_from, items_to_come, timed, version_of, TapeReason, Version, One, Two, Desked, Played, Plays, Leaves, Covers, Noted, Refusal, Names, Stage, Found, Stopped, HasReason, Gives, HasVersion, HaveNoMoments, IsOpened, played_to, tape_stage, until, untimed, IsReady, IsUnplayed, PlayerState, Stands, due_item, items_ahead, to_play}
-use Rattle.std.specs.Prelude.{option_map, Result, Ok}
-use Rattle.std.specs.Option.{is_some}
-use Rattle.std.specs.List.{AllByRecursion}
-use Rattle.std.proofs.lemmas.Bool.{le-leb, leb-false, leb-true, lt-leb}
-use Rattle.fs_tape.specs.Laws.{AreFrom}
-use Rattle.fs_tape.specs.declared.item.TapeItem.{TapeItem}
-use Rattle.fs_tape.proofs.Rising.{moments_rise}
+use Rattle.cmd_stages.proofs.{Words.{◌≡◌, inl, inr, ◌≤◌, ◌<◌, ◌-◌, ℕ, suc, List, [], ◌∷◌, ◌++◌, Bool, true, false, Option, Some, None, refl, ap, sym, ◌∙◌, subst, append_assoc, append-nil, arith, filter, nat_le, if◌then◌else◌, IfSome, each_append, each_weaker, filter-append, filter_all, filter_none, OnlySlot, Rose, with_part, End, done, limited, bad, Config, IsItem, Item, TapeState, Timed, coming, item_from, items_to_come, timed, version_of, TapeReason, Version, One, Two, Desked, Played, Plays, Leaves, Covers, Noted, Refusal, Names, Stage, Found, Stopped, HasReason, Gives, HasVersion, HaveNoMoments, IsOpened, played_to, tape_stage, until, untimed, IsReady, IsUnplayed, PlayerState, Stands, due_item, items_ahead, to_play, rose_earlier}, Playing.{untimed_more}}
+use Rattle.std.{specs.{Prelude.{option_map, Result, Ok}, Option.{is_some}, List.{AllByRecursion}}, proofs.lemmas.Bool.{le-leb, leb-false, leb-true, lt-leb}}
+use Rattle.fs_tape.{specs.{Laws.{AreFrom}, declared.item.TapeItem.{TapeItem}}, proofs.Rising.{moments_rise}}
 use Rattle.fs_desk.proofs.Leaves.{played_leaves}
 use Rattle.fs_rules.specs.Table.{Held}
-use Rattle.cmd_stages.proofs.Playing.{untimed_more}
-use Rattle.cmd_stages.proofs.Stages.{rose_earlier}
 
 -- what the reader gave is held ahead
 ahead_of : (found : Option TapeItem) (before now : List Timed × End TapeReason) (moment : ℕ) (into : List ℕ)

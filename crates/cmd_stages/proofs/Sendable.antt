@@ -3,14 +3,8 @@ use Rattle.std.proofs.Common.{if◌then◌else◌}
 use Rattle.cmd_stages.proofs.Words.{◌≡◌, ℕ, List, Bool, true, false, Option, Some, None, IsTrue, refl, subst, codes, option_and_then, Config}
 use Rattle.toml.specs.Data.{Members, get_member}
 use Rattle.fs_base.specs.declared.config.Peer.{Peer}
-use Rattle.fs_speaker.specs.Announcer.{CanSend}
-use Rattle.fs_speaker.specs.Sending.{is_sending, sender_of}
-use Rattle.fs_speaker.specs.declared.Sending.{Sending}
-use Rattle.fs_conf.specs.Address.{ipv4_of}
-use Rattle.fs_conf.specs.Config.{kept_if, written}
-use Rattle.fs_conf.specs.Document.{document_of}
-use Rattle.fs_conf.specs.Fields.{keys_among}
-use Rattle.fs_conf.specs.Rules.{as_path_in, file_keys, rules_in, rules_of, sendable, sending_of_document, sending_of_members}
+use Rattle.fs_speaker.specs.{Announcer.{CanSend}, Sending.{is_sending, sender_of}, declared.Sending.{Sending}}
+use Rattle.fs_conf.specs.{Address.{ipv4_of}, Config.{kept_if, written}, Document.{document_of}, Fields.{keys_among}, Rules.{as_path_in, file_keys, rules_in, rules_of, sendable, sending_of_document, sending_of_members}}
 
 then_some : {A B : Type 0} (o : Option A) (f : A → Option B) (b : B) → option_and_then f o ≡ Some b → (a : A) × (f a ≡ Some b)
 then_some (Some a) f b e = (a, e)

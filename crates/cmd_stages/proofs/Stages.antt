@@ -1,7 +1,6 @@
 -- How the answer of a run follows from those of its stages.
-use Rattle.cmd_stages.proofs.Words.{◌≡◌, ◌⊎◌, inl, inr, ◌≤◌, arith, ◌∙◌, ℕ, List, [], Option, Result, Ok, Err, take, refl, ap, sym, subst, Rose, Config, Grew-refl, part_none, Names, config_stage, tape_stage, accepted_stage, Verdict, answered, Answers, EndsEarly, Stage, Found, and_then, status_of, HasReason, Finishes, Refusal, Outside, Memory}
-use Rattle.std.specs.Result.{IsErrAnd, MatchResult}
-use Rattle.std.proofs.lemmas.Grind.{common_steps}
+use Rattle.cmd_stages.proofs.Words.{◌≡◌, ◌⊎◌, inl, inr, ◌≤◌, arith, ◌∙◌, ℕ, List, [], Option, Result, Ok, Err, take, refl, ap, sym, subst, Rose, Config, Grew-refl, part_none, Names, config_stage, tape_stage, accepted_stage, Verdict, answered, Answers, EndsEarly, Stage, Found, and_then, status_of, HasReason, Finishes, Refusal, Outside, Memory, rose_earlier}
+use Rattle.std.{specs.Result.{IsErrAnd, MatchResult}, proofs.lemmas.Grind.{common_steps}}
 
 -- a stage that ends the run ends it for all that would follow
 pub reason_then : {A B : Type 0} (stage : Stage A) (next : A → Stage B) (failed : Type 0) (refusal : Refusal)
@@ -59,9 +58,6 @@ match_err P Q (Err e) h f = f e h
 -- a count that rose in a part rose in the whole
 pub rose_later : (before mid now : ℕ) → Rose before mid → mid ≤ now → Rose before now
 rose_later before mid now r l = omega (arith, r, l)
-
-pub rose_earlier : (before mid now : ℕ) → before ≤ mid → Rose mid now → Rose before now
-rose_earlier before mid now l r = omega (arith, l, r)
 
 pub either_rose : (before mid now : ℕ) (other : Type 0) → before ≤ mid → Rose mid now ⊎ other → Rose before now ⊎ other
 either_rose before mid now other l (inl r) = inl (rose_earlier before mid now l r)

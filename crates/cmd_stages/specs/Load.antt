@@ -1,13 +1,9 @@
 -- What the files tell, and the stages of the configuration and the rules file.
-use Rattle.std.specs.Prelude.{ℕ, List, Option, Some, ◌≡◌, ◌≢◌, ◌⊎◌, ◌<◌, ◌++◌, nat_le, length, if◌then◌else◌}
-use Rattle.fs_base.specs.Files.{Opened, one_opening}
-use Rattle.fs_base.specs.Sink.{Grew}
-use Rattle.fs_base.specs.declared.config.Config.{Config}
-use Rattle.fs_conf.specs.Config.{config_of}
-use Rattle.fs_conf.specs.Rules.{rules_of}
+use Rattle.std.specs.Prelude.{ℕ, List, Option, Some, ◌≡◌, ◌<◌, ◌≤◌, ◌++◌, nat_le, length, take, if◌then◌else◌}
+use Rattle.fs_base.specs.{Files.{Opened, one_opening}, Sink.{Grew}, declared.config.Config.{Config}}
+use Rattle.fs_conf.specs.{Config.{config_of}, Rules.{rules_of}}
 use Rattle.fs_speaker.specs.declared.Sending.{Sending}
-use Rattle.cmd_stages.specs.declared.refusal.Refusal.TheVariants.{Outside, Rejected, Limit}
-use Rattle.cmd_stages.specs.Refusal.{Stage, Found, Stopped, and_then, or_stop}
+use Rattle.cmd_stages.specs.{declared.refusal.Refusal.TheVariants.{Outside, Rejected, Limit}, Refusal.{Stage, Found, Stopped, and_then, or_stop}}
 
 -- what each name holds
 abbrev pub Names : Type 0
@@ -40,9 +36,25 @@ sending_stage limit holds config rules =
     and_then (rules_stage accepted limit holds rules) (λ sending.
     Found (accepted, sending)))
 
--- The configuration was opened, in slot 0, and then this other file, in slot 1, and none else. At 3 it was the
--- configuration alone, and at 0 both.
-abbrev pub OpensBoth : (config other : List ℕ) → (before now : Option (List Opened)) → ℕ → Type 0
-OpensBoth config other before now answer =
-    ((answer ≢ 0) × Grew before now (one_opening 0 config))
-    ⊎ ((answer ≢ 3) × Grew before now (one_opening 0 config ++ one_opening 1 other))
+-- The names that a command opens, in this order, each in its slot: how many of the first can be refused for what they say,
+-- and how many are due where it ends with 0.
+pub record Openings : Type 0 where
+  pub files : List Opened
+  pub judged : ℕ
+  pub due : ℕ
+
+-- What was opened is a front of these: the first at least, at 3 none behind those that can be refused, at 0 those due.
+pub record OpensFront (openings : Openings) (before now : Option (List Opened)) (answer : ℕ) : Type 0 where
+  pub count : ℕ
+  pub front : Grew before now (take count openings.files)
+  pub some : 1 ≤ count
+  pub few : answer ≡ 3 → count ≤ openings.judged
+  pub all : answer ≡ 0 → openings.due ≤ count
+
+-- the configuration, in slot 0, and then another file, in slot 1
+abbrev pub config_then : (judged : ℕ) (config other : List ℕ) → Openings
+config_then judged config other = record { files = one_opening 0 config ++ one_opening 1 other; judged = judged; due = 2 }
+
+-- the configuration alone
+abbrev pub config_alone : List ℕ → Openings
+config_alone config = record { files = one_opening 0 config; judged = 1; due = 1 }

@@ -1,17 +1,10 @@
 -- A tape that is played up to moments, by a player that holds one item ahead.
-use Rattle.std.specs.Prelude.{ℕ, List, [], ◌≡◌, ◌≤◌, ◌++◌, ◌⊎◌, Option, Some, None, IfSome, if◌then◌else◌, nat_le}
-use Rattle.std.specs.List.{AllByRecursion}
-use Rattle.fs_base.specs.Parts.{with_part}
+use Rattle.std.specs.{Prelude.{ℕ, List, [], ◌≡◌, ◌≤◌, ◌++◌, ◌⊎◌, Option, Some, None, IfSome, if◌then◌else◌, nat_le}, List.{AllByRecursion}}
+use Rattle.fs_base.specs.{Parts.{with_part}, declared.config.Config.{Config}}
 use Rattle.fs_input.specs.Records.{End, done}
-use Rattle.fs_base.specs.declared.config.Config.{Config}
-use Rattle.fs_tape.specs.Tape.{IsItem, TapeState, Timed, coming, item_from, timed}
-use Rattle.fs_tape.specs.declared.fault.TapeReason.{TapeReason}
-use Rattle.fs_tape.specs.declared.item.TapeItem.{TapeItem}
-use Rattle.fs_tape.specs.declared.magic.Version.TheVariants.{Two}
+use Rattle.fs_tape.specs.{Tape.{IsItem, TapeState, Timed, coming, item_from, timed}, declared.{fault.TapeReason.{TapeReason}, item.TapeItem.{TapeItem}, magic.Version.TheVariants.{Two}}}
 use Rattle.fs_desk.specs.Desk.{Desked, Played}
-use Rattle.cmd_stages.specs.Play.{untimed}
-use Rattle.cmd_stages.specs.declared.refusal.Refusal.{Refusal}
-use Rattle.cmd_stages.specs.declared.refusal.Refusal.TheVariants.{Outside, Memory}
+use Rattle.cmd_stages.specs.{Play.{untimed}, declared.refusal.Refusal.{Refusal, TheVariants.{Outside, Memory}}}
 
 -- the tape, the item that was read ahead, if the tape isn't done, the buffer at whose front its octets stand, and the desk
 pub record PlayerState : Type 0 where

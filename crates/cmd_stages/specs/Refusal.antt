@@ -1,8 +1,7 @@
 -- Why a run ends, and what it answers then. The order of work: each stage gives what the next one
 -- needs, or ends the run with a refusal.
 use Rattle.std.specs.Prelude.{ℕ, Option, Some, None, Result, MatchResult, ◌≡◌, ◌⊎◌, ◌≢◌, List, [], Ok, Err}
-use Rattle.cmd_stages.specs.declared.refusal.Refusal.{Refusal}
-use Rattle.cmd_stages.specs.declared.refusal.Refusal.TheVariants.{Outside, Rejected, Tape, Capture, Dump, Memory, Limit, Session}
+use Rattle.cmd_stages.specs.declared.refusal.Refusal.{Refusal, TheVariants.{Outside, Rejected, Tape, Capture, Dump, Memory, Limit, Session}}
 use Rattle.fs_base.specs.Sink.{Grew, GrewPart}
 
 pub data Stage (A : Type 0) : Type 0 where

@@ -1,9 +1,7 @@
 -- What becomes of a text that is written: in one piece, or the rest of one that a buffer kept back.
-use Rattle.std.specs.Prelude.{◌≡◌, ◌⊎◌, ℕ, List, [], Option, Result, MatchResult}
-use Rattle.std.specs.Result.{IsErrAnd}
+use Rattle.std.specs.{Prelude.{◌≡◌, ◌⊎◌, ℕ, List, [], Option, Result, MatchResult}, Result.{IsErrAnd}}
 use Rattle.fs_base.specs.Sink.{Grew, GrewPart}
-use Rattle.cmd_stages.specs.declared.refusal.Refusal.{Refusal}
-use Rattle.cmd_stages.specs.declared.refusal.Refusal.TheVariants.{Outside, Memory}
+use Rattle.cmd_stages.specs.declared.refusal.Refusal.{Refusal, TheVariants.{Outside, Memory}}
 
 -- why a text isn't written: memory was wanting, before any of it was; or the sink failed, behind a front of it
 abbrev pub Fails : List ℕ → Type 0 → Option (List ℕ) → Option (List ℕ) → Refusal → Type 0

@@ -1,17 +1,10 @@
 //! Playing a tape.
 
-ghost use Rattle.std.specs.Prelude.{◌≡◌, ◌≤◌, ◌<◌, None, Some, length};
-ghost use Rattle.std.specs.Prelude.{IsOk, IsTrue, IfOk, IfSome, OnOk, MatchResult};
-ghost use Rattle.fs_base.specs.Files.{OnlySlot, one_opening};
-ghost use Rattle.fs_base.specs.Outside.{Rose};
-ghost use Rattle.fs_base.specs.Sink.{Grew};
-ghost use Rattle.fs_base.specs.declared.config.Config.{Config};
+ghost use Rattle.std.specs.Prelude.{◌≡◌, ◌≤◌, ◌<◌, None, Some, length, IsOk, IsTrue, IfOk, IfSome, OnOk, MatchResult};
+ghost use Rattle.fs_base.specs.{Files.{OnlySlot, one_opening}, Outside.{Rose}, Sink.{Grew}, declared.config.Config.{Config}};
 ghost use Rattle.fs_input.specs.declared.fault.Ended.TheVariants.{Done};
-ghost use Rattle.fs_tape.specs.Header.{IsTimed, longest_payload};
-ghost use Rattle.fs_tape.specs.Tape.{IsBegun, IsItem, coming, item_from};
-ghost use Rattle.cmd_stages.specs.Refusal.{HasReason, IsOfTape, answered, status_of};
-ghost use Rattle.cmd_stages.specs.Play.{EndsBy, IsOpenOrDone};
-ghost use Rattle.cmd_stages.specs.Play.{tape_stage, played_to, IsOpened, IsWhole, Gives, PlaysOn, refused_by};
+ghost use Rattle.fs_tape.specs.{Header.{IsTimed, longest_payload}, Tape.{IsBegun, IsItem, coming, item_from}};
+ghost use Rattle.cmd_stages.specs.{Refusal.{HasReason, IsOfTape, answered, status_of}, Play.{EndsBy, IsOpenOrDone, tape_stage, played_to, IsOpened, IsWhole, Gives, PlaysOn, refused_by}};
 ghost use Rattle.fs_desk.specs.Desk.{Notes, Plays};
 
 use crate::load::{TAPE_SLOT, open};

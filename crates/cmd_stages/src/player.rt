@@ -33,20 +33,13 @@ impl<'a> Model for Player<'a> {
 }
 
 impl<'a> Player<'a> {
-    ghost use Rattle.std.specs.Option.{is_some};
-    ghost use Rattle.std.specs.Prelude.{ℕ, ◌≡◌, ◌≤◌, ◌<◌, [], false, List, None, Some, IfOk, IfSome, IsOk, IsTrue, MatchResult, OnOk};
-    ghost use Rattle.fs_base.specs.Files.{OnlySlot, one_opening};
-    ghost use Rattle.fs_base.specs.Outside.{Rose};
-    ghost use Rattle.fs_base.specs.Sink.{Grew};
-    ghost use Rattle.fs_desk.specs.Desk.{Notes, Played};
-    ghost use Rattle.fs_desk.specs.Leaves.{Leaves};
+    ghost use Rattle.std.specs.{Option.{is_some}, Prelude.{ℕ, ◌≡◌, ◌≤◌, ◌<◌, [], false, List, None, Some, IfOk, IfSome, IsOk, IsTrue, MatchResult, OnOk}};
+    ghost use Rattle.fs_base.specs.{Files.{OnlySlot, one_opening}, Outside.{Rose}, Sink.{Grew}};
+    ghost use Rattle.fs_desk.specs.{Desk.{Notes, Played}, Leaves.{Leaves}};
     ghost use Rattle.fs_input.specs.declared.fault.Ended.TheVariants.{Done};
     ghost use Rattle.fs_rules.specs.Changes.{Covers};
-    ghost use Rattle.cmd_stages.specs.Play.{EndsBy, HasVersion, HaveNoMoments, IsOpenOrDone, tape_stage, until, untimed};
-    ghost use Rattle.cmd_stages.specs.Player.{IsUnplayed, Stands, due_item};
-    ghost use Rattle.cmd_stages.specs.Refusal.{Found, IsOfTape, answered};
-    ghost use Rattle.fs_tape.specs.Tape.{Timed};
-    ghost use Rattle.fs_tape.specs.declared.magic.Version.TheVariants.{One, Two};
+    ghost use Rattle.cmd_stages.specs.{Play.{EndsBy, HasVersion, HaveNoMoments, IsOpenOrDone, tape_stage, until, untimed}, Player.{IsUnplayed, Stands, due_item}, Refusal.{Found, IsOfTape, answered}};
+    ghost use Rattle.fs_tape.specs.{Tape.{Timed}, declared.magic.Version.TheVariants.{One, Two}};
 
     /// Opens the tape, and reads its first item ahead. Nothing is played yet.
     ///

@@ -2,8 +2,7 @@
 
 ghost use Rattle.std.specs.Prelude.{◌≡◌, ◌≢◌, ◌≤◌, ℕ, IfOk, IsOk, List, length};
 ghost use Rattle.fs_base.specs.Outside.{Rose};
-ghost use Rattle.cmd_stages.specs.Refusal.{IsLate, answered};
-ghost use Rattle.cmd_stages.specs.Writing.{Writes};
+ghost use Rattle.cmd_stages.specs.{Refusal.{IsLate, answered}, Writing.{Writes}};
 
 use crate::refusal::Refusal;
 use fs_base::{Memory, Sink, write_all};

@@ -1,7 +1,5 @@
 -- What the files of an accepted configuration and its rules hold.
-use Rattle.cmd_wire.proofs.Words.{CanArrive, Found, Names, Peer, Refusal, Sending, Stage, Stopped, and_then, config_stage, fetch, or_stop, rules_stage, sender_of, sending_stage, ◌≡◌, ℕ, ◌<◌, List, Option, Some, None, refl, ap, sym, ◌∙◌, Config, config_of, rules_of, Rejected}
-use Rattle.cmd_wire.proofs.Arrivable.{can_arrive}
-use Rattle.cmd_wire.proofs.Statuses.{same_found}
+use Rattle.cmd_wire.proofs.{Words.{CanArrive, Found, Names, Peer, Refusal, Sending, Stage, Stopped, and_then, config_stage, fetch, or_stop, rules_stage, sender_of, sending_stage, ◌≡◌, ℕ, ◌<◌, List, Option, Some, None, refl, ap, sym, ◌∙◌, Config, config_of, rules_of, Rejected}, Arrivable.{can_arrive}, Statuses.{same_found}}
 
 -- a stage behind another that gives a value
 pub then_found : {A B : Type 0} (stage : Stage A) (next : A → Stage B) (b : B) → and_then stage next ≡ Found b → (a : A) × ((stage ≡ Found a) × (next a ≡ Found b))

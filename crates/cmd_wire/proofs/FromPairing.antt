@@ -1,29 +1,10 @@
 -- How what `pair` answers follows from its stages.
-use Rattle.cmd_wire.proofs.Words.{Announcing, Arrives, AtLimit, CanSend, Desked, Done, EndCloses, Ended, Ending, FilesFailed, Found, Happened, HasReason, Names, Pairs, PairsOver, PairsSo, Peer, Played, Refusal, Sending, SinkFailed, Told, WireEnds, WireFailed, and_then, announcing, begins_with, joined_end, octets_in, or_stop, peer_of, sender_of, sending_stage, tape_of, ◌≡◌, ◌⊎◌, inl, inr, ◌∙◌, ℕ, List, ◌++◌, Bool, false, Option, Some, None, IfSome, Result, Ok, Err, refl, ap, sym, subst, Config, fresh, AreJoined, of_first, of_second, played_leaves, answers_for, IsBrokenOff, Conversation, IsListing, ListsDesk, TellsListing, verdict_by, BothBegin, Joined, Joins, Meets, sender_told, Begins, IfErr, IsErrAnd, Rejected}
-use Rattle.fs_peering.specs.declared.tell.Ending.TheVariants.{Closed as HasClosed}
-use Rattle.cmd_wire.proofs.FromStages.{told_through}
-
--- neither is answered with 3
-not_three : (ending : Ending) (text : List ℕ) → (verdict_by ending text).status ≡ 3 → ⊥
-not_three Done text e = absurd cc
-not_three (HasClosed why) text e = absurd cc
-not_three Ended text e = absurd cc
-not_three AtLimit text e = absurd cc
-
-pub never_three : {A : Type 0} (ending : Ending) (desk : Desked) (failed : Type 0) (before now : Option (List ℕ)) (answer : ℕ)
-    → TellsListing ending desk failed before now answer → answer ≡ 3 → A
-never_three ending desk failed before now answer (inl none) three = let at : ◌≡◌ {A = ℕ} 6 3 = sym none.0 ∙ three in absurd cc
-never_three {A} ending desk failed before now answer (inr told) three = by told.1.1.status_is
-  where
-    by : (answer ≡ (verdict_by ending told.0).status) ⊎ (answer ≡ 6) ⊎ ((answer ≡ 1) × failed) → A
-    by (inl h) = absurd (not_three ending told.0 (sym h ∙ three))
-    by (inr (inl h)) = let at : ◌≡◌ {A = ℕ} 6 3 = sym h ∙ three in absurd cc
-    by (inr (inr h)) = let at : ◌≡◌ {A = ℕ} 1 3 = sym h.0 ∙ three in absurd cc
+use Rattle.cmd_wire.proofs.{Words.{Announcing, Arrives, CanSend, Desked, Done, EndCloses, Ending, Found, HasReason, Names, Pairs, PairsOver, PairsSo, Peer, Played, Refusal, Sending, Told, WireEnds, and_then, announcing, begins_with, octets_in, or_stop, peer_of, sender_of, sending_stage, tape_of, ◌≡◌, inl, inr, ◌∙◌, ℕ, List, Bool, false, Option, Some, None, IfSome, Result, Ok, Err, refl, ap, sym, subst, Config, fresh, AreJoined, of_first, of_second, played_leaves, IsBrokenOff, Conversation, IsListing, ListsDesk, BothBegin, Joined, Meets, sender_told, Begins, IfErr, IsErrAnd, Rejected, CanArrive, told_as, Carries, joining}, FromStages.{told_through}, Named.{arrived}}
 
 -- what was told of both ends that were opened, spoken through, and closed
 
 abbrev coupled : WireEnds → WireEnds → Type 0
-coupled before now = now ≡ record { first = joined_end before.first; second = joined_end before.second }
+coupled before now = now ≡ joining before
 
 joined_so : (a b : WireEnds) → coupled a b → AreJoined b
 joined_so a b d = subst AreJoined (sym d) (refl, refl, refl, refl)
@@ -48,26 +29,9 @@ met : (ending : Ending) (config : Config) (peer : Peer) (sending : Sending) (des
     → ListsDesk ending desk text → (a b c : WireEnds)
     → coupled a b → (AreJoined b → Pairs ending config peer sending desk peer.number limit given b c) → Meets ending config peer sending desk limit given text a c
 met ending config peer sending desk limit given text lists a b c d f =
-    let p : Pairs ending config peer sending desk peer.number limit given b c = f (joined_so a b d) in
-    record {
-      pairs = record {
-        config_is = p.config_is;
-        events = p.events;
-        announced = p.announced;
-        replied = p.replied;
-        heard_first = p.heard_first;
-        heard_second = p.heard_second;
-        wrote_first = p.wrote_first ∙ ap (λ (e : WireEnds). e.first.written ++ p.replied) d;
-        wrote_second = p.wrote_second ∙ ap (λ (e : WireEnds). e.second.written ++ p.announced) d;
-        asked = p.asked;
-        front = p.front;
-        lived = p.lived;
-        arrives = p.arrives;
-        late = p.late;
-        ends = p.ends;
-      };
-      lists = lists_for config peer sending desk limit given text ending b c p lists;
-    }
+    let p : Pairs ending config peer sending desk peer.number limit given (joining a) c =
+    subst (λ (e : WireEnds). Pairs ending config peer sending desk peer.number limit given e c) d (f (joined_so a b d)) in
+    record { pairs = p; lists = lists_for config peer sending desk limit given text ending (joining a) c p lists }
 
 -- as the peer that the rules are sent for
 module _ {config : Config} {sending : Sending} {begun : Desked} {number : ℕ} {sender : Announcing} {started : Bool} (b : BothBegin config sending begun number sender started) where
@@ -119,18 +83,15 @@ lowest_broken config None sending (Err other) refusal can reason e = absurd can
 lowest_broken config (Some peer) sending (Err other) refusal can (inl h) e = absurd cc
 lowest_broken config (Some peer) sending (Err other) refusal can (inr h) e = subst (IsBrokenOff ⊥) (sym e) h
 
--- or the session ended
-pub pair_told : (limit : ℕ) (holds : Names) (config rules : List ℕ) (call : Happened) (talk : Conversation) (answer : ℕ) (accepted : Config) (sending : Sending) (desk : Desked) (ending : Ending)
-    → sending_stage limit holds config rules ≡ Found (accepted, sending) → ((text : List ℕ) → ListsDesk ending desk text → Joined ending accepted sending limit text talk)
-    → TellsListing ending desk (SinkFailed call) call.before.written call.now.written answer → Joins limit holds config rules call talk answer
-pair_told limit holds config rules call talk answer accepted sending desk ending found speaks (inl none) = inl (record { reason = inr (inl none.0); nothing = none.1 })
-pair_told limit holds config rules call talk answer accepted sending desk ending found speaks (inr told) = inr (record {
-  accepted = accepted;
-  sending = sending;
-  found = found;
-  ending = ending;
-  text = told.0;
-  speaks = speaks told.0 told.1.0;
-  answers = answers_for (verdict_by ending told.0) (SinkFailed call) (FilesFailed call ⊎ (SinkFailed call ⊎ WireFailed call)) call.before.written call.now.written answer told.1.1
-      (λ r. inr (inl r));
-})
+-- of the files' session
+pub carries : (limit : ℕ) (holds : Names) (config rules : List ℕ) (talk : Conversation) (accepted : Config) (sending : Sending) (ending : Ending) (text : List ℕ)
+    → sending_stage limit holds config rules ≡ Found (accepted, sending) → Joined ending accepted sending limit text talk → Carries limit talk (accepted, sending) ending text
+carries limit holds config rules talk accepted sending ending text found j = record {
+  joined = j;
+  can = λ done. told_as (Meets ending accepted j.peer sending j.desk limit j.given text) (λ b n. CanArrive accepted j.peer sending)
+      (λ b n m.
+      arrived limit holds config rules accepted sending j.peer found j.peer_is j.desk
+      (of_first m.pairs.events) (of_second m.pairs.events) m.pairs.announced m.pairs.replied m.pairs.config_is
+      (subst (λ (e : Ending). PairsSo e accepted j.peer sending j.desk j.peer.number limit m.pairs.events m.pairs.announced m.pairs.replied n) done m.pairs.ends))
+      talk.ends talk.ends_now j.told;
+}

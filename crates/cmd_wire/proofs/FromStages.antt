@@ -1,7 +1,8 @@
 -- How what `announce` answers follows from its stages.
-use Rattle.cmd_wire.proofs.Words.{Announcing, AtLimit, CanSend, Done, EndCloses, Ended, Ending, EndsBefore, EndsEarly, Found, HasReason, Machine, MetLimit, Names, Peer, Phase, Pieces, Refusal, SaidAll, Sending, Stage, Tells, TellsOver, TellsSo, Told, WireEnds, and_then, announcing, answered, at_start, begins_with, config_stage, is_established, moments_in, needs_of, octets_in, opened_end, rules_stage, sender_of, sending_stage, status_of, still, ◌≡◌, inl, inr, ◌<◌, ◌∙◌, ℕ, ◌+◌, List, [], ◌++◌, length, nat_le, Bool, true, false, if◌then◌else◌, Option, Some, None, IfSome, Result, append-nil, arith, refl, ap, sym, subst, Config, le_false, le_true, Closed, fresh, announcer, told_and, opened_by, ClosesSo, IsErrAnd, answered_err, ends_early, reason_then, Connected, IsBrokenOff, IsDue, IsOfSession, Speaks, Conversation}
+use Rattle.cmd_wire.{proofs.Words.{Announcing, AtLimit, CanSend, Done, EndCloses, Ended, Ending, EndsBefore, EndsEarly, Found, HasReason, Machine, MetLimit, Names, Peer, Phase, Pieces, Refusal, SaidAll, Sending, Stage, Tells, TellsOver, TellsSo, Told, WireEnds, and_then, announcing, answered, at_start, begins_with, config_stage, is_established, moments_in, needs_of, octets_in, rules_stage, sender_of, sending_stage, status_of, still, ◌≡◌, inl, inr, ◌<◌, ◌∙◌, ℕ, ◌+◌, List, [], length, nat_le, Bool, true, false, if◌then◌else◌, Option, Some, None, IfSome, Result, append-nil, arith, refl, ap, sym, subst, Config, le_false, le_true, Closed, fresh, announcer, told_and, opened_by, ClosesSo, IsErrAnd, answered_err, ends_early, reason_then, Connected, IsBrokenOff, IsDue, Speaks, Conversation, dialling, IsOfWire}, specs.Announcing.{ending_by, ending_of}}
+use Rattle.std.specs.Result.{MatchResult}
 use Rattle.fs_peering.specs.declared.tell.Ending.TheVariants.{Closed as HasClosed}
-use Rattle.cmd_wire.specs.Announcing.{ending_by, ending_of}
+use Rattle.cmd_stages.proofs.Stages.{match_err}
 
 -- the end that is due
 
@@ -50,21 +51,17 @@ module _ (config : Config) (peer : Peer) (sending : Sending) (limit : ℕ) (hear
 -- what was told of a connection that was opened, spoken through, and closed
 
 abbrev dialled : WireEnds → WireEnds → Type 0
-dialled before now = now ≡ record { first = before.first; second = opened_end before.second }
+dialled before now = now ≡ dialling before
 
 spoken : (ending : Ending) (config : Config) (peer : Peer) (sending : Sending) (limit : ℕ) (given : List ℕ) (a b c : WireEnds)
     → dialled a b → Tells ending config peer sending limit given b c → Speaks ending config peer sending limit given a c
-spoken ending config peer sending limit given a b c d t = record {
-  heard = t.heard;
-  said = t.said;
-  read = sym (ap (λ (e : WireEnds). e.second.left) d) ∙ t.read;
-  wrote = t.wrote ∙ ap (λ (e : WireEnds). e.second.written ++ t.said) d;
-  asked = t.asked;
-  listened = t.listened;
-  ends = t.ends;
-  due = subst (λ (moments : List ℕ). IsDue ending (announcer config (needs_of sending.rules)) limit moments (octets_in t.heard)) t.asked
-      (due_of config peer sending limit t.heard t.said c.second.left ending t.ends);
-}
+spoken ending config peer sending limit given a b c d t =
+    let t : Tells ending config peer sending limit given (dialling a) c = subst (λ (e : WireEnds). Tells ending config peer sending limit given e c) d t in
+    record {
+      tells = t;
+      due = subst (λ (moments : List ℕ). IsDue ending (announcer config (needs_of sending.rules)) limit moments (octets_in t.heard)) t.asked
+          (due_of config peer sending limit t.heard t.said c.second.left ending t.ends);
+    }
 
 -- a connection that was opened, spoken through, and closed
 pub told_through : (opened spoke whole : WireEnds → WireEnds → Type 0) → ((a b c : WireEnds) → opened a b → spoke b c → whole a c) → (t0 t1 t2 t3 : Option WireEnds)
@@ -97,24 +94,18 @@ connected_as ending config sending limit teller started t1 t2 talk can made open
         }
 
 -- the run ended before anything was written, for what a `?` hands on
-pub ends_handed : {T A : Type 0} (stage : Stage A) (failed failed' : Type 0) (a : Option (List ℕ)) (r : Result T Refusal) (cause : Refusal) → IsErrAnd r (λ e. e ≡ cause)
+pub ends_handed : {T A : Type 0} {stage : Stage A} {failed failed' : Type 0} {a : Option (List ℕ)} {cause : Refusal} (r : Result T Refusal) → IsErrAnd r (λ e. e ≡ cause)
     → HasReason stage failed cause → (failed → failed') → EndsEarly stage failed' a a (answered r)
-ends_handed stage failed failed' a r cause h reason f = answered_err (EndsEarly stage failed' a a) r cause h (ends_early stage failed failed' a cause reason f)
+ends_handed {stage = stage} {failed = failed} {failed' = failed'} {a = a} {cause = cause} r h reason f =
+    answered_err (EndsEarly stage failed' a a) r cause h (ends_early stage failed failed' a cause reason f)
 
 -- a session that was broken off answers a status of a session, and not that of the files
-pub broken_session : {T : Type 0} (failed : Type 0) (r : Result T Refusal) (cause : Refusal) → IsErrAnd r (λ e. e ≡ cause) → IsBrokenOff failed cause → IsOfSession (answered r)
-broken_session failed r cause h broken = answered_err IsOfSession r cause h (by broken)
+pub broken_session : {T : Type 0} {failed : Type 0} {cause : Refusal} (r : Result T Refusal) → IsErrAnd r (λ e. e ≡ cause) → IsBrokenOff failed cause → IsOfWire (answered r)
+broken_session {failed = failed} {cause = cause} r h broken = answered_err IsOfWire r cause h (by broken)
   where
-    by : IsBrokenOff failed cause → IsOfSession (status_of cause)
-    by (inl e) = subst (λ (c : Refusal). IsOfSession (status_of c)) (sym e) ((λ k. absurd cc), (λ k. absurd cc), λ k. absurd cc)
-    by (inr e) = subst (λ (c : Refusal). IsOfSession (status_of c)) (sym e.0) ((λ k. absurd cc), (λ k. absurd cc), λ k. absurd cc)
-
-pub broken_three : {T A : Type 0} (failed : Type 0) (r : Result T Refusal) (cause : Refusal) → IsErrAnd r (λ e. e ≡ cause) → IsBrokenOff failed cause → answered r ≡ 3 → A
-broken_three {T} {A} failed r cause h broken = answered_err (λ n. n ≡ 3 → A) r cause h (by broken)
-  where
-    by : IsBrokenOff failed cause → status_of cause ≡ 3 → A
-    by (inl e) three = let at : ◌≡◌ {A = ℕ} 6 3 = ap status_of (sym e) ∙ three in absurd cc
-    by (inr e) three = let at : ◌≡◌ {A = ℕ} 1 3 = ap status_of (sym e.0) ∙ three in absurd cc
+    by : IsBrokenOff failed cause → IsOfWire (status_of cause)
+    by (inl e) = subst (λ (c : Refusal). IsOfWire (status_of c)) (sym e) ((λ k. absurd cc), ((λ k. absurd cc), (λ k. absurd cc), λ k. absurd cc))
+    by (inr e) = subst (λ (c : Refusal). IsOfWire (status_of c)) (sym e.0) ((λ k. absurd cc), ((λ k. absurd cc), (λ k. absurd cc), λ k. absurd cc))
 
 -- a stage that gives a value passes on what ends the next
 pub next_reason : {A B : Type 0} (stage : Stage A) (next : A → Stage B) (a : A) (failed : Type 0) (refusal : Refusal) → stage ≡ Found a → HasReason (next a) failed refusal
@@ -125,13 +116,26 @@ next_reason stage next a failed refusal e h = subst (λ s. HasReason (and_then s
 abbrev then_rules : ℕ → Names → List ℕ → Config → Stage (Config × Sending)
 then_rules limit holds rules accepted = and_then (rules_stage accepted limit holds rules) (λ sending. Found (accepted, sending))
 
-pub rules_reason : (limit : ℕ) (holds holds' : Names) (config rules : List ℕ) (accepted : Config) (failed : Type 0) (refusal : Refusal)
-    → config_stage limit holds config ≡ Found accepted → holds' ≡ holds → HasReason (rules_stage accepted limit holds' rules) failed refusal
-    → HasReason (sending_stage limit holds config rules) failed refusal
-rules_reason limit holds holds' config rules accepted failed refusal e same h =
-    let here : HasReason (rules_stage accepted limit holds rules) failed refusal = subst (λ (names : Names). HasReason (rules_stage accepted limit names rules) failed refusal) same h in
-    next_reason (config_stage limit holds config) (then_rules limit holds rules) accepted failed refusal e
-    (reason_then (rules_stage accepted limit holds rules) (λ sending. Found (accepted, sending)) failed refusal here)
+rules_reason : (limit : ℕ) (holds holds' : Names) (config rules : List ℕ) (accepted : Config) (failed failed' : Type 0) (refusal : Refusal)
+    → config_stage limit holds config ≡ Found accepted → holds' ≡ holds → HasReason (rules_stage accepted limit holds' rules) failed refusal → (failed → failed')
+    → HasReason (sending_stage limit holds config rules) failed' refusal
+rules_reason limit holds holds' config rules accepted failed failed' refusal e same h wider =
+    next_reason (config_stage limit holds config) (then_rules limit holds rules) accepted failed' refusal e
+    (reason_then (rules_stage accepted limit holds rules) (λ sending. Found (accepted, sending)) failed' refusal
+    (by (subst (λ (names : Names). HasReason (rules_stage accepted limit names rules) failed refusal) same h)))
+  where
+    by : HasReason (rules_stage accepted limit holds rules) failed refusal → HasReason (rules_stage accepted limit holds rules) failed' refusal
+    by (inl h) = inl h
+    by (inr (inl h)) = inr (inl h)
+    by (inr (inr h)) = inr (inr (h.0, wider h.1))
+
+-- for what a `?` hands on
+pub rules_handed : {T : Type 0} (P : T → Type 0) (limit : ℕ) (holds holds' : Names) (config rules : List ℕ) (accepted : Config) (failed failed' : Type 0) (r : Result T Refusal) (cause : Refusal)
+    → IsErrAnd r (λ e. e ≡ cause) → config_stage limit holds config ≡ Found accepted → holds' ≡ holds → HasReason (rules_stage accepted limit holds' rules) failed cause → (failed → failed')
+    → MatchResult r P (HasReason (sending_stage limit holds config rules) failed')
+rules_handed P limit holds holds' config rules accepted failed failed' r cause is e same h wider =
+    match_err P (HasReason (sending_stage limit holds config rules) failed') r is (λ refusal at.
+    subst (HasReason (sending_stage limit holds config rules) failed') (sym at) (rules_reason limit holds holds' config rules accepted failed failed' cause e same h wider))
 
 -- both files are accepted
 pub sending_found : (limit : ℕ) (holds holds' : Names) (config rules : List ℕ) (accepted : Config) (sending : Sending)

@@ -1,9 +1,6 @@
 -- How what `listen` answers follows from its stages.
-use Rattle.cmd_wire.proofs.Words.{AtLimit, ClosesIn, Desked, Done, EndCloses, Ended, Ending, ExpiresAt, FilesFailed, Found, Happened, Last, Names, Peer, Phase, Pieces, Played, SinkFailed, Stage, Told, WireEnds, WireFailed, and_then, at_start, bounded_from, bounded_session, closed, config_stage, is_established, octets_in, or_stop, peer_of, sender_of, still, tape_of, ◌≡◌, ◌⊎◌, inl, inr, ◌∙◌, ℕ, List, [], ◌∷◌, ◌++◌, length, nat_le, Bool, true, false, if◌then◌else◌, Option, Some, None, append-nil, refl, ap, sym, subst, same_Some, Config, le_false, le_true, Update, Closed, played_leaves, told_as, EndsSo, Listens, ListensOver, ListensSo, Rejected, answers_for, Conversation, Begins, HasExpired, Heard, Hears, IsHeard, ListensThrough, ListensTo, ending_by, ending_of, hearing_stage, listening, with_peer, ListsDesk, TellsListing, verdict_by, sender_told}
-use Rattle.fs_peering.specs.declared.tell.Ending.TheVariants.{Closed as HasClosed}
-use Rattle.fs_peering.specs.Hearer.{HasClosed as ClosesOnce}
-use Rattle.fs_peering.proofs.Courses.{octets_more}
-use Rattle.cmd_wire.proofs.FromStages.{told_through}
+use Rattle.cmd_wire.proofs.{Words.{AtLimit, ClosesIn, Desked, Done, EndCloses, Ended, Ending, ExpiresAt, Found, Last, Names, Peer, Phase, Pieces, Played, Stage, Told, WireEnds, and_then, at_start, bounded_from, bounded_session, closed, config_stage, is_established, octets_in, or_stop, peer_of, sender_of, still, tape_of, ◌≡◌, ◌⊎◌, inl, inr, ◌∙◌, ℕ, List, [], ◌∷◌, ◌++◌, length, nat_le, Bool, true, false, if◌then◌else◌, Option, Some, None, append-nil, refl, ap, sym, subst, same_Some, Config, le_false, le_true, Update, Closed, played_leaves, told_as, EndsSo, Listens, ListensOver, ListensSo, Rejected, Conversation, Begins, HasExpired, Heard, Hears, IsHeard, ListensThrough, ending_by, ending_of, hearing_stage, listening, with_peer, ListsDesk, sender_told}, FromStages.{told_through}}
+use Rattle.fs_peering.{specs.{declared.tell.Ending.TheVariants.{Closed as HasClosed}, Hearer.{HasClosed as ClosesOnce}}, proofs.Courses.{octets_more}}
 
 pub closes_behind : (config : Config) (peer : Peer) (heard earlier : Pieces) (moment : ℕ) (piece said more : List ℕ) (why : Closed)
     → heard ≡ earlier ++ (moment, piece) ∷ [] → ClosesIn config peer.number peer earlier moment piece said why
@@ -74,6 +71,12 @@ through ending config desk number limit t1 t2 talk opens l closes = record {
       (λ a b c d h. subst (λ (e : WireEnds). Listens ending config desk number limit l.given e c) d h) talk.ends t1 t2 talk.ends_now opens l.told closes;
 }
 
+-- of the peer that the session is with
+pub ends_of : (ending : Ending) (config : Config) (peer : Peer) (text : List ℕ) (limit : ℕ) (given : List ℕ) (before now : WireEnds)
+    → (s : Hears ending config peer text limit given before now) → ListensSo ending s.desk peer.number peer limit s.listens.heard s.listens.said now.first.left
+ends_of ending config peer text limit given before now s =
+    subst (λ (p : Peer). ListensSo ending s.desk peer.number p limit s.listens.heard s.listens.said now.first.left) s.whose_is s.listens.ends
+
 -- as the peer with the lowest number
 
 module _ (ending : Ending) (config : Config) (desk : Desked) (peer : Peer) (text : List ℕ) (limit : ℕ)
@@ -91,13 +94,8 @@ module _ (ending : Ending) (config : Config) (desk : Desked) (peer : Peer) (text
       subst (λ (p : Peer). ListensSo ending desk peer.number p limit l.heard l.said now.first.left) whose_is l.ends in
       record {
         desk = desk;
-        config_is = l.config_is;
-        heard = l.heard;
-        said = l.said;
-        read = l.read;
-        wrote = l.wrote;
-        asked = l.asked;
-        ends = ends;
+        listens = l;
+        whose_is = whose_is;
         due = subst (λ (c : Config). IsHeard ending c peer limit l.heard) l.config_is (due_of desk peer limit l.heard l.said now.first.left there ending ends);
         lists = λ done.
             let met : EndsSo true desk peer.number peer limit l.heard l.said now.first.left =
@@ -111,7 +109,7 @@ module _ (ending : Ending) (config : Config) (desk : Desked) (peer : Peer) (text
             };
       }
 
-  heard_of : (talk : Conversation) → ListensThrough ending config desk peer.number limit talk → Heard ending config peer text limit talk
+  heard_of : (talk : Conversation) → ListensThrough ending config desk peer.number limit talk → Heard limit talk (config, peer) ending text
   heard_of talk l = record {
     given = l.given;
     grew = l.grew;
@@ -121,7 +119,7 @@ module _ (ending : Ending) (config : Config) (desk : Desked) (peer : Peer) (text
 
 -- as the one with which the session began
 pub heard_as : {accepted : Config} {desk : Desked} {number count : ℕ} (b : Begins accepted desk number count) (ending : Ending) (desk' : Desked) (limit : ℕ) (talk : Conversation)
-    → ListensThrough ending desk.config desk' number limit talk → (text : List ℕ) → ListsDesk ending desk' text → Heard ending accepted b.peer text limit talk
+    → ListensThrough ending desk.config desk' number limit talk → (text : List ℕ) → ListsDesk ending desk' text → Heard limit talk (accepted, b.peer) ending text
 heard_as {accepted} {desk} {number} b ending desk' limit talk l text lists =
     heard_of ending accepted desk' b.peer text limit b.peer_is lists talk
     (subst (λ (n : ℕ). ListensThrough ending accepted desk' n limit talk) b.number_is
@@ -133,19 +131,3 @@ pub hearing_found : (limit : ℕ) (holds : Names) (config : List ℕ) (accepted 
 hearing_found limit holds config accepted peer e p =
     ap (λ (s : Stage Config). and_then s with_peer) e
     ∙ ap (λ (o : Option Peer). and_then {B = Config × Peer} (or_stop Rejected o) (λ peer. Found (accepted, peer))) p
-
--- the session ended
-pub session_heard : (limit : ℕ) (holds : Names) (config : List ℕ) (call : Happened) (talk : Conversation) (answer : ℕ) (accepted : Config) (peer : Peer) (desk : Desked) (ending : Ending)
-    → hearing_stage limit holds config ≡ Found (accepted, peer) → ((text : List ℕ) → ListsDesk ending desk text → Heard ending accepted peer text limit talk)
-    → TellsListing ending desk (SinkFailed call) call.before.written call.now.written answer → ListensTo limit holds config call talk answer
-session_heard limit holds config call talk answer accepted peer desk ending found hears (inl none) = inl (record { reason = inr (inl none.0); nothing = none.1 })
-session_heard limit holds config call talk answer accepted peer desk ending found hears (inr t) = inr (record {
-  accepted = accepted;
-  peer = peer;
-  found = found;
-  ending = ending;
-  text = t.0;
-  hears = hears t.0 t.1.0;
-  answers = answers_for (verdict_by ending t.0) (SinkFailed call) (FilesFailed call ⊎ (SinkFailed call ⊎ WireFailed call)) call.before.written call.now.written answer t.1.1
-      (λ r. inr (inl r));
-})

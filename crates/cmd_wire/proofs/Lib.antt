@@ -2,11 +2,12 @@ mod Words
 pub mod FromStages
 pub mod Hearing
 pub mod Statuses
+pub mod Concluding
 pub mod Promising
 pub mod PromisingHearing
 pub mod Listings
 pub mod FromPairing
-pub mod PromisingPair
+pub mod Carrying
 pub mod Arrivable
 pub mod Accepted
 pub mod Named

@@ -1,8 +1,6 @@
 -- An announcing end that the other end stayed open for named an identifier other than 0.0.0.0.
-use Rattle.cmd_wire.proofs.Words.{Arrives, CanArrive, Desked, Found, IsUnnamed, Last, Names, Peer, Pieces, Sending, at_start, bounded, bounded_from, bounded_session, closed, is_lowest, octets_in, peer_of, sender_of, sending_stage, session_from, still, ◌≡◌, ℕ, zero, suc, ◌<◌, List, [], Option, None, Some, refl, ap, sym, ◌∙◌, arith, Config, Update, HasPeerNumbers, accepts_numbers, found_each, closed_still, sender_told}
-use Rattle.fs_speaker.specs.declared.Closed.TheVariants.{Fault}
-use Rattle.fs_speaker.proofs.Unnamed.{refused}
-use Rattle.cmd_wire.proofs.Accepted.{accepted_files, arrivable}
+use Rattle.cmd_wire.proofs.{Words.{Arrives, CanArrive, Desked, Found, IsUnnamed, Last, Names, Peer, Pieces, Sending, at_start, bounded, bounded_from, bounded_session, closed, is_lowest, octets_in, peer_of, sender_of, sending_stage, session_from, still, ◌≡◌, ℕ, zero, suc, ◌<◌, List, [], Option, None, Some, refl, ap, sym, ◌∙◌, arith, Config, Update, HasPeerNumbers, accepts_numbers, found_each, closed_still, sender_told}, Accepted.{accepted_files, arrivable}}
+use Rattle.fs_speaker.{specs.declared.Closed.TheVariants.{Fault}, proofs.Unnamed.{refused}}
 
 -- a limit of routes leaves a session without updates as it is
 bounded_none : (most : Option ℕ) (last : Last) → bounded most ([], last) ≡ ([], last)
@@ -39,12 +37,5 @@ arrived limit holds config rules accepted sending peer found low desk heard told
         let files = accepted_files limit holds config rules accepted sending found in
         let numbers = accepts_numbers files.text accepted files.config_is in
         let own = found_each HasPeerNumbers (is_lowest accepted.peers) accepted.peers peer numbers.peers low in
-        absurd (unnamed_closes accepted peer sending desk limit heard told announced replied (sender_told accepted.peers peer low) config_is a (record {
-          peer_as = own.asn;
-          some_peer = own.some_as;
-          hold_time = numbers.hold_time;
-          not_one = numbers.not_one;
-          not_two = numbers.not_two;
-          unnamed = e;
-        }))
+        absurd (unnamed_closes accepted peer sending desk limit heard told announced replied (sender_told accepted.peers peer low) config_is a (record { asn = own.asn; hold_time = numbers.own.hold_time; unnamed = e }))
     by (suc n) e = omega (arith, e)

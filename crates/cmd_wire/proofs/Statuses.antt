@@ -1,5 +1,5 @@
 -- Which status a run answers, and which it doesn't.
-use Rattle.cmd_wire.proofs.Words.{AtLimit, Capture, Done, Dump, Ended, Ending, FilesFailed, FilesStood, Found, Happened, Limit, Memory, Outside, Refusal, Rose, Session, SinkFailed, SinkStood, Stage, Stood, Stopped, Tape, WireFailed, WireStood, status_of, ◌≡◌, ◌≢◌, ◌⊎◌, inl, inr, ◌∙◌, ℕ, List, arith, refl, sym, subst, Rejected, verdict_by}
+use Rattle.cmd_wire.proofs.Words.{AtLimit, Capture, Done, Dump, Ended, Ending, FilesStood, Found, Happened, Limit, Memory, Outside, Refusal, Rose, Session, SinkStood, Stage, Stood, Stopped, Tape, WireStood, status_of, ◌≡◌, ◌≢◌, ◌⊎◌, inl, inr, ◌∙◌, ℕ, List, arith, refl, sym, subst, Rejected, verdict_by, AnyFailed}
 use Rattle.fs_peering.specs.declared.tell.Ending.TheVariants.{Closed}
 
 -- the status that is due, or want of memory, or a call outside that failed
@@ -9,17 +9,6 @@ Caused failed status answer = (answer ≡ status) ⊎ (answer ≡ 6) ⊎ ((answe
 -- so of a run that ended before anything was written
 abbrev pub Early : {A : Type 0} → Stage A → Type 0 → ℕ → Type 0
 Early stage failed answer = ((refusal : Refusal) × (stage ≡ Stopped refusal) × (answer ≡ status_of refusal)) ⊎ (answer ≡ 6) ⊎ ((answer ≡ 1) × failed)
-
--- no refusal ends a run with status 0
-pub never_zero : (refusal : Refusal) → status_of refusal ≡ 0 → ⊥
-never_zero Outside e = absurd cc
-never_zero Rejected e = absurd cc
-never_zero (Tape reason place) e = absurd cc
-never_zero Capture e = absurd cc
-never_zero Dump e = absurd cc
-never_zero Memory e = absurd cc
-never_zero Limit e = absurd cc
-never_zero Session e = absurd cc
 
 -- one ending alone answers 0
 pub only_done : (ending : Ending) (text : List ℕ) → (verdict_by ending text).status ≡ 0 → ending ≡ Done
@@ -66,7 +55,7 @@ late_status failed status answer By due (inr h) = inr h
 pub not_rose : (before now : ℕ) → Stood before now → Rose before now → ⊥
 not_rose before now s r = omega (arith, s.stands, s.below, r)
 
-pub none_failed : (call : Happened) → FilesStood call → SinkStood call → WireStood call → FilesFailed call ⊎ (SinkFailed call ⊎ WireFailed call) → ⊥
+pub none_failed : (call : Happened) → FilesStood call → SinkStood call → WireStood call → AnyFailed call → ⊥
 none_failed call f s w (inl r) = not_rose call.before.file_faults call.now.file_faults f r
 none_failed call f s w (inr (inl r)) = not_rose call.before.sink_faults call.now.sink_faults s r
 none_failed call f s w (inr (inr r)) = not_rose call.before.wire_faults call.now.wire_faults w r

@@ -2,8 +2,8 @@ pub mod Lines
 pub mod Conversation
 pub mod Announcing
 pub mod Listed
+pub mod Concluded
 pub mod Listening
-pub mod Promised
-pub mod PromisedHearing
 pub mod Pairing
+pub mod Promised
 pub mod Laws

@@ -1,13 +1,10 @@
 -- What is answered and written where a desk was to be listed.
 use Rattle.std.specs.Prelude.{◌≡◌, ◌⊎◌, ℕ, List, [], Option}
-use Rattle.fs_base.specs.Sink.{Grew}
-use Rattle.fs_base.specs.declared.config.Config.{Config}
+use Rattle.fs_base.specs.{Sink.{Grew}, declared.config.Config.{Config}}
 use Rattle.fs_rules.specs.Table.{Held}
 use Rattle.fs_tape.specs.Tape.{Item}
-use Rattle.fs_desk.specs.Desk.{Desked, Played}
-use Rattle.fs_desk.specs.Leaves.{Leaves}
-use Rattle.fs_peering.specs.declared.tell.Ending.{Ending}
-use Rattle.fs_peering.specs.declared.tell.Ending.TheVariants.{Done, Closed as HasClosed, Ended, AtLimit}
+use Rattle.fs_desk.specs.{Desk.{Desked, Played}, Leaves.{Leaves}}
+use Rattle.fs_peering.specs.declared.tell.Ending.{Ending, TheVariants.{Done, Closed as HasClosed, Ended, AtLimit}}
 use Rattle.fs_reports.specs.Listing.{listing}
 use Rattle.cmd_stages.specs.Refusal.{Answers, Verdict, verdict_with}
 use Rattle.cmd_wire.specs.Lines.{closing_line, ended_line}

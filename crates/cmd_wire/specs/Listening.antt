@@ -1,28 +1,12 @@
 -- What `listen` answers, writes, and says to the other end.
-use Rattle.std.specs.Prelude.{◌≡◌, ◌⊎◌, ℕ, List, [], ◌∷◌, ◌++◌, length, nat_le, if◌then◌else◌, Option, Some, None}
-use Rattle.fs_base.specs.Happened.{Happened, FilesFailed, SinkFailed, WireFailed}
-use Rattle.fs_base.specs.Sink.{Grew}
-use Rattle.fs_base.specs.Wire.{Told, WireEnds, opened_end}
-use Rattle.fs_base.specs.declared.config.Config.{Config}
-use Rattle.fs_base.specs.declared.config.Peer.{Peer}
-use Rattle.fs_speaker.specs.declared.Closed.TheVariants.{Fault}
-use Rattle.fs_speaker.specs.Announcer.{is_established}
-use Rattle.fs_speaker.specs.Sending.{sender_of}
-use Rattle.fs_speaker.specs.Session.{Last, closed, still}
-use Rattle.fs_speaker.specs.Times.{at_moment, tick_at}
+use Rattle.std.specs.Prelude.{◌≡◌, ◌⊎◌, ℕ, List, [], ◌∷◌, ◌++◌, length, nat_le, if◌then◌else◌, Some, None}
+use Rattle.fs_base.specs.{Happened.{Happened}, Sink.{Grew}, Wire.{Told, WireEnds, opened_end}, declared.config.{Config.{Config}, Peer.{Peer}}}
+use Rattle.fs_speaker.specs.{declared.Closed.TheVariants.{Fault}, Announcer.{is_established}, Sending.{sender_of}, Session.{Last, closed, still}, Times.{at_moment, tick_at}}
 use Rattle.fs_session.specs.declared.times.Tick.TheVariants.{Expires}
-use Rattle.fs_desk.specs.Desk.{Desked}
-use Rattle.fs_desk.specs.Limit.{bounded_from}
-use Rattle.fs_peering.specs.Round.{Pieces, moments_in, octets_in}
-use Rattle.fs_peering.specs.declared.tell.Ending.{Ending}
-use Rattle.fs_peering.specs.declared.tell.Ending.TheVariants.{Done, Closed as HasClosed, Ended, AtLimit}
-use Rattle.fs_peering.specs.Hearer.{Receives, tape_of, course_of}
-use Rattle.fs_peering.specs.Listen.{Listens, ListensSo}
-use Rattle.cmd_stages.specs.Load.{Names, config_stage}
-use Rattle.cmd_stages.specs.Refusal.{Answers, EndsEarly, Found, Stage, and_then, or_stop}
-use Rattle.cmd_stages.specs.declared.refusal.Refusal.TheVariants.{Rejected}
-use Rattle.cmd_wire.specs.Conversation.{Conversation}
-use Rattle.cmd_wire.specs.Listed.{IsListing, verdict_by}
+use Rattle.fs_desk.specs.{Desk.{Desked}, Limit.{bounded_from}}
+use Rattle.fs_peering.specs.{Round.{Pieces, octets_in}, declared.tell.Ending.{Ending, TheVariants.{Done, Closed as HasClosed, Ended, AtLimit}}, Hearer.{Receives, tape_of, course_of}, Listen.{Listens}}
+use Rattle.cmd_stages.specs.{Load.{Names, config_stage}, Refusal.{Found, Stage, and_then, or_stop}, declared.refusal.Refusal.TheVariants.{Rejected}}
+use Rattle.cmd_wire.specs.{Concluded.{Concludes}, Conversation.{Conversation}, Listed.{IsListing}}
 
 -- The configuration is accepted, and this is its peer with the lowest number.
 abbrev pub with_peer : Config → Stage (Config × Peer)
@@ -66,31 +50,26 @@ abbrev pub IsHeard : Ending → Config → Peer → (limit : ℕ) → Pieces →
 IsHeard ending config peer limit heard =
     (ending ≡ ending_of config peer limit (octets_in heard)) ⊎ ((ending ≡ HasClosed (Fault 4 0)) × HasExpired config peer heard)
 
--- Of what the other end was to give these pieces were read, each before the clock answered a moment, and this was written
--- to it. Where they leave the session established, the text is the listing of a tape on which the peer comes up and sends
--- these octets.
-pub record Hears (ending : Ending) (config : Config) (peer : Peer) (text : List ℕ) (limit : ℕ) (given : List ℕ)
-    (before now : WireEnds) : Type 0 where
-  pub desk : Desked
-  pub config_is : desk.config ≡ config
-  pub heard : Pieces
-  pub said : List ℕ
-  pub read : before.first.to_receive ≡ octets_in heard ++ now.first.left
-  pub wrote : now.first.written ≡ before.first.written ++ said
-  pub asked : moments_in heard ≡ given
-  pub ends : ListensSo ending desk peer.number peer limit heard said now.first.left
-  pub due : IsHeard ending config peer limit heard
-  pub lists : ending ≡ Done → IsListing config (tape_of peer.number (octets_in heard)) text
-
--- The same, where wire and clock tell.
-pub record Heard (ending : Ending) (config : Config) (peer : Peer) (text : List ℕ) (limit : ℕ) (talk : Conversation) : Type 0 where
-  pub given : List ℕ
-  pub grew : Grew talk.answers talk.answers_now given
-  pub told : Told (Hears ending config peer text limit given) talk.ends talk.ends_now
-
 -- end 0 listens, and has taken a connection
 abbrev pub listening : WireEnds → WireEnds
 listening ends = record { first = opened_end ends.first; second = ends.second }
+
+-- Of what the other end was to give the end of the wire that took the connection gave these pieces, and this was said
+-- through it. The session's end is one that is due. Where they leave the session established, the text is the listing of a tape on
+-- which the peer comes up and sends these octets.
+pub record Hears (ending : Ending) (config : Config) (peer : Peer) (text : List ℕ) (limit : ℕ) (given : List ℕ)
+    (before now : WireEnds) : Type 0 where
+  pub desk : Desked
+  pub listens : Listens ending config desk peer.number limit given (listening before) now
+  pub whose_is : listens.whose ≡ peer
+  pub due : IsHeard ending config peer limit listens.heard
+  pub lists : ending ≡ Done → IsListing config (tape_of peer.number (octets_in listens.heard)) text
+
+-- The same, where wire and clock tell.
+pub record Heard (limit : ℕ) (talk : Conversation) (accepted : Config × Peer) (ending : Ending) (text : List ℕ) : Type 0 where
+  pub given : List ℕ
+  pub grew : Grew talk.answers talk.answers_now given
+  pub told : Told (Hears ending accepted.0 accepted.1 text limit given) talk.ends talk.ends_now
 
 -- by the desk
 pub record ListensThrough (ending : Ending) (config : Config) (desk : Desked) (number limit : ℕ) (talk : Conversation) : Type 0 where
@@ -99,24 +78,5 @@ pub record ListensThrough (ending : Ending) (config : Config) (desk : Desked) (n
   pub told : Told (λ before now. Listens ending config desk number limit given (listening before) now)
       talk.ends talk.ends_now
 
--- The configuration is accepted, the session with the other end ended so, and that was answered.
-pub record Listened (limit : ℕ) (holds : Names) (config : List ℕ) (failed : Type 0) (before now : Option (List ℕ))
-    (talk : Conversation) (answer : ℕ) : Type 0 where
-  pub accepted : Config
-  pub peer : Peer
-  pub found : hearing_stage limit holds config ≡ Found (accepted, peer)
-  pub ending : Ending
-  pub text : List ℕ
-  pub hears : Heard ending accepted peer text limit talk
-  pub answers : Answers (verdict_by ending text) failed before now answer
-
--- Or the run ended before anything was written.
-abbrev pub ListenedSo : (limit : ℕ) (holds : Names) → (config : List ℕ) → Type 0 → (before now : Option (List ℕ)) → Conversation → ℕ → Type 0
-ListenedSo limit holds config failed before now talk answer =
-    EndsEarly (hearing_stage limit holds config) failed before now answer
-    ⊎ Listened limit holds config failed before now talk answer
-
 abbrev pub ListensTo : (limit : ℕ) (holds : Names) → (config : List ℕ) → Happened → Conversation → ℕ → Type 0
-ListensTo limit holds config call talk answer =
-    ListenedSo limit holds config (FilesFailed call ⊎ (SinkFailed call ⊎ WireFailed call))
-    call.before.written call.now.written talk answer
+ListensTo limit holds config call talk answer = Concludes (hearing_stage limit holds config) (Heard limit talk) call answer

@@ -1,13 +1,10 @@
 //! The command `announce`.
 
 ghost use Rattle.std.specs.Prelude.{◌≡◌, ◌≤◌, ◌⊎◌, IfErr, IfOk, IsTrue};
-ghost use Rattle.fs_base.specs.Happened.{happened, with_wire};
-ghost use Rattle.fs_base.specs.Outside.{Rose};
-ghost use Rattle.fs_speaker.specs.Announcer.{CanSend};
-ghost use Rattle.fs_speaker.specs.Sending.{sender_of};
-ghost use Rattle.cmd_stages.specs.Refusal.{answered};
-ghost use Rattle.cmd_wire.specs.Announcing.{Announces, Connected, IsBrokenOff, IsOfSession};
-ghost use Rattle.cmd_wire.specs.Conversation.{conversation};
+ghost use Rattle.fs_base.specs.{Happened.{happened, with_wire}, Outside.{Rose}, Sink.{Grew}};
+ghost use Rattle.fs_speaker.specs.{Announcer.{CanSend}, Sending.{sender_of}};
+ghost use Rattle.cmd_stages.specs.{Load.{OpensFront, config_then, sending_stage}, Refusal.{IsOfFile, Reaches, answered}};
+ghost use Rattle.cmd_wire.specs.{Announcing.{Announces, Connected, IsBrokenOff, IsOfSession}, Conversation.{conversation}};
 
 use crate::tell::tell_ending;
 use cmd_stages::{Refusal, load_config, load_rules};
@@ -47,6 +44,8 @@ pub fn announce<F: Files, S: Sink, W: Wire, C: Clock>(
     ensures quiet { (answered result ≡ 3) ⊎ (answered result ≡ 6) → sink.new ≡ sink.old }
     ensures unspoken { answered result ≡ 3 → wire.new ≡ wire.old }
     ensures unasked { answered result ≡ 3 → clock.new ≡ clock.old }
+    ensures opens { OpensFront (config_then 2 order.now.config.now order.now.rules.now)
+        (F.opened files.old) (F.opened files.new) (answered result) }
 
     ensures announces { IsTrue F.tells
         → Announces order.now.limit (F.holds files.old) order.now.config.now order.now.rules.now
@@ -54,11 +53,35 @@ pub fn announce<F: Files, S: Sink, W: Wire, C: Clock>(
         (conversation W.Wire C.Clock wire.old wire.new clock.old clock.new)
         (answered result) }
 {
-    let config = load_config(alloc, files, order.config, order.limit)?;
-    let sending = load_rules(alloc, files, &config, order.rules, order.limit)?;
+    let (config, sending) = load_both(alloc, files, order.config, order.rules, order.limit)?;
     let count = sending.rules.as_slice().len();
     let ending = speak(alloc, wire, clock, &config, sending, order)?;
     tell_ending(alloc, ending, count, sink)
+}
+
+/// Reads the configuration, and the rules file beside it.
+///
+/// # Errors
+///
+/// The first of these: the configuration's, the rules file's.
+pub(crate) fn load_both<F: Files>(
+    alloc: Global,
+    files: &mut F,
+    config: &str,
+    rules: &str,
+    limit: u64,
+) -> Result<(Config, Sending), Refusal>
+    ensures possible { IsOfFile (answered result) }
+    ensures sendable { IfOk result (λ both. CanSend both.0 (sender_of both.0.peers) both.1) }
+    ensures opens { OpensFront (config_then 2 config.now rules.now) (F.opened files.old) (F.opened files.new) (answered result) }
+    ensures both { IfOk result (λ _. Grew (F.opened files.old) (F.opened files.new) (config_then 2 config.now rules.now).files) }
+    ensures reaches { IsTrue F.tells
+        → Reaches (λ both. both) (sending_stage limit (F.holds files.old) config.now rules.now)
+        (Rose (F.faults files.old) (F.faults files.new)) result }
+{
+    let config = load_config(alloc, files, config, limit)?;
+    let sending = load_rules(alloc, files, &config, rules, limit)?;
+    Ok((config, sending))
 }
 
 /// Connects, announces, and closes the connection.

@@ -25,7 +25,6 @@ pub fn closing_line(alloc: Global, why: Closed) -> Result<Vec<u8>, Memory>
     ensures { IfOk result (λ text. text.items ≡ closing_line why) }
 {
     let mut text = Vec::new(alloc);
-    append(b"session ", &mut text)?;
     append_closing(why, &mut text)?;
     append(b"\n", &mut text)?;
     Ok(text)
@@ -36,9 +35,11 @@ fn append_closing(why: Closed, text: &mut Vec<u8>) -> Result<(), Memory>
     ensures { OnOk result (text.new.items ≡ text.old.items ++ closing_text why) }
 {
     match why {
-        Closed::Fault { code, subcode } => append_codes(b"", code, subcode, text),
-        Closed::Notified { code, subcode } => append_codes(b"notified ", code, subcode, text),
-        Closed::NoFamily => append(b"family", text),
+        Closed::Fault { code, subcode } => append_codes(b"session ", code, subcode, text),
+        Closed::Notified { code, subcode } => {
+            append_codes(b"session notified ", code, subcode, text)
+        }
+        Closed::NoFamily => append(b"session family", text),
         Closed::Memory => Err(Memory),
     }
 }

@@ -1,10 +1,9 @@
 //! What is written where a desk was to be listed.
 
-ghost use Rattle.std.specs.Prelude.{◌≡◌, ◌≤◌, ◌⊎◌};
+ghost use Rattle.std.specs.Prelude.{◌≡◌, ◌≤◌};
 ghost use Rattle.fs_base.specs.Outside.{Rose};
 ghost use Rattle.cmd_stages.specs.Refusal.{answered};
-ghost use Rattle.cmd_wire.specs.Announcing.{IsOfSession};
-ghost use Rattle.cmd_wire.specs.Listed.{TellsListing};
+ghost use Rattle.cmd_wire.specs.{Announcing.{IsOfWire}, Listed.{TellsListing}};
 
 use crate::lines::ended_line;
 use crate::tell::{end_session, tell_closing};
@@ -30,8 +29,8 @@ pub fn tell_listing<S: Sink>(
     sink: &mut S,
 ) -> Result<(), Refusal>
     ensures later { S.faults sink.old ≤ S.faults sink.new }
-    ensures possible { IsOfSession (answered result) }
-    ensures quiet { (answered result ≡ 3) ⊎ (answered result ≡ 6) → sink.new ≡ sink.old }
+    ensures possible { IsOfWire (answered result) }
+    ensures quiet { answered result ≡ 6 → sink.new ≡ sink.old }
     ensures told { TellsListing ending desk.now (Rose (S.faults sink.old) (S.faults sink.new))
         (S.written sink.old) (S.written sink.new) (answered result) }
 {
@@ -46,8 +45,8 @@ pub fn tell_listing<S: Sink>(
 /// Writes the listing of the desk.
 fn write_listing<S: Sink>(alloc: Global, desk: &Desk<'_>, sink: &mut S) -> Result<(), Refusal>
     ensures later { S.faults sink.old ≤ S.faults sink.new }
-    ensures possible { IsOfSession (answered result) }
-    ensures quiet { (answered result ≡ 3) ⊎ (answered result ≡ 6) → sink.new ≡ sink.old }
+    ensures possible { IsOfWire (answered result) }
+    ensures quiet { answered result ≡ 6 → sink.new ≡ sink.old }
     ensures told { TellsListing Ending.Done desk.now (Rose (S.faults sink.old) (S.faults sink.new))
         (S.written sink.old) (S.written sink.new) (answered result) }
 {

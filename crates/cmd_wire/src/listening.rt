@@ -1,14 +1,11 @@
 //! The command `listen`.
 
 ghost use Rattle.std.specs.Prelude.{◌≡◌, ◌≤◌, ◌⊎◌, [], false, IfErr, IfOk, IsTrue, MatchResult};
-ghost use Rattle.fs_base.specs.Happened.{happened, with_wire};
-ghost use Rattle.fs_base.specs.Outside.{Rose};
+ghost use Rattle.fs_base.specs.{Happened.{happened, with_wire}, Outside.{Rose}};
 ghost use Rattle.fs_desk.specs.Desk.{standing_at_desk};
 ghost use Rattle.fs_peering.specs.Hearer.{Receives, is_ended};
-ghost use Rattle.cmd_stages.specs.Refusal.{HasReason, answered};
-ghost use Rattle.cmd_wire.specs.Announcing.{IsBrokenOff, IsOfSession};
-ghost use Rattle.cmd_wire.specs.Conversation.{conversation};
-ghost use Rattle.cmd_wire.specs.Listening.{Begins, ListensThrough, ListensTo, with_peer};
+ghost use Rattle.cmd_stages.specs.{Load.{OpensFront, config_alone}, Refusal.{HasReason, answered}};
+ghost use Rattle.cmd_wire.specs.{Announcing.{IsBrokenOff, IsOfSession}, Conversation.{conversation}, Listening.{Begins, ListensThrough, ListensTo, with_peer}};
 
 use crate::listed::tell_listing;
 use cmd_stages::{Refusal, load_config};
@@ -46,6 +43,8 @@ pub fn listen<F: Files, S: Sink, W: Wire, C: Clock>(
     ensures quiet { (answered result ≡ 3) ⊎ (answered result ≡ 6) → sink.new ≡ sink.old }
     ensures unspoken { answered result ≡ 3 → wire.new ≡ wire.old }
     ensures unasked { answered result ≡ 3 → clock.new ≡ clock.old }
+    ensures opens { OpensFront (config_alone order.now.config.now)
+        (F.opened files.old) (F.opened files.new) (answered result) }
 
     ensures listens { IsTrue F.tells
         → ListensTo order.now.limit (F.holds files.old) order.now.config.now

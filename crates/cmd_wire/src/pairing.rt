@@ -1,24 +1,15 @@
 //! The command `pair`.
 
-ghost use Rattle.std.specs.Prelude.{◌≡◌, ◌≤◌, ◌⊎◌, [], false, true, IfErr, IfOk, IsTrue, List, ℕ};
-ghost use Rattle.fs_base.specs.Happened.{happened, with_wire};
-ghost use Rattle.fs_base.specs.Outside.{Rose};
-ghost use Rattle.fs_base.specs.declared.config.Config.{Config};
-ghost use Rattle.fs_desk.specs.Desk.{standing_at_desk};
-ghost use Rattle.fs_peering.specs.Hearer.{Receives, is_ended};
-ghost use Rattle.fs_peering.specs.Teller.{is_over};
-ghost use Rattle.fs_speaker.specs.Announcer.{CanSend};
-ghost use Rattle.fs_speaker.specs.Sending.{sender_of};
-ghost use Rattle.fs_speaker.specs.declared.Sending.{Sending};
-ghost use Rattle.cmd_stages.specs.Refusal.{answered};
-ghost use Rattle.cmd_wire.specs.Announcing.{IsBrokenOff, IsOfSession};
-ghost use Rattle.cmd_wire.specs.Conversation.{conversation};
-ghost use Rattle.cmd_wire.specs.Listed.{ListsDesk};
-ghost use Rattle.cmd_wire.specs.Pairing.{BothBegin, Joined, Joins};
+ghost use Rattle.std.specs.Prelude.{◌≡◌, ◌≤◌, ◌⊎◌, IfErr, IfOk, IsTrue, List, ℕ};
+ghost use Rattle.fs_base.specs.{Happened.{happened, with_wire}, Outside.{Rose}, declared.config.Config.{Config}};
+ghost use Rattle.fs_speaker.specs.{Announcer.{CanSend}, Sending.{sender_of}, declared.Sending.{Sending}};
+ghost use Rattle.cmd_stages.specs.{Load.{OpensFront, config_then}, Refusal.{answered}};
+ghost use Rattle.cmd_wire.specs.{Announcing.{IsBrokenOff, IsOfSession}, Conversation.{conversation}, Listed.{ListsDesk}, Pairing.{AreReady, BothBegin, Joined, Joins}};
 
+use crate::announcing::load_both;
 use crate::listed::tell_listing;
 use crate::listening::lowest;
-use cmd_stages::{Refusal, load_config, load_rules};
+use cmd_stages::Refusal;
 use fs_base::{Clock, Config, Files, Opening, Sink, Wire};
 use fs_peering::{Buffers, Ending, Hearer, TalkFault, Teller, pair_over};
 use fs_speaker::Sending;
@@ -54,6 +45,8 @@ pub fn pair<F: Files, S: Sink, W: Wire, C: Clock>(
     ensures quiet { (answered result ≡ 3) ⊎ (answered result ≡ 6) → sink.new ≡ sink.old }
     ensures unspoken { answered result ≡ 3 → wire.new ≡ wire.old }
     ensures unasked { answered result ≡ 3 → clock.new ≡ clock.old }
+    ensures opens { OpensFront (config_then 2 order.now.config.now order.now.rules.now)
+        (F.opened files.old) (F.opened files.new) (answered result) }
 
     ensures joins { IsTrue F.tells
         → Joins order.now.limit (F.holds files.old) order.now.config.now order.now.rules.now
@@ -61,8 +54,7 @@ pub fn pair<F: Files, S: Sink, W: Wire, C: Clock>(
         (conversation W.Wire C.Clock wire.old wire.new clock.old clock.new)
         (answered result) }
 {
-    let config = load_config(alloc, files, order.config, order.limit)?;
-    let sending = load_rules(alloc, files, &config, order.rules, order.limit)?;
+    let (config, sending) = load_both(alloc, files, order.config, order.rules, order.limit)?;
     let mut ends = both_ends(alloc, &config, sending)?;
     let ending = join(alloc, wire, clock, &mut ends, order.limit)?;
     tell_listing(alloc, ending, ends.hearer.desk(), sink)
@@ -79,11 +71,8 @@ struct Ends<'a> {
 fn both_ends<'a>(alloc: Global, config: &'a Config, sending: Sending) -> Result<Ends<'a>, Refusal>
     requires { CanSend config.now (sender_of config.now.peers) sending }
     ensures broken { IfErr result (IsBrokenOff ⊥) }
-    ensures fresh { IfOk result (λ ends. Receives ends.hearer.desk ends.hearer.peer ends.hearer.count [] []) }
-    ensures open { IfOk result (λ ends. is_ended (standing_at_desk ends.hearer.desk ends.hearer.peer) ≡ false) }
-    ensures unheard { IfOk result (λ ends. ends.teller.count ≡ 0) }
-    ensures on { IfOk result (λ ends. ends.teller.hears_on ≡ true) }
-    ensures other { IfOk result (λ ends. is_over ends.teller.hears_on ends.teller.announcer.line ≡ false) }
+    ensures ready { IfOk result (λ ends. AreReady ends.hearer.desk ends.hearer.peer ends.hearer.count
+        ends.teller.count ends.teller.hears_on ends.teller.announcer.line) }
     ensures begins { IfOk result (λ ends. BothBegin config.entry.now sending
         ends.hearer.desk ends.hearer.peer ends.teller.announcer ends.teller.started) }
 {
@@ -101,11 +90,8 @@ fn join<W: Wire, C: Clock>(
     limit: u64,
 ) -> Result<Ending, Refusal>
     requires some { 1 ≤ limit }
-    requires fresh { Receives ends.old.hearer.desk ends.old.hearer.peer ends.old.hearer.count [] [] }
-    requires open { is_ended (standing_at_desk ends.old.hearer.desk ends.old.hearer.peer) ≡ false }
-    requires unheard { ends.old.teller.count ≡ 0 }
-    requires on { ends.old.teller.hears_on ≡ true }
-    requires other { is_over ends.old.teller.hears_on ends.old.teller.announcer.line ≡ false }
+    requires ready { AreReady ends.old.hearer.desk ends.old.hearer.peer ends.old.hearer.count
+        ends.old.teller.count ends.old.teller.hears_on ends.old.teller.announcer.line }
     ensures later { W.faults wire.old ≤ W.faults wire.new }
     ensures broken { IfErr result (IsBrokenOff (Rose (W.faults wire.old) (W.faults wire.new))) }
     ensures joined { IfOk result (λ ending. (config : Config) (sending : Sending) (text : List ℕ)

@@ -1,10 +1,9 @@
 //! What is written of a session's end.
 
-ghost use Rattle.std.specs.Prelude.{◌≡◌, ◌≢◌, ◌≤◌, ◌⊎◌};
+ghost use Rattle.std.specs.Prelude.{◌≡◌, ◌≢◌, ◌≤◌};
 ghost use Rattle.fs_base.specs.Outside.{Rose};
 ghost use Rattle.cmd_stages.specs.Refusal.{Answers, answered, verdict_with};
-ghost use Rattle.cmd_wire.specs.Announcing.{IsOfSession, verdict_of};
-ghost use Rattle.cmd_wire.specs.Lines.{closing_line};
+ghost use Rattle.cmd_wire.specs.{Announcing.{IsOfWire, verdict_of}, Lines.{closing_line}};
 
 use crate::lines::{closing_line, ended_line, sent_line};
 use cmd_stages::{Refusal, write_text};
@@ -28,8 +27,8 @@ pub fn tell_ending<S: Sink>(
     sink: &mut S,
 ) -> Result<(), Refusal>
     ensures later { S.faults sink.old ≤ S.faults sink.new }
-    ensures possible { IsOfSession (answered result) }
-    ensures quiet { (answered result ≡ 3) ⊎ (answered result ≡ 6) → sink.new ≡ sink.old }
+    ensures possible { IsOfWire (answered result) }
+    ensures quiet { answered result ≡ 6 → sink.new ≡ sink.old }
     ensures told { Answers (verdict_of ending count) (Rose (S.faults sink.old) (S.faults sink.new))
         (S.written sink.old) (S.written sink.new) (answered result) }
 {
@@ -44,8 +43,8 @@ pub fn tell_ending<S: Sink>(
 /// Writes the line of so many rules that were announced.
 fn tell_sent<S: Sink>(alloc: Global, count: usize, sink: &mut S) -> Result<(), Refusal>
     ensures later { S.faults sink.old ≤ S.faults sink.new }
-    ensures possible { IsOfSession (answered result) }
-    ensures quiet { (answered result ≡ 3) ⊎ (answered result ≡ 6) → sink.new ≡ sink.old }
+    ensures possible { IsOfWire (answered result) }
+    ensures quiet { answered result ≡ 6 → sink.new ≡ sink.old }
     ensures told { Answers (verdict_of Ending.Done count) (Rose (S.faults sink.old) (S.faults sink.new))
         (S.written sink.old) (S.written sink.new) (answered result) }
 {
@@ -56,8 +55,8 @@ fn tell_sent<S: Sink>(alloc: Global, count: usize, sink: &mut S) -> Result<(), R
 /// Writes the line of a session that closed, and answers that.
 pub(crate) fn tell_closing<S: Sink>(alloc: Global, why: Closed, sink: &mut S) -> Result<(), Refusal>
     ensures later { S.faults sink.old ≤ S.faults sink.new }
-    ensures possible { IsOfSession (answered result) }
-    ensures quiet { (answered result ≡ 3) ⊎ (answered result ≡ 6) → sink.new ≡ sink.old }
+    ensures possible { IsOfWire (answered result) }
+    ensures quiet { answered result ≡ 6 → sink.new ≡ sink.old }
     ensures told { Answers (verdict_with 8 (closing_line why)) (Rose (S.faults sink.old) (S.faults sink.new))
         (S.written sink.old) (S.written sink.new) (answered result) }
 {
@@ -68,8 +67,8 @@ pub(crate) fn tell_closing<S: Sink>(alloc: Global, why: Closed, sink: &mut S) ->
 /// Writes the line of a session that closed or ended, and answers that.
 pub(crate) fn end_session<S: Sink>(line: &[u8], sink: &mut S) -> Result<(), Refusal>
     ensures later { S.faults sink.old ≤ S.faults sink.new }
-    ensures possible { IsOfSession (answered result) }
-    ensures known { (answered result ≢ 3) × (answered result ≢ 6) }
+    ensures possible { IsOfWire (answered result) }
+    ensures known { answered result ≢ 6 }
     ensures told { Answers (verdict_with 8 line.now) (Rose (S.faults sink.old) (S.faults sink.new))
         (S.written sink.old) (S.written sink.new) (answered result) }
 {

@@ -1,6 +1,5 @@
 -- An action behind a list of actions.
-use Rattle.fs_actions.proofs.Words.{◌≡◌, ℕ, ◌-◌, List, [], ◌∷◌, ◌++◌, length, slice_get, refl, Some, None, arith, Less, AllByRecursion, last_or, IsStrictlySortedBy, nat_list_cmp_total, IsAction, IsAbove, IsActions}
-use Rattle.fs_actions.proofs.Insertion.{by_octets}
+use Rattle.fs_actions.proofs.{Words.{◌≡◌, ℕ, ◌-◌, List, [], ◌∷◌, ◌++◌, length, slice_get, refl, Some, None, arith, Less, AllByRecursion, last_or, IsStrictlySortedBy, nat_list_cmp_total, IsAction, IsAbove, IsActions}, Insertion.{by_octets}}
 
 last_at : (first : List ℕ) (xs : List (List ℕ)) → slice_get (first ∷ xs) (length xs) ≡ last_or (Some first) xs
 last_at first [] = refl

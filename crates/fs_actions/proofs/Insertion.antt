@@ -1,8 +1,6 @@
 -- Lists of actions in order, each once.
 use Rattle.fs_actions.proofs.Words.{◌≡◌, ℕ, zero, suc, ◌+◌, ◌<◌, ◌≤◌, List, [], ◌∷◌, ◌++◌, length, take, drop, get_or, refl, sym, ap, ◌∙◌, arith, add-one, Ordering, filter_map, Option, Some, Less, Equal, Greater, match_ordering, nat_cmp, ordering_index, ordering_reverse, is_lt, AllByRecursion, AllWithin, IsStrictlySortedBy, IsNonDecreasingBy, nat_list_cmp_total, tied_back, alike_right, cons_option, drop-cons, IsAction, normal_form, IsActions, with_action, with_actions}
-use Rattle.std.specs.Cmp.Lexicographic.{slice_cmp}
-use Rattle.std.proofs.lemmas.List.Sorted.{searchable_from_sorted}
-use Rattle.std.proofs.Math.ListN.{drop_of_length-le}
+use Rattle.std.{specs.Cmp.Lexicographic.{slice_cmp}, proofs.{lemmas.List.Sorted.{searchable_from_sorted}, Math.ListN.{drop_of_length-le}}}
 
 abbrev pub by_octets : List ℕ → List ℕ → Ordering
 by_octets = slice_cmp nat_cmp

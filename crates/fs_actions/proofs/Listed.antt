@@ -1,8 +1,6 @@
 -- What is in the list of a field's actions: exactly the normal forms of its listed communities.
-use Rattle.fs_actions.proofs.Words.{◌≡◌, ℕ, zero, suc, ◌<◌, List, [], ◌∷◌, length, get_or, refl, sym, ap, ◌∙◌, arith, ◌⊎◌, inl, inr, Contains, Ordering, filter_map, Option, Some, None, Less, Equal, Greater, match_ordering, cons_option, IsStrictlySortedBy, normal_form, communities, with_action, with_actions, actions_of}
+use Rattle.fs_actions.{proofs.{Words.{◌≡◌, ℕ, zero, suc, ◌<◌, List, [], ◌∷◌, length, get_or, refl, sym, ap, ◌∙◌, arith, ◌⊎◌, inl, inr, Contains, Ordering, filter_map, Option, Some, None, Less, Equal, Greater, match_ordering, cons_option, IsStrictlySortedBy, normal_form, communities, with_action, with_actions, actions_of}, Insertion.{by_octets, rising_with}}, specs.Laws.{IsListed, AreListed}}
 use Rattle.std.proofs.lemmas.Map.Lookups.{exact_bytes}
-use Rattle.fs_actions.specs.Laws.{IsListed, AreListed}
-use Rattle.fs_actions.proofs.Insertion.{by_octets, rising_with}
 
 abbrev IsAmong : List ℕ → List (List ℕ) → Type 0
 IsAmong x [] = ⊥

@@ -1,10 +1,6 @@
 -- The octets of a list of actions, and the list that they are read back as.
-use Rattle.fs_actions.proofs.Words.{◌≡◌, ℕ, ◌+◌, ◌*◌, ◌/◌, ◌<◌, List, [], ◌∷◌, ◌++◌, length, take, drop, get_or, refl, sym, ap, ◌∙◌, subst, arith, append_assoc, append-nil, filter_map, ◌&&◌, ◌==◌, ◌%◌, nat_lt, Less, Greater, AllByRecursion, concat, IsStrictlySortedBy, take-append_seam, drop-append_seam, IsAction, normal_form, IsActions, actions_of, are_communities, communities, with_action, with_actions}
-use Rattle.std.specs.Simd.{first_chunks}
-use Rattle.std.proofs.lemmas.List.{length-append}
-use Rattle.std.proofs.lemmas.Bool.Decides.{nat_tests}
-use Rattle.fs_actions.proofs.Insertion.{by_octets, with_step, reversed}
-use Rattle.std.proofs.lemmas.List.{take_more}
+use Rattle.fs_actions.proofs.{Words.{◌≡◌, ℕ, ◌+◌, ◌*◌, ◌/◌, ◌<◌, List, [], ◌∷◌, ◌++◌, length, take, drop, get_or, refl, sym, ap, ◌∙◌, subst, arith, append_assoc, append-nil, filter_map, ◌&&◌, ◌==◌, ◌%◌, nat_lt, Less, Greater, AllByRecursion, concat, IsStrictlySortedBy, take-append_seam, drop-append_seam, IsAction, normal_form, IsActions, actions_of, are_communities, communities, with_action, with_actions}, Insertion.{by_octets, with_step, reversed}}
+use Rattle.std.{specs.Simd.{first_chunks}, proofs.lemmas.{List.{length-append, take_more}, Bool.Decides.{nat_tests}}}
 use Rattle.fs_base.proofs.Octets.{each_at}
 
 concat-push : (xs : List (List ℕ)) (y : List ℕ) → concat (xs ++ y ∷ []) ≡ concat xs ++ y

@@ -1,10 +1,6 @@
 -- What the actions of a field are, whatever order its communities stand in.
-use Rattle.std.specs.Prelude.{◌≡◌, ◌↔◌, ℕ, List, Some, Contains}
-use Rattle.std.specs.List.Sorted.{IsStrictlySortedBy}
-use Rattle.std.specs.Cmp.Lexicographic.{slice_cmp}
-use Rattle.std.specs.Ordering.{nat_cmp}
-use Rattle.fs_actions.specs.Community.{normal_form}
-use Rattle.fs_actions.specs.Actions.{communities}
+use Rattle.std.specs.{Prelude.{◌≡◌, ◌↔◌, ℕ, List, Some, Contains}, List.Sorted.{IsStrictlySortedBy}, Cmp.Lexicographic.{slice_cmp}, Ordering.{nat_cmp}}
+use Rattle.fs_actions.specs.{Community.{normal_form}, Actions.{communities}}
 
 -- a listed community stands in the field, and this is its normal form
 pub record IsListed (octets action : List ℕ) : Type 0 where

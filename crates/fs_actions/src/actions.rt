@@ -1,16 +1,11 @@
 //! The actions of a route, and the communities that say them.
 
-ghost use Rattle.std.specs.Prelude.{◌≡◌, ◌↔◌, ℕ, None, Some, IsTrue, ◌∷◌, false, true, List, [], ◌++◌, IfOk, IsErrOf, OnErr, OnOk, length, nat_lt, slice_get, filter_map};
-ghost use Rattle.std.specs.List.{concat, last_or, list_any};
-ghost use Rattle.fs_actions.specs.Community.{IsAction, has_flag, is_discard, limit_of, mark_of, redirect_of};
-ghost use Rattle.fs_actions.specs.Actions.{IsAbove, IsActions, actions_of, are_communities, first_of, with_action};
-ghost use Rattle.std.specs.List.Sorted.{IsStrictlySortedBy};
-ghost use Rattle.std.specs.Cmp.Lexicographic.{slice_cmp};
-ghost use Rattle.std.specs.Ordering.{nat_cmp};
+ghost use Rattle.std.specs.{Prelude.{◌≡◌, ◌↔◌, ℕ, None, Some, IsTrue, ◌∷◌, false, true, List, [], ◌++◌, IfOk, IsErrOf, OnErr, OnOk, length, nat_lt, slice_get, filter_map}, List.{concat, last_or, list_any, Sorted.{IsStrictlySortedBy}}, Cmp.Lexicographic.{slice_cmp}, Ordering.{nat_cmp}};
+ghost use Rattle.fs_actions.specs.{Community.{IsAction, has_flag, is_discard, limit_of, mark_of, redirect_of}, Actions.{IsAbove, IsActions, actions_of, are_communities, first_of, with_action}};
 
 use crate::community::{Action, Rate, Redirect};
 use fs_base::Memory;
-use std::alloc::{AllocError, Global};
+use std::alloc::Global;
 use std::cmp::Ordering;
 use std::marker::Model;
 
@@ -29,16 +24,6 @@ impl From<Memory> for ActionFault {
     ghost from_gives = { λ e r. r ≡ Memory };
 
     fn from(_error: Memory) -> ActionFault {
-        ActionFault::Memory
-    }
-}
-
-impl From<AllocError> for ActionFault {
-    ghost use Rattle.fs_actions.specs.declared.actions.ActionFault.TheVariants.{Memory};
-
-    ghost from_gives = { λ e r. r ≡ Memory };
-
-    fn from(_error: AllocError) -> ActionFault {
         ActionFault::Memory
     }
 }
@@ -228,7 +213,7 @@ pub fn from_communities(alloc: Global, octets: &[u8]) -> Result<Actions, ActionF
         return Err(ActionFault::BadLength);
     }
     let (communities, _) = octets.as_chunks::<8>();
-    let mut list = Vec::with_capacity(alloc, communities.len())?;
+    let mut list = with_room(alloc, communities.len())?;
     for community in communities {
         let Some(action) = Action::of(community) else {
             continue;
@@ -237,6 +222,13 @@ pub fn from_communities(alloc: Global, octets: &[u8]) -> Result<Actions, ActionF
     }
     list.shrink_to_fit();
     Ok(Actions { list })
+}
+
+/// An empty list with room for so many actions.
+fn with_room(alloc: Global, count: usize) -> Result<Vec<Action>, Memory>
+    ensures { IfOk result (λ list. list.items ≡ []) }
+{
+    Ok(Vec::with_capacity(alloc, count)?)
 }
 
 /// Puts an action into a list that rises strictly, in its place. An action that is there stays alone.

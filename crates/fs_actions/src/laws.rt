@@ -1,9 +1,7 @@
 //! Laws of the definitions.
 
 ghost use Rattle.std.specs.Prelude.{ℕ, List};
-ghost use Rattle.fs_actions.specs.Actions.{actions_of};
-ghost use Rattle.fs_actions.specs.Laws.{AreListed};
-ghost use Rattle.fs_actions.specs.Same.{OnlySame};
+ghost use Rattle.fs_actions.specs.{Actions.{actions_of}, Laws.{AreListed}, Same.{OnlySame}};
 
 /// The actions of a field are exactly its listed communities in normal form, each once, by rising octets.
 pub fn actions_are_the_listed()

@@ -1,8 +1,6 @@
 -- Lists of prefixes are compared by what each shows.
-use Rattle.std.proofs.Common.{map}
+use Rattle.std.{proofs.Common.{map}, specs.Cmp.{Lexicographic.{pointwise}, Derive.Mapped.{pointwise-map}}}
 use Rattle.fs_attrs.proofs.Words.{◌≡◌, Bool, ◌&&◌, ◌==◌, List, sym, ap, ap₂, ◌∙◌, Prefix, shown, Shown, same_prefix, same_prefixes}
-use Rattle.std.specs.Cmp.Lexicographic.{pointwise}
-use Rattle.std.specs.Cmp.Derive.Mapped.{pointwise-map}
 use Rattle.fs_base.specs.contracts.prefix.PrefixPartialEq.TheImpl.{ghosts}
 use Rattle.fs_nlri.proofs.Equal.{same_families}
 

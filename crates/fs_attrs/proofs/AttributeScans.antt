@@ -1,7 +1,6 @@
 -- Loops that gather the values of attributes, or look for a wrong segment.
-use Rattle.fs_attrs.proofs.Words.{◌≡◌, ℕ, suc, ◌==◌, Bool, true, false, not, cond, ◌&&◌, ◌||◌, nat_lt, List, [], ◌∷◌, length, Option, Some, None, refl, sym, ap, subst, ◌∙◌, arith, if◌then◌else◌, option_map, find, filter, list_any, option_or, is_some, is_none, nat_tests, Segment, parts_of, parts_step, parts_end, Terms, Attribute, first_attribute, attributes_of, are_attributes, value_of, is_doubled, stands_before, routes_doubled, Valued, values_of, values_with, kept_of, has_kept, first_segment, is_confederation, path_wrong}
+use Rattle.fs_attrs.proofs.{Words.{◌≡◌, ℕ, suc, ◌==◌, Bool, true, false, not, cond, ◌&&◌, ◌||◌, nat_lt, List, [], ◌∷◌, length, Option, Some, None, refl, sym, ap, subst, ◌∙◌, arith, if◌then◌else◌, option_map, find, filter, list_any, option_or, is_some, is_none, nat_tests, Segment, parts_of, parts_step, parts_end, Terms, Attribute, first_attribute, attributes_of, are_attributes, value_of, is_doubled, stands_before, routes_doubled, Valued, values_of, values_with, kept_of, has_kept, first_segment, is_confederation, path_wrong}, PartSizes.{attribute_shrinks, segment_shrinks}}
 use Rattle.fs_base.proofs.Bools.{or_false, or_weaker}
-use Rattle.fs_attrs.proofs.PartSizes.{attribute_shrinks, segment_shrinks}
 
 -- the attributes of octets are the first one and those behind it
 pub attributes_more : (octets : List ℕ) (found : Attribute × List ℕ) → first_attribute octets ≡ Some found → attributes_of octets ≡ found.0 ∷ attributes_of found.1

@@ -1,9 +1,6 @@
 -- What is read of a field of frames is its one outcome.
-use Rattle.fs_attrs.proofs.Words.{◌≡◌, ℕ, List, Option, Some, Result, Ok, Err, ap, Family, Reason, Ruled, Frames, AreBadFrames, IsOctets, Routes, Flow, Bad, ReadsAs, field_fault, IsFieldFault, Wrong, flow_routes, rules_of}
-use Rattle.fs_nlri.proofs.OneOutcome.{one_field_outcome}
-use Rattle.fs_attrs.proofs.RulesRead.{outcome_is}
-use Rattle.fs_nlri.specs.declared.fault.NlriFault.{NlriFault}
-use Rattle.fs_nlri.specs.declared.fault.NlriFault.TheVariants.{Memory as NoMemory}
+use Rattle.fs_attrs.proofs.{Words.{◌≡◌, ℕ, List, Option, Some, Result, Ok, Err, ap, Family, Reason, Ruled, Frames, AreBadFrames, IsOctets, Routes, Flow, Bad, ReadsAs, field_fault, IsFieldFault, Wrong, flow_routes, rules_of}, RulesRead.{outcome_is}}
+use Rattle.fs_nlri.{proofs.OneOutcome.{one_field_outcome}, specs.declared.fault.NlriFault.{NlriFault, TheVariants.{Memory as NoMemory}}}
 
 abbrev routes_at : Family → Result (List Ruled) (Reason × ℕ) → Result (Option Routes) Wrong
 routes_at family found = elim found [ Ok rules ↦ Ok (Some (Flow family rules)) | Err bad ↦ Err (Some bad) ]

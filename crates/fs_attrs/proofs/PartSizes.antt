@@ -1,7 +1,6 @@
 -- Each part of an UPDATE takes octets.
 use Rattle.fs_attrs.proofs.Words.{◌≡◌, ℕ, ◌*◌, ◌<◌, ◌≤◌, ◌==◌, Bool, true, false, ◌&&◌, bit_and, nat_le, nat_lt, List, [], ◌∷◌, length, take, drop, Option, Some, None, refl, sym, ap, arith, if◌then◌else◌, option_map, nat_tests, big_number, Shrinks, Family, Segment, width_of, octets_for, first_bits, Attribute, attribute, sized, short_field, long_field, first_attribute, Shown, shown_as, first_prefix, as_width, first_as, numbers_of, segment, first_segment}
-use Rattle.std.proofs.lemmas.List.{length-drop}
-use Rattle.std.proofs.lemmas.Option.{cond_some}
+use Rattle.std.proofs.lemmas.{List.{length-drop}, Option.{cond_some}}
 
 not_chosen : {A : Type 0} (test : Bool) (a b : A) → (if test then None else Some a) ≡ Some b → (test ≡ false) × (a ≡ b)
 not_chosen true a b h = cc

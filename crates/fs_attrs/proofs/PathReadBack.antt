@@ -1,9 +1,6 @@
 -- The attributes of a path that are written are none of the causes of treat-as-withdraw, and say that path.
-use Rattle.fs_attrs.proofs.Words.{◌≡◌, ℕ, ◌^◌, ◌<◌, ◌≤◌, ◌==◌, Bool, true, false, not, ◌&&◌, ◌||◌, nat_le, nat_lt, List, [], ◌∷◌, length, Option, Some, None, refl, sym, ap, subst, ◌∙◌, arith, if◌then◌else◌, option_map, option_and_then, unwrap_or, IfSome, is_none, option_map_or, AllByRecursion, list_all, list_any, recursion_from_All, append-nil, nil_from_length, and_parts, eqb-true, nat_tests, big_number, big_bytes, big_number-reads_back, Segment, Path, Terms, Update, value_of, values_of, is_confederation, is_written_segment, AreNumbers, are_low, four_octets, path_of, withdraws, written_attributes, IsPath, is_path_of_session}
-use Rattle.fs_actions.specs.Actions.{are_communities, IsActions, actions_of}
-use Rattle.fs_actions.proofs.ReadBack.{read_back as actions_back, whole_joined}
-use Rattle.fs_attrs.proofs.TextsReadBack.{FitsAs, FitsSegment, segments_whole, segments_read}
-use Rattle.fs_attrs.proofs.WrittenAttributes.{none_value, origin_value, segments_value, pref_octets, pref_value, originator_value, actions_octets, actions_value}
+use Rattle.fs_attrs.proofs.{Words.{◌≡◌, ℕ, ◌^◌, ◌<◌, ◌≤◌, ◌==◌, Bool, true, false, not, ◌&&◌, ◌||◌, nat_le, nat_lt, List, [], ◌∷◌, length, Option, Some, None, refl, sym, ap, subst, ◌∙◌, arith, if◌then◌else◌, option_map, option_and_then, unwrap_or, IfSome, is_none, option_map_or, AllByRecursion, list_all, list_any, recursion_from_All, append-nil, nil_from_length, and_parts, eqb-true, nat_tests, big_number, big_bytes, big_number-reads_back, Segment, Path, Terms, Update, value_of, values_of, is_confederation, is_written_segment, AreNumbers, are_low, four_octets, path_of, withdraws, written_attributes, IsPath, is_path_of_session}, TextsReadBack.{FitsAs, FitsSegment, segments_whole, segments_read}, WrittenAttributes.{none_value, origin_value, segments_value, pref_octets, pref_value, originator_value, actions_octets, actions_value}}
+use Rattle.fs_actions.{specs.Actions.{are_communities, IsActions, actions_of}, proofs.ReadBack.{read_back as actions_back, whole_joined}}
 
 -- segments
 

@@ -1,20 +1,8 @@
 -- The rules of a field as they are read from the front are the outcome that the grammar of flow rules gives.
 use Rattle.std.proofs.Common.{append-nil}
 use Rattle.fs_attrs.proofs.Words.{◌≡◌, ℕ, zero, suc, ◌+◌, ◌-◌, ◌<◌, ◌≤◌, ◌==◌, Bool, true, false, List, [], ◌∷◌, ◌++◌, Option, Some, None, Result, Ok, Err, Any, Contains, length, take, drop, refl, ap, sym, subst, ◌∙◌, arith, ◌⊎◌, inl, inr, bit_and, append_assoc, length-append, length-drop, list_any, take-append-drop, take_rest, Contains-append_right, Contains-push_cases, Contains-append_cases, cases_lt, cases_eq, cases_Bool, lt-ltb, le-ltb, le-leb, eq-eqb, ne_eqb, big_number, Family, IsOctets, octets_drop, counted_bits, ends, width_code, text, Reason, Bad, Form, V4Form, V6Form, ListForm, form_of, forms, Body, Part, part, Ruled, SpellsBody, Spells, IsRange, IsLength, IsFrame, octets_for, IsFrameOutcome, IsFieldOutcome, list_bad, v4_at, v6_at, with_pair, pairs_at, list_body, body_at, behind_type, typed_at, with_component, components_of, components_in, length_at, framed, sized_at, frame_at, with_rule, frames_of, rules_of}
-use Rattle.fs_ops.specs.declared.kind.Kind.{Kind}
-use Rattle.fs_ops.specs.declared.fault.OpsFault.TheVariants.{Cut as ListCut, Width as ListWidth}
-use Rattle.fs_ops.specs.Operator.{width_of}
-use Rattle.fs_ops.specs.OperatorList.{Spells as SpellsPairs}
-use Rattle.fs_ops.specs.Fault.{IsFault}
-use Rattle.fs_ops.proofs.Found.{cut_between, cut_within, bad_width, next_found, goes_on, ends_here, HasRead as HasPairs}
-use Rattle.fs_nlri.specs.declared.fault.Reason.TheVariants.{Cut, NoType, Order, PrefixLength, Offset, Width, Length}
-use Rattle.fs_nlri.specs.Making.{is_range}
-use Rattle.fs_nlri.specs.Fault.{IsValueBad, IsOpen}
-use Rattle.fs_nlri.proofs.Bodies.{v4_empty, v4_length, v4_cut, v6_empty, v6_length, v6_one, v6_offset, v6_cut}
-use Rattle.fs_nlri.proofs.ValueSteps.{HasRead, start, finished, no_type, not_above, bad_at}
-use Rattle.fs_nlri.proofs.Frames.{frame_found, frame_bad}
-use Rattle.fs_nlri.proofs.Every.{IsBodyOutcome, IsValueOutcome, AllowsSome, allows_at, all_allow, v4_whole, v6_whole, range_or_not, more_part, none_is_not_some, some_is, open_empty, open_one, passes_end, frame_before_bad, frame_some}
-use Rattle.fs_nlri.proofs.InNormalForm.{range_is}
+use Rattle.fs_ops.{specs.{declared.{kind.Kind.{Kind}, fault.OpsFault.TheVariants.{Cut as ListCut, Width as ListWidth}}, Operator.{width_of}, OperatorList.{Spells as SpellsPairs}, Fault.{IsFault}}, proofs.Found.{cut_between, cut_within, bad_width, next_found, goes_on, ends_here, HasRead as HasPairs}}
+use Rattle.fs_nlri.{specs.{declared.fault.Reason.TheVariants.{Cut, NoType, Order, PrefixLength, Offset, Width, Length}, Making.{is_range}, Fault.{IsValueBad, IsOpen}}, proofs.{Bodies.{v4_empty, v4_length, v4_cut, v6_empty, v6_length, v6_one, v6_offset, v6_cut}, ValueSteps.{HasRead, start, finished, no_type, not_above, bad_at}, Frames.{frame_found, frame_bad}, Every.{IsBodyOutcome, IsValueOutcome, AllowsSome, allows_at, all_allow, v4_whole, v6_whole, range_or_not, more_part, none_is_not_some, some_is, open_empty, open_one, passes_end, frame_before_bad, frame_some}, InNormalForm.{range_is}}}
 
 -- Prefixes
 

@@ -1,8 +1,7 @@
 -- What is written of fields, attributes, prefixes and segments is read back as it was.
-use Rattle.fs_attrs.proofs.Words.{◌≡◌, ℕ, suc, ◌+◌, ◌-◌, ◌*◌, ◌/◌, ◌^◌, ◌<◌, ◌≤◌, ◌==◌, Bool, true, false, ◌||◌, nat_le, nat_lt, List, [], ◌∷◌, ◌++◌, length, drop, Option, Some, None, refl, sym, ap, subst, ◌∙◌, arith, if◌then◌else◌, length-append, append_assoc, bit_or, flat_map, AllByRecursion, take_at, drop_at, nat_tests, big_number, big_bytes, length-bytes_high_first, big_number-reads_back, Shrinks, parts_of, with_part, parts_end, parts_step, Family, V4, V6, Segment, width_of, cleared, octets_for, first_octets, octets_back, Attribute, sized, long_field, first_attribute, Shown, first_prefix, are_prefixes, prefixes_of, as_width, first_as, numbers_of, first_segment, segments_of, are_segments, as_text, segment_text, segments_text, long_text, prefix_text, prefixes_text, flags_of, attribute_text}
+use Rattle.fs_attrs.proofs.{Words.{◌≡◌, ℕ, suc, ◌+◌, ◌-◌, ◌*◌, ◌/◌, ◌^◌, ◌<◌, ◌≤◌, ◌==◌, Bool, true, false, ◌||◌, nat_le, nat_lt, List, [], ◌∷◌, ◌++◌, length, drop, Option, Some, None, refl, sym, ap, subst, ◌∙◌, arith, if◌then◌else◌, length-append, append_assoc, bit_or, flat_map, AllByRecursion, take_at, drop_at, nat_tests, big_number, big_bytes, length-bytes_high_first, big_number-reads_back, Shrinks, parts_of, with_part, parts_end, parts_step, Family, V4, V6, Segment, width_of, cleared, octets_for, first_octets, octets_back, Attribute, sized, long_field, first_attribute, Shown, first_prefix, are_prefixes, prefixes_of, as_width, first_as, numbers_of, first_segment, segments_of, are_segments, as_text, segment_text, segments_text, long_text, prefix_text, prefixes_text, flags_of, attribute_text}, PartSizes.{attribute_shrinks, prefix_shrinks, as_shrinks, segment_shrinks}}
 use Rattle.std.specs.Prelude.{bit_and}
 use Rattle.fs_message.specs.Write.{as_field}
-use Rattle.fs_attrs.proofs.PartSizes.{attribute_shrinks, prefix_shrinks, as_shrinks, segment_shrinks}
 
 -- parts: of what can be written each text is read as it was, whatever stands behind it
 

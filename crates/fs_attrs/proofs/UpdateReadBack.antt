@@ -1,16 +1,7 @@
 -- The body that is written is read as the update that it was written of.
-use Rattle.fs_attrs.proofs.Words.{◌≡◌, ℕ, suc, ◌+◌, ◌<◌, ◌≤◌, ◌==◌, Bool, true, false, not, ◌&&◌, ◌||◌, nat_le, nat_lt, List, [], ◌∷◌, ◌++◌, length, drop, Option, Some, None, Result, Ok, Err, refl, sym, ap, subst, ◌∙◌, arith, length-append, append_assoc, option_map, flat_map, IfSome, is_some, AllByRecursion, list_all, recursion_from_All, drop_at, nil_from_length, and_parts, not-true, eqb-true, nat_tests, big_number, big_bytes, big_number-reads_back, Family, V4, V6, Path, width_of, afi_of, cleared, Ruled, IsRule, canonical_frame, Frames, canonical_is_frame, Terms, Routes, Unicast, Flow, Update, UpdateFault, Attribute, body, body_of, value_of, stands_before, routes_doubled, Valued, values_of, Shown, prefixes_of, withdraws, Wrong, reach_of, unreach_of, routes_of, is_read, unicast_routes, flow_routes, if_there, both_of, optional_of, has_routes, long_text, prefixes_text, rules_text, attribute_text, hop_of, routes_text, reach_text, unreach_text, written_attributes, update_text, AreRoutes, IfRoutes, IsPath, IsSound, path_kept, keeps_numbers, ReadsBack, are_prefixes_of, are_rules_of, are_attribute_routes, if_routes, is_path_of_session, is_written_path, announces, has_its_path, is_writable, is_written_segment, are_low, IsPrefix}
+use Rattle.fs_attrs.{proofs.{Words.{◌≡◌, ℕ, suc, ◌+◌, ◌<◌, ◌≤◌, ◌==◌, Bool, true, false, not, ◌&&◌, ◌||◌, nat_le, nat_lt, List, [], ◌∷◌, ◌++◌, length, drop, Option, Some, None, Result, Ok, Err, refl, sym, ap, subst, ◌∙◌, arith, length-append, append_assoc, option_map, flat_map, IfSome, is_some, AllByRecursion, list_all, recursion_from_All, drop_at, nil_from_length, and_parts, not-true, eqb-true, nat_tests, big_number, big_bytes, big_number-reads_back, Family, V4, V6, Path, width_of, afi_of, cleared, Ruled, IsRule, canonical_frame, Frames, canonical_is_frame, Terms, Routes, Unicast, Flow, Update, UpdateFault, Attribute, body, body_of, value_of, stands_before, routes_doubled, Valued, values_of, Shown, prefixes_of, withdraws, Wrong, reach_of, unreach_of, routes_of, is_read, unicast_routes, flow_routes, if_there, both_of, optional_of, has_routes, long_text, prefixes_text, rules_text, attribute_text, hop_of, routes_text, reach_text, unreach_text, written_attributes, update_text, AreRoutes, IfRoutes, IsPath, IsSound, path_kept, keeps_numbers, ReadsBack, are_prefixes_of, are_rules_of, are_attribute_routes, if_routes, is_path_of_session, is_written_path, announces, has_its_path, is_writable, is_written_segment, are_low, IsPrefix}, RuleOctets.{frames_are}, FieldOutcome.{flow_found}, PathReadBack.{IsGiven, path_back, none_given, actions_read}, TextsReadBack.{long_read, attributes_read, IsShown, prefixes_whole, prefixes_read}, WrittenAttributes.{reach_value, unreach_value, reach_once, unreach_once}}, specs.{declared.update.UpdateFault.TheVariants.{List as ListFault}, Attributes.{Body}, Update.{gives_routes, updated_with, updated, read_body}}}
 use Rattle.std.specs.Prelude.{if◌then◌else◌}
-use Rattle.fs_base.specs.declared.config.Address.{Address}
-use Rattle.fs_base.proofs.Covers.{same_family_of}
-use Rattle.fs_attrs.specs.declared.update.UpdateFault.TheVariants.{List as ListFault}
-use Rattle.fs_attrs.specs.Attributes.{Body}
-use Rattle.fs_attrs.specs.Update.{gives_routes, updated_with, updated, read_body}
-use Rattle.fs_attrs.proofs.RuleOctets.{frames_are}
-use Rattle.fs_attrs.proofs.FieldOutcome.{flow_found}
-use Rattle.fs_attrs.proofs.PathReadBack.{IsGiven, path_back, none_given, actions_read}
-use Rattle.fs_attrs.proofs.TextsReadBack.{long_read, attributes_read, IsShown, prefixes_whole, prefixes_read}
-use Rattle.fs_attrs.proofs.WrittenAttributes.{reach_value, unreach_value, reach_once, unreach_once}
+use Rattle.fs_base.{specs.declared.config.Address.{Address}, proofs.Covers.{same_family_of}}
 
 -- the fields
 

@@ -1,6 +1,5 @@
 -- The values of the attributes that are written, type by type.
-use Rattle.fs_attrs.proofs.Words.{◌≡◌, ℕ, suc, ◌==◌, Bool, true, false, nat_lt, List, [], ◌∷◌, ◌++◌, length, Option, Some, None, refl, ap, ◌∙◌, arith, if◌then◌else◌, option_map, find, filter, is_some, option_or, concat, find-append, nat_tests, big_bytes, Path, Terms, Routes, Update, Attribute, attribute, value_of, is_doubled, reach_text, unreach_text, reach_in, unreach_in, next_hop_in, local_pref_in, originator_in, actions_in, path_in, written_attributes, segments_text}
-use Rattle.fs_attrs.proofs.AttributeScans.{value_here, above_one, there}
+use Rattle.fs_attrs.proofs.{Words.{◌≡◌, ℕ, suc, ◌==◌, Bool, true, false, nat_lt, List, [], ◌∷◌, ◌++◌, length, Option, Some, None, refl, ap, ◌∙◌, arith, if◌then◌else◌, option_map, find, filter, is_some, option_or, concat, find-append, nat_tests, big_bytes, Path, Terms, Routes, Update, Attribute, attribute, value_of, is_doubled, reach_text, unreach_text, reach_in, unreach_in, next_hop_in, local_pref_in, originator_in, actions_in, path_in, written_attributes, segments_text}, AttributeScans.{value_here, above_one, there}}
 
 -- no attribute is of the type
 abbrev Lacks : ℕ → List Attribute → Type 0

@@ -1,7 +1,6 @@
 -- What the rules of a field are by the grammar of flow rules.
 use Rattle.std.specs.Prelude.{ℕ, List}
-use Rattle.fs_base.specs.declared.prefix.Family.{Family}
-use Rattle.fs_base.specs.Language.{IsOctets}
+use Rattle.fs_base.specs.{declared.prefix.Family.{Family}, Language.{IsOctets}}
 use Rattle.fs_nlri.specs.Outcome.{IsFieldOutcome}
 use Rattle.fs_attrs.specs.Rules.{rules_of}
 

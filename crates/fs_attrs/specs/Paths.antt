@@ -1,13 +1,9 @@
 -- The path attributes of routes (RFC 4271, section 4.3; RFC 4456, section 8).
-use Rattle.std.specs.Prelude.{ℕ, ◌==◌, Bool, false, not, ◌&&◌, ◌||◌, nat_le, if◌then◌else◌, List, [], length, get_or, Option, Some, None, option_and_then, unwrap_or}
-use Rattle.std.specs.Option.{is_none, option_map_or}
-use Rattle.std.specs.List.{list_any}
+use Rattle.std.specs.{Prelude.{ℕ, ◌==◌, Bool, false, not, ◌&&◌, ◌||◌, nat_le, if◌then◌else◌, List, [], length, get_or, Option, Some, None, option_and_then, unwrap_or}, Option.{is_none, option_map_or}, List.{list_any}}
 use Rattle.byteorder.specs.Endian.{big_number}
 use Rattle.fs_base.specs.declared.path.Path.{Path}
 use Rattle.fs_actions.specs.Actions.{are_communities}
-use Rattle.fs_attrs.specs.Attributes.{Valued}
-use Rattle.fs_attrs.specs.Segments.{segments_of, are_segments, is_confederation}
-use Rattle.fs_attrs.specs.declared.update.Terms.{Terms}
+use Rattle.fs_attrs.specs.{Attributes.{Valued}, Segments.{segments_of, are_segments, is_confederation}, declared.update.Terms.{Terms}}
 
 -- ORIGIN is one octet 0, 1 or 2.
 abbrev pub origin_wrong : List ℕ → Bool

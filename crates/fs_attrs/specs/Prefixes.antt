@@ -1,9 +1,7 @@
 -- Unicast prefixes as UPDATE spells them (RFC 4271, section 4.3; RFC 4760, section 5). A prefix is seen as its
 -- family, its bits and its length.
 use Rattle.std.specs.Prelude.{ℕ, ◌==◌, Bool, ◌&&◌, nat_le, if◌then◌else◌, List, [], ◌∷◌, length, take, drop, Option, Some, None}
-use Rattle.fs_base.specs.declared.prefix.Family.{Family}
-use Rattle.fs_base.specs.Bits.{width_of}
-use Rattle.fs_base.specs.Parts.{parts_of}
+use Rattle.fs_base.specs.{declared.prefix.Family.{Family}, Bits.{width_of}, Parts.{parts_of}}
 use Rattle.fs_nlri.specs.Spelling.{octets_for, first_bits}
 
 abbrev pub Shown : Type 0

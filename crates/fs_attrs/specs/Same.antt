@@ -1,12 +1,8 @@
 -- Equality of lists of routes as `==` has it: equal routes, one after the other.
-use Rattle.std.specs.Prelude.{◌≡◌, Bool, ◌==◌, ◌&&◌, List}
-use Rattle.std.specs.Bool.{Decides}
-use Rattle.std.specs.Cmp.{IsEquivalence, unsigned_Decides, decided}
-use Rattle.std.specs.Cmp.Lexicographic.{pointwise, pointwise_decides}
+use Rattle.std.specs.{Prelude.{◌≡◌, Bool, ◌==◌, ◌&&◌, List}, Bool.{Decides}, Cmp.{IsEquivalence, unsigned_Decides, decided, Lexicographic.{pointwise, pointwise_decides}}}
 use Rattle.fs_base.specs.Bits.{afi_of}
 use Rattle.fs_ops.specs.Same.{both_decide}
-use Rattle.fs_nlri.specs.Parts.{Ruled}
-use Rattle.fs_nlri.specs.Same.{same_family_decides, same_rule, same_rule_decides}
+use Rattle.fs_nlri.specs.{Parts.{Ruled}, Same.{same_family_decides, same_rule, same_rule_decides}}
 use Rattle.fs_attrs.specs.Prefixes.{Shown}
 
 abbrev pub same_prefix : Shown → Shown → Bool
@@ -38,6 +34,3 @@ same_rules_decides = pointwise_decides same_rule_decides
 
 pub same_prefixes_law : IsEquivalence same_prefixes
 same_prefixes_law = decided same_prefixes same_prefixes_decides
-
-pub same_rules_law : IsEquivalence same_rules
-same_rules_law = decided same_rules same_rules_decides

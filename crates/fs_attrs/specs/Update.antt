@@ -1,20 +1,10 @@
 -- What an UPDATE says (RFC 4271, section 4.3; RFC 4760, sections 3 and 4), or its first fault. The order of the
 -- faults, and which of them closes a session with which code, are the project's own choice.
 use Rattle.std.specs.Prelude.{◌≡◌, ℕ, ◌==◌, Bool, not, ◌&&◌, ◌||◌, if◌then◌else◌, List, [], ◌++◌, length, Option, Some, None, Result, Ok, Err, unwrap_or, ⊤}
-use Rattle.fs_base.specs.declared.path.Path.{Path}
-use Rattle.fs_base.specs.declared.prefix.Family.TheVariants.{V4}
+use Rattle.fs_base.specs.declared.{path.Path.{Path}, prefix.Family.TheVariants.{V4}}
 use Rattle.fs_nlri.specs.Parts.{Ruled}
 use Rattle.fs_actions.specs.Actions.{actions_of}
-use Rattle.fs_attrs.specs.declared.update.Terms.{Terms}
-use Rattle.fs_attrs.specs.declared.update.Routes.{Routes}
-use Rattle.fs_attrs.specs.declared.update.Routes.TheVariants.{Unicast, Flow}
-use Rattle.fs_attrs.specs.declared.update.Update.{Update}
-use Rattle.fs_attrs.specs.declared.update.UpdateFault.{UpdateFault}
-use Rattle.fs_attrs.specs.declared.update.UpdateFault.TheVariants.{List as ListFault, Network, Optional, Memory}
-use Rattle.fs_attrs.specs.Attributes.{Valued, Body, body_of}
-use Rattle.fs_attrs.specs.Prefixes.{Shown, are_prefixes, prefixes_of}
-use Rattle.fs_attrs.specs.Paths.{withdraws, path_of}
-use Rattle.fs_attrs.specs.Routes.{has_routes, optional_of}
+use Rattle.fs_attrs.specs.{declared.update.{Terms.{Terms}, Routes.{Routes, TheVariants.{Unicast, Flow}}, Update.{Update}, UpdateFault.{UpdateFault, TheVariants.{List as ListFault, Network, Optional, Memory}}}, Attributes.{Valued, Body, body_of}, Prefixes.{Shown, are_prefixes, prefixes_of}, Paths.{withdraws, path_of}, Routes.{has_routes, optional_of}}
 
 -- the extended communities, none where they are missing
 abbrev pub communities_in : Valued → List ℕ

@@ -1,7 +1,6 @@
 //! Laws of the definitions.
 
-ghost use Rattle.fs_attrs.specs.Laws.{IsTheOutcome};
-ghost use Rattle.fs_attrs.specs.Same.{OnlySamePrefixes, OnlySameRules};
+ghost use Rattle.fs_attrs.specs.{Laws.{IsTheOutcome}, Same.{OnlySamePrefixes, OnlySameRules}};
 
 /// What is read of a field of flow specification NLRI is the outcome that the grammar of flow rules gives it; it has
 /// only one.

@@ -3,7 +3,7 @@
 ghost use Rattle.std.specs.Prelude.{◌≡◌, ◌==◌, length, map};
 ghost use Rattle.fs_nlri.specs.Rule.{shown};
 
-use fs_base::Prefix;
+use fs_base::{Items, Prefix};
 use fs_nlri::Rule;
 use std::marker::Model;
 
@@ -77,65 +77,4 @@ impl PrefixList {
 }
 
 /// Rules, as an UPDATE lists them.
-#[derive(Debug, Drop)]
-pub struct RuleList {
-    items: Vec<Rule>,
-}
-
-impl Model for RuleList {
-    ghost use Rattle.std.specs.Prelude.{List};
-    ghost use Rattle.fs_nlri.specs.Parts.{Ruled};
-
-    ghost Value = { List Ruled };
-
-    ghost view = { λ a. a.items.items };
-}
-
-impl PartialEq for RuleList {
-    ghost use Rattle.std.specs.Cmp.{partial_equiv_from_equiv};
-    ghost use Rattle.fs_attrs.specs.Same.{same_rules, same_rules_law};
-
-    ghost eq = { same_rules };
-
-    ghost laws = { partial_equiv_from_equiv same_rules_law };
-
-    fn eq(&self, other: &RuleList) -> bool {
-        self.items == other.items
-    }
-}
-
-impl Eq for RuleList {
-    ghost use Rattle.fs_attrs.specs.Same.{same_rules_law};
-
-    ghost laws = { same_rules_law };
-}
-
-impl RuleList {
-    /// The list of these rules, in their order.
-    pub fn new(items: Vec<Rule>) -> RuleList
-        ensures { result ≡ items.items }
-    {
-        RuleList { items }
-    }
-
-    /// Whether no route is listed.
-    pub fn is_empty(&self) -> bool
-        ensures { result ≡ (length self.now == 0) }
-    {
-        self.items.is_empty()
-    }
-
-    /// The rules.
-    pub fn as_slice(&self) -> &[Rule]
-        ensures { result.now ≡ self.now }
-    {
-        self.items.as_slice()
-    }
-
-    /// The rules, in their order.
-    pub fn into_vec(self) -> Vec<Rule>
-        ensures { result.items ≡ self }
-    {
-        self.items
-    }
-}
+pub type RuleList = Items<Rule>;

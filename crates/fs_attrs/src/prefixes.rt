@@ -1,13 +1,12 @@
 //! Unicast prefixes (RFC 4271, section 4.3).
 
-ghost use Rattle.std.specs.Prelude.{◌≡◌, ◌==◌, ◌+◌, ◌-◌, ◌*◌, ◌^◌, ◌≤◌, length, map, Some, None, if◌then◌else◌, option_map, IfOk};
-ghost use Rattle.byteorder.specs.Endian.{big_number};
+ghost use Rattle.std.specs.Prelude.{◌≡◌, ◌==◌, length, map, Some, None, if◌then◌else◌, option_map, IfOk};
 ghost use Rattle.fs_nlri.specs.Rule.{shown};
 ghost use Rattle.fs_attrs.specs.Prefixes.{first_prefix, all_prefixes};
 
 use crate::lists::PrefixList;
-use byteorder::{BigEndian, ByteOrder};
 use fs_base::{Family, Memory, Prefix};
+use fs_nlri::left_aligned;
 use std::alloc::Global;
 
 /// The prefixes of a field, or None where one is malformed.
@@ -46,18 +45,6 @@ fn next_prefix(family: Family, octets: &[u8]) -> Option<(Prefix, &[u8])>
         return None;
     }
     let (bits, behind) = rest.split_at_checked((usize::from(*length) + 7) / 8)?;
-    let prefix = Prefix::of_bits(family, left_aligned(bits, family.width()), *length);
+    let prefix = Prefix::of_bits(family, left_aligned(bits, family.width().into()), *length);
     Some((prefix, behind))
-}
-
-/// The octets as the highest of a number of `width` bits.
-fn left_aligned(octets: &[u8], width: u8) -> u128
-    requires fits { 8 * length octets.now ≤ width }
-    requires width { width ≤ 128 }
-    ensures { result ≡ big_number (length octets.now) octets.now * 2 ^ (width - 8 * length octets.now) }
-{
-    if octets.is_empty() {
-        return 0;
-    }
-    BigEndian::read_uint128(octets, octets.len()) << (usize::from(width) - 8 * octets.len())
 }

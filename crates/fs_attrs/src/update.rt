@@ -2,9 +2,7 @@
 
 ghost use Rattle.std.specs.Prelude.{◌≡◌, false, IfOk, not, unwrap_or, []};
 ghost use Rattle.fs_actions.specs.Actions.{actions_of, are_communities};
-ghost use Rattle.fs_attrs.specs.Attributes.{lent_value, lent_values};
-ghost use Rattle.fs_attrs.specs.Paths.{is_wrong, withdraws};
-ghost use Rattle.fs_attrs.specs.Update.{given_path, given_actions, update_of, Reads};
+ghost use Rattle.fs_attrs.specs.{Attributes.{lent_value, lent_values}, Paths.{is_wrong, withdraws}, Update.{given_path, given_actions, update_of, Reads}};
 
 use crate::attributes::{Values, split};
 use crate::lists::{PrefixList, RuleList};
@@ -74,7 +72,6 @@ pub enum WriteFault {
 }
 
 impl From<Memory> for UpdateFault {
-    ghost use Rattle.std.specs.Prelude.{◌≡◌};
     ghost use Rattle.fs_attrs.specs.declared.update.UpdateFault.TheVariants.{Memory};
 
     ghost from_gives = { λ e r. r ≡ Memory };
@@ -85,7 +82,6 @@ impl From<Memory> for UpdateFault {
 }
 
 impl From<Memory> for WriteFault {
-    ghost use Rattle.std.specs.Prelude.{◌≡◌};
     ghost use Rattle.fs_attrs.specs.declared.update.WriteFault.TheVariants.{Memory};
 
     ghost from_gives = { λ e r. r ≡ Memory };

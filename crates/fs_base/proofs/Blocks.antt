@@ -1,7 +1,6 @@
 -- Blocks of addresses, as plain numbers: where one lies in another.
-use Rattle.std.proofs.Common.{add-mul, mul-le-mul_right}
+use Rattle.std.proofs.{Common.{add-mul, mul-le-mul_right}, lemmas.Nat.{pow_pos}}
 use Rattle.fs_base.proofs.Words.{ℕ, ◌≡◌, ◌+◌, ◌-◌, ◌*◌, ◌/◌, ◌%◌, ◌^◌, ◌<◌, ◌≤◌, sym, ap, ◌∙◌, subst, arith, mul_assoc, one-mul, lt_of_mul-lt-mul_right, div-add-mod', pow-add, mod_below, div-mul-add, mod-eq_of_lt, div-mul-le_self, Family, V4, V6, width_of, cleared}
-use Rattle.std.proofs.lemmas.Nat.{pow_pos}
 pub use Rattle.fs_base.specs.Bits.{IsBlock, whole_width, block_cleared, block_below, block_of, block_again, cleared_again, min_short}
 
 pub width_most : (f : Family) → 2 ^ width_of f ≤ 2 ^ 128

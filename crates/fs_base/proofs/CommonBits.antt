@@ -1,7 +1,6 @@
 -- How many of the first bits of two numbers are the same.
-use Rattle.std.proofs.Common.{pow-add}
+use Rattle.std.{proofs.Common.{pow-add}, specs.Int.Bits.{xor_self}}
 use Rattle.fs_base.proofs.Words.{ℕ, ◌≡◌, ◌+◌, ◌-◌, ◌*◌, ◌/◌, ◌%◌, ◌^◌, ◌<◌, ◌≤◌, ◌⊎◌, inl, inr, sym, ap, ◌∙◌, arith, bit_xor, pow_pos, pow_mono, zero-mul, mul-div_cancel, div-eq_of_lt, bit_at, cases_lt, xor_shr, xor_lt, leading_length, shr_split, mod_below, same_from_bits, bit_at_xor, bit_at-lt, bit_at-zero, cleared}
-use Rattle.std.specs.Int.Bits.{xor_self}
 use lib.Count.{count_leading_zeros}
 use Rattle.fs_base.proofs.Blocks.{first_bits_of}
 

@@ -1,8 +1,6 @@
 -- Which prefixes lie under which, and how the order tells it.
 use Rattle.std.proofs.Common.{nat_le}
-use Rattle.fs_base.proofs.Words.{ℕ, ◌≡◌, ◌+◌, ◌-◌, ◌^◌, ◌<◌, ◌≤◌, ◌⊎◌, inl, inr, refl, sym, ap, ◌∙◌, subst, arith, true, ◌&&◌, ◌==◌, nat_cmp, is_le, pow_pos, true≢false, ordering_then, nat_tests, cases_lt, Family, V4, V6, Prefix, width_of, afi_of, cleared, covers, prefix_cmp, last_address}
-use Rattle.fs_base.proofs.Bools.{and_both, and_first, and_second, same_tests}
-use Rattle.fs_base.proofs.Blocks.{IsBlock, block_of, block_inside, block_meeting, block_ending}
+use Rattle.fs_base.proofs.{Words.{ℕ, ◌≡◌, ◌+◌, ◌-◌, ◌^◌, ◌<◌, ◌≤◌, ◌⊎◌, inl, inr, refl, sym, ap, ◌∙◌, subst, arith, true, ◌&&◌, ◌==◌, nat_cmp, is_le, pow_pos, true≢false, ordering_then, nat_tests, cases_lt, Family, V4, V6, Prefix, width_of, afi_of, cleared, covers, prefix_cmp, last_address}, Bools.{and_both, and_first, and_second, same_tests}, Blocks.{IsBlock, block_of, block_inside, block_meeting, block_ending}}
 
 pub same_family : (f g : Family) → afi_of f ≡ afi_of g → f ≡ g
 same_family V4 V4 h = refl

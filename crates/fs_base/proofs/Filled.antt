@@ -1,8 +1,9 @@
 -- The loop that fills a buffer: so many octets stand in it, and the rest is left.
-use Rattle.fs_base.proofs.Words.{◌≡◌, ℕ, List, [], ◌++◌, ◌<◌, ◌≤◌, ◌+◌, ◌-◌, length, take, drop, min, inl, inr, ap, sym, ◌∙◌, arith, append_assoc, length-append, take-append-add, drop_all, take-append-drop, take-append-le, length-take, length-drop, take-take, cases_lt, common_steps, window}
+use Rattle.fs_base.proofs.Words.{◌≡◌, ℕ, List, [], ◌++◌, ◌<◌, ◌≤◌, ◌+◌, ◌-◌, length, take, drop, min, inl, inr, ap, sym, ◌∙◌, arith, append_assoc, length-append, take-append-add, drop_all, take-append-drop, take-append-le, length-take, length-drop, take-take, cases_lt, common_steps, window, Ok, IsTrue, PassesIn, Counted}
 use Rattle.std.specs.Prelude.{◌⊎◌}
 use borrow.Rule.Slice.PartMut.{put_mid}
-use Rattle.fs_base.specs.Filling.{Fills}
+use Rattle.fs_base.specs.Filling.{Fills, FillsFrom, FillsIn}
+use Rattle.fs_outside.specs.declared.files.Files as files
 
 -- the first `count` octets of the buffer, and then what is left now, are what was left at the start
 pub record Filled (start now into : List ℕ) (count : ℕ) : Type 0 where
@@ -139,3 +140,11 @@ pub fills_straight : (back back' left left' into : List ℕ) (limit taken count 
 fills_straight back back' left left' into limit taken count none later f =
     let none_later : back' ≡ [] = none_left back back' count none later in
     rw (none, none_later) at f
+
+-- a call that fills, by the parts that search doesn't find
+pub fills_in : {F E : Type 0} {of_files : files.Ghosts F} {old new : F} {before now : Counted} {into : List ℕ} {n : ℕ}
+    → (n ≤ length into) × (now.taken ≡ before.taken + n) × (before.back ≡ [] → now.back ≡ []) → now.back ≡ drop n before.back
+    → (IsTrue of_files.tells → FillsFrom of_files old new before now into n) → PassesIn of_files old new before now
+    → FillsIn {E = E} of_files old new before now into (Ok n)
+fills_in rest back filled passes =
+    record { failed = tt; bound = rest.0; taken = rest.1; filled = filled; back = back; none = rest.2; passes = passes }

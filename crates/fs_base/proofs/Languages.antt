@@ -1,6 +1,5 @@
 -- Laws of the words of specs/Language: what a cut and a first fault are, whatever the language.
-use Rattle.fs_base.proofs.Words.{◌≡◌, ℕ, ◌+◌, ◌<◌, ◌≤◌, List, [], ◌++◌, length, take, drop, sym, subst, ◌⊎◌, inl, inr, arith, length-append, append_assoc, take-append-drop, append-nil, cases_lt, IsOctets, Begins, IsCut, IsFirstFault}
-use Rattle.fs_base.proofs.Octets.{octets_nil, octets_append, octets_take, octets_drop, take-append-add, take_longer}
+use Rattle.fs_base.proofs.{Words.{◌≡◌, ℕ, ◌+◌, ◌<◌, ◌≤◌, List, [], ◌++◌, length, take, drop, sym, subst, ◌⊎◌, inl, inr, arith, length-append, append_assoc, take-append-drop, append-nil, cases_lt, IsOctets, Begins, IsCut, IsFirstFault}, Octets.{octets_nil, octets_append, octets_take, octets_drop, take-append-add, take_longer}}
 
 -- a text begins itself
 pub whole_begins : (Whole : List ℕ → Type 0) (octets : List ℕ) → Whole octets → Begins Whole octets

@@ -1,11 +1,7 @@
 -- Lists: what holds of each element, filters, and an ordered map's entries after a change.
-use Rattle.fs_base.proofs.Words.{◌≡◌, refl, sym, ap, subst, ◌∙◌, Bool, true, false, cond, ◌&&◌, ◌||◌, List, [], ◌∷◌, ◌++◌, filter, map, true≢false, Some, Ordering, Less, Equal, Greater, is_eq, is_le, AllByRecursion, list_any, list_all, find, match_ordering}
+use Rattle.fs_base.proofs.{Words.{◌≡◌, refl, sym, ap, subst, ◌∙◌, Bool, true, false, cond, ◌&&◌, ◌||◌, List, [], ◌∷◌, ◌++◌, filter, map, true≢false, Some, Ordering, Less, Equal, Greater, is_eq, is_le, AllByRecursion, list_any, list_all, find, match_ordering}, Bools.{or_false, or_first, or_second}}
 pub use Rattle.std.proofs.lemmas.List.Elements.{filter-append}
-use Rattle.std.specs.List.Sorted.{IsStrictlySortedBy}
-use Rattle.std.specs.BTreeMap.{insert_entry}
-use Rattle.std.specs.Map.{keys_of, remove_entry}
-use Rattle.std.proofs.lemmas.Map.Keys.{sorted_head, sorted_tail}
-use Rattle.fs_base.proofs.Bools.{or_false, or_first, or_second}
+use Rattle.std.{specs.{List.Sorted.{IsStrictlySortedBy}, BTreeMap.{insert_entry}, Map.{keys_of, remove_entry}}, proofs.lemmas.Map.Keys.{sorted_head, sorted_tail}}
 
 pub each_weaker : {X : Type 0} (P Q : X → Type 0) → ((x : X) → P x → Q x) → (xs : List X) → AllByRecursion P xs → AllByRecursion Q xs
 each_weaker P Q h [] k = tt

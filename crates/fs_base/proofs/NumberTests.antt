@@ -1,6 +1,6 @@
 use Rattle.fs_base.proofs.Words.{nat_tests, ◌≡◌, ◌==◌, ℕ, true, arith, false, ◌<◌, ◌≤◌, ◌+◌, ◌*◌, nat_le, add-mul, mul-le-mul_right}
 
--- Laws of numbertests.
+-- What tests of numbers answer, where it is known which number is the greater; and where a row of a table ends.
 
 pub eq_itself : (n : ℕ) → (n == n) ≡ true
 eq_itself n = grind (arith, nat_tests)

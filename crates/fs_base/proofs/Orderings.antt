@@ -1,7 +1,6 @@
 -- Laws of orderings.
 use Rattle.fs_base.proofs.Words.{◌≡◌, refl, true, is_eq, Ordering, Less, Equal, Greater, is_le, ◌==◌, ℕ, arith, ordering_then, is_lt, nat_tests}
-use Rattle.std.specs.Ordering.{nat_cmp, is_eq}
-use Rattle.std.specs.declared.cmp.Ordering.TheVariants.{Less, Equal, Greater}
+use Rattle.std.specs.{Ordering.{nat_cmp, is_eq}, declared.cmp.Ordering.TheVariants.{Less, Equal, Greater}}
 
 pub equal_of_is_eq : (o : Ordering) → is_eq o ≡ true → o ≡ Equal
 equal_of_is_eq Less h = cc

@@ -1,9 +1,5 @@
 -- The order of prefixes is what its words say.
-use Rattle.fs_base.proofs.Words.{ℕ, ◌≡◌, ◌+◌, ◌-◌, ◌^◌, ◌<◌, ◌≤◌, ◌⊎◌, inl, inr, sym, ap, ◌∙◌, arith, true, false, nat_cmp, is_eq, Less, Equal, pow_pos, true≢false, ordering_then, cases_lt, nat_tests, V4, V6, Prefix, width_of, afi_of, covers, prefix_cmp, last_address, prefix_total}
-use Rattle.fs_base.specs.Laws.{IsPrecedence}
-use Rattle.fs_base.proofs.Covers.{Covers, covers_fact, meeting_covers, same_width}
-use Rattle.fs_base.proofs.Nesting.{Alike, alike, alike_test}
-use Rattle.fs_base.proofs.Orderings.{equal_of_is_eq}
+use Rattle.fs_base.{proofs.{Words.{ℕ, ◌≡◌, ◌+◌, ◌-◌, ◌^◌, ◌<◌, ◌≤◌, ◌⊎◌, inl, inr, sym, ap, ◌∙◌, arith, true, false, nat_cmp, is_eq, Less, Equal, pow_pos, true≢false, ordering_then, cases_lt, nat_tests, V4, V6, Prefix, width_of, afi_of, covers, prefix_cmp, last_address, prefix_total}, Covers.{Covers, covers_fact, meeting_covers, same_width}, Nesting.{Alike, alike, alike_test}, Orderings.{equal_of_is_eq}}, specs.Laws.{IsPrecedence}}
 
 first_family : (f g a b m n : ℕ) → f < g → ordering_then (nat_cmp f g) (ordering_then (nat_cmp a b) (nat_cmp n m)) ≡ Less
 first_family f g a b m n h = grind (arith, nat_tests)

@@ -1,9 +1,6 @@
 -- The bits of addresses.
-use Rattle.std.proofs.Common.{ℕ, min, ◌≡◌, ◌+◌, ◌-◌, ◌*◌, ◌/◌, ◌%◌, ◌^◌, ◌<◌, ◌≤◌, refl, sym, ap, ◌∙◌, subst, arith}
-use Rattle.std.proofs.lemmas.Nat.{pow_pos, pow-add, mod_below, div_below, row_fits}
-use Rattle.std.proofs.Math.Nat.{mod-eq_of_lt, mul-div_cancel}
-use Rattle.fs_base.specs.declared.prefix.Family.{Family}
-use Rattle.fs_base.specs.declared.prefix.Family.TheVariants.{V4, V6}
+use Rattle.std.proofs.{Common.{ℕ, min, ◌≡◌, ◌+◌, ◌-◌, ◌*◌, ◌/◌, ◌%◌, ◌^◌, ◌<◌, ◌≤◌, refl, sym, ap, ◌∙◌, subst, arith}, lemmas.Nat.{pow_pos, pow-add, mod_below, div_below, row_fits}, Math.Nat.{mod-eq_of_lt, mul-div_cancel}}
+use Rattle.fs_base.specs.declared.prefix.Family.{Family, TheVariants.{V4, V6}}
 
 -- address family numbers, RFC 4760 section 3
 abbrev pub afi_of : Family → ℕ

@@ -1,4 +1,4 @@
--- What reading up to a limit takes of a slot: how many octets, and which it has left then.
+-- What reading up to a limit takes of a slot, and what a call that reads does to the files.
 use Rattle.std.specs.Prelude.{ℕ, List, Option, Bool, IsTrue, ◌≡◌, ◌≤◌, ◌+◌, ◌-◌, length, drop}
 use Rattle.fs_base.specs.Files.{LeavesOthers, Opened}
 use Rattle.fs_outside.specs.declared.files.Files as files

@@ -1,8 +1,7 @@
 -- What happened outside in one call: what the files, the sink and the wire show of themselves before it and behind it.
 -- Clauses take it as one argument, so that an object outside is named here alone.
 use Rattle.std.specs.Prelude.{ℕ, List, Option, ◌≡◌, ◌<◌, ◌-◌, ◌^◌}
-use Rattle.fs_base.specs.Outside.{Rose}
-use Rattle.fs_base.specs.Sink.{Grew}
+use Rattle.fs_base.specs.{Outside.{Rose}, Sink.{Grew}}
 use Rattle.fs_outside.specs.declared.files.Files as files
 use Rattle.fs_outside.specs.declared.sink.Sink as sink
 use Rattle.fs_outside.specs.declared.wire.Wire as wire

@@ -1,11 +1,6 @@
 -- What the order of prefixes is to be, in words. Its law stands in src/laws.rt.
-use Rattle.std.specs.Prelude.{◌≡◌, ◌<◌, ◌↔◌, true, false}
-use Rattle.std.specs.Cmp.{IsTotalOrder}
-use Rattle.std.specs.declared.cmp.Ordering.{Ordering}
-use Rattle.std.specs.declared.cmp.Ordering.TheVariants.{Less, Equal}
-use Rattle.fs_base.specs.declared.prefix.Family.TheVariants.{V4, V6}
-use Rattle.fs_base.specs.declared.prefix.Prefix.{Prefix}
-use Rattle.fs_base.specs.Prefix.{covers}
+use Rattle.std.specs.{Prelude.{◌≡◌, ◌<◌, ◌↔◌, true, false}, Cmp.{IsTotalOrder}, declared.cmp.Ordering.{Ordering, TheVariants.{Less, Equal}}}
+use Rattle.fs_base.specs.{declared.prefix.{Family.TheVariants.{V4, V6}, Prefix.{Prefix}}, Prefix.{covers}}
 
 pub record IsPrecedence (cmp : Prefix → Prefix → Ordering) : Type 0 where
   pub total : IsTotalOrder cmp

@@ -1,7 +1,6 @@
 -- Link types of captures, by the numbers that captures give them.
 use Rattle.std.specs.Prelude.{ℕ, ◌==◌, if◌then◌else◌, Option, Some, None}
-use Rattle.fs_base.specs.declared.link.Link.{Link}
-use Rattle.fs_base.specs.declared.link.Link.TheVariants.{Ethernet, Raw, Cooked, CookedTwo, V4, V6}
+use Rattle.fs_base.specs.declared.link.Link.{Link, TheVariants.{Ethernet, Raw, Cooked, CookedTwo, V4, V6}}
 
 -- Ethernet, raw IP, Linux cooked, Linux cooked version 2, raw IPv4, raw IPv6
 abbrev pub link_of : ℕ → Option Link

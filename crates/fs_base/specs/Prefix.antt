@@ -1,17 +1,7 @@
 -- Prefixes: which lie under which, and their order.
-use Rattle.std.specs.Prelude.{◌≡◌, ℕ, ◌+◌, ◌-◌, ◌^◌, ◌<◌, ◌==◌, Bool, ◌&&◌, min, nat_le}
-use Rattle.std.specs.Cmp.{IsTotalOrder, on_total, then_total, back_total, nat_cmp_total}
-use Rattle.std.specs.Ordering.{nat_cmp, on, then_cmp, flip_args, is_eq, ordering_then}
-use Rattle.std.specs.declared.cmp.Ordering.{Ordering}
-use Rattle.std.proofs.Common.{arith, refl, ap}
-use Rattle.std.proofs.lemmas.Bool.Decides.{nat_tests}
-use Rattle.std.proofs.lemmas.Nat.{pow_pos}
+use Rattle.std.{specs.{Prelude.{◌≡◌, ℕ, ◌+◌, ◌-◌, ◌^◌, ◌<◌, ◌==◌, Bool, ◌&&◌, min, nat_le}, Cmp.{IsTotalOrder, on_total, then_total, back_total, nat_cmp_total}, Ordering.{nat_cmp, on, then_cmp, flip_args, is_eq, ordering_then}, declared.cmp.Ordering.{Ordering}}, proofs.{Common.{arith, refl, ap}, lemmas.{Bool.Decides.{nat_tests}, Nat.{pow_pos}}}}
 use denote.Enum.Bare.{sameb}
-use Rattle.fs_base.specs.contracts.prefix.Family.{the_type}
-use Rattle.fs_base.specs.declared.prefix.Family.{Family}
-use Rattle.fs_base.specs.declared.prefix.Family.TheVariants.{V4, V6}
-use Rattle.fs_base.specs.declared.prefix.Prefix.{Prefix}
-use Rattle.fs_base.specs.Bits.{width_of, afi_of, cleared, cleared_again, min_short}
+use Rattle.fs_base.specs.{contracts.prefix.Family.{the_type}, declared.prefix.{Family.{Family, TheVariants.{V4, V6}}, Prefix.{Prefix}}, Bits.{width_of, afi_of, cleared, cleared_again, min_short}}
 
 -- the prefix of the first bits of an address
 pub record IsPrefixOf (family : Family) (bits length : ℕ) (prefix : Prefix) : Type 0 where

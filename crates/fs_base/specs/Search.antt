@@ -1,9 +1,6 @@
 -- What a search by prefix finds in a list of things that each have a prefix.
-use Rattle.std.specs.Prelude.{◌≡◌, ◌≤◌, true, false, Option, List, MatchOption}
-use Rattle.std.specs.List.{list_any, AllByRecursion}
-use Rattle.std.specs.Ordering.{is_eq, is_le}
-use Rattle.fs_base.specs.Prefix.{covers, prefix_cmp}
-use Rattle.fs_base.specs.declared.prefix.Prefix.{Prefix}
+use Rattle.std.specs.{Prelude.{◌≡◌, ◌≤◌, true, false, Option, List, MatchOption}, List.{list_any, AllByRecursion}, Ordering.{is_eq, is_le}}
+use Rattle.fs_base.specs.{Prefix.{covers, prefix_cmp}, declared.prefix.Prefix.{Prefix}}
 
 module _ {X : Type 0} (at : X → Prefix) (held : List X) where
   -- q is there, isn't before low, and is first of those

@@ -1,7 +1,6 @@
 -- Inputs that are read whole, up to a limit.
 use Rattle.std.specs.Prelude.{ℕ, List, ◌≡◌, ◌<◌, ◌≤◌, length}
-use Rattle.fs_base.specs.declared.whole.Whole.{Whole}
-use Rattle.fs_base.specs.declared.whole.Whole.TheVariants.{Content, AtLimit}
+use Rattle.fs_base.specs.declared.whole.Whole.{Whole, TheVariants.{Content, AtLimit}}
 
 -- an input of fewer octets than the limit is its content; any other is at the limit
 abbrev pub IsWhole : ℕ → List ℕ → Whole → Type 0

@@ -1,7 +1,6 @@
 //! Who the program is and which peers it speaks to.
 
-ghost use Rattle.std.specs.Prelude.{◌≡◌, ◌==◌};
-ghost use Rattle.std.specs.Option.{option_copied};
+ghost use Rattle.std.specs.{Prelude.{◌≡◌, ◌==◌}, Option.{option_copied}};
 ghost use Rattle.fs_base.specs.Config.{peer_of};
 
 use crate::items::Items;

@@ -1,11 +1,7 @@
 //! Reading up to a limit.
 
-ghost use Rattle.std.specs.Prelude.{◌≡◌, ◌≢◌, ◌↔◌, ◌≤◌, ◌<◌, ◌+◌, ◌++◌, [], ℕ, IsTrue, IfOk, drop, length};
-ghost use Rattle.std.specs.Result.{IsErrOf};
-ghost use Rattle.std.specs.Io.{ReadsAtMost};
-ghost use Rattle.fs_base.specs.Files.{OnlySlot, ReadTakes};
-ghost use Rattle.fs_base.specs.Outside.{HasCause, Rose};
-ghost use Rattle.fs_base.specs.Counted.{given_by, taken_after};
+ghost use Rattle.std.specs.{Prelude.{◌≡◌, ◌≢◌, ◌↔◌, ◌≤◌, ◌<◌, ◌+◌, ◌++◌, [], ℕ, IsTrue, IfOk, drop, length}, Result.{IsErrOf}, Io.{ReadsAtMost}};
+ghost use Rattle.fs_base.specs.{Files.{OnlySlot, ReadTakes}, Outside.{HasCause, Rose}, Counted.{given_by, taken_after}};
 
 use super::{Back, Failed, Files};
 

@@ -1,10 +1,6 @@
 //! Filling a buffer, whatever counts the reads give.
 
-ghost use Rattle.std.specs.Prelude.{◌≡◌, ◌≤◌, ◌+◌, ◌++◌, [], IsTrue, IfOk, OnErr, drop, length};
-ghost use Rattle.fs_base.specs.Outside.{Rose};
-ghost use Rattle.fs_base.specs.Parts.{window};
-ghost use Rattle.fs_base.specs.Filling.{Fills};
-ghost use Rattle.fs_base.specs.Draws.{PassesIn};
+ghost use Rattle.fs_base.specs.Filling.{FillsIn};
 
 use super::{Counted, Failed, Files, Stop};
 
@@ -21,19 +17,7 @@ pub fn fill<F: Files>(
     files: &mut F,
     into: &mut [u8],
 ) -> Result<usize, Failed>
-    ensures failed { OnErr result (Rose (F.faults files.old) (F.faults files.new)) }
-    ensures bound { IfOk result (λ n. n ≤ length into.new) }
-    ensures taken { IfOk result (λ n. counted.new.taken ≡ counted.old.taken + n) }
-
-    ensures filled { IsTrue F.tells
-        → IfOk result (Fills
-        (window counted.old.limit counted.old.taken (counted.old.back ++ F.left files.old counted.old.slot))
-        (counted.old.back ++ F.left files.old counted.old.slot)
-        (counted.new.back ++ F.left files.new counted.old.slot)
-        into.new) }
-    ensures back { IfOk result (λ n. counted.new.back ≡ drop n counted.old.back) }
-    ensures none { counted.old.back ≡ [] → counted.new.back ≡ [] }
-    ensures passes { PassesIn F.Files files.old files.new counted.old counted.new }
+    ensures { FillsIn F.Files files.old files.new counted.old counted.new into.new result }
 {
     if into.is_empty() {
         return Ok(0);
@@ -56,19 +40,7 @@ fn fill_rest<F: Files>(
     files: &mut F,
     into: &mut [u8],
 ) -> Result<usize, Failed>
-    ensures failed { OnErr result (Rose (F.faults files.old) (F.faults files.new)) }
-    ensures bound { IfOk result (λ n. n ≤ length into.new) }
-    ensures taken { IfOk result (λ n. counted.new.taken ≡ counted.old.taken + n) }
-
-    ensures filled { IsTrue F.tells
-        → IfOk result (Fills
-        (window counted.old.limit counted.old.taken (counted.old.back ++ F.left files.old counted.old.slot))
-        (counted.old.back ++ F.left files.old counted.old.slot)
-        (counted.new.back ++ F.left files.new counted.old.slot)
-        into.new) }
-    ensures back { IfOk result (λ n. counted.new.back ≡ drop n counted.old.back) }
-    ensures none { counted.old.back ≡ [] → counted.new.back ≡ [] }
-    ensures passes { PassesIn F.Files files.old files.new counted.old counted.new }
+    ensures { FillsIn F.Files files.old files.new counted.old counted.new into.new result }
 {
     let mut at = 0;
     while at < into.len() {

@@ -49,10 +49,8 @@ pub struct Prefix {
 }
 
 impl Prefix {
-    ghost use Rattle.fs_base.specs.Prefix.{covers, prefix_cmp, last_address, IsPrefixOf};
-    ghost use Rattle.std.specs.Prelude.{Bool, true, ◌&&◌};
-    ghost use Rattle.std.specs.Ordering.{is_le};
-    ghost use Rattle.fs_base.specs.declared.prefix.Prefix.{Prefix};
+    ghost use Rattle.fs_base.specs.{Prefix.{covers, prefix_cmp, last_address, IsPrefixOf}, declared.prefix.Prefix.{Prefix}};
+    ghost use Rattle.std.specs.{Prelude.{Bool, true, ◌&&◌}, Ordering.{is_le}};
 
     /// The prefix of the first `length` bits of an address, which stands in the low bits of `bits`: of an IPv4
     /// address the bits above the low 32 are dropped. None exactly where `length` is above 32 or 128.
@@ -143,9 +141,7 @@ impl Prefix {
 
 impl PartialOrd for Prefix {
     ghost use Rattle.fs_base.specs.Prefix.{prefix_cmp, prefix_total, prefix_matches_eq};
-    ghost use Rattle.std.specs.Ordering.{as_partial_cmp};
-    ghost use Rattle.std.specs.Cmp.{partial_order_from_agreeing_total};
-    ghost use Rattle.std.specs.Prelude.{refl};
+    ghost use Rattle.std.specs.{Ordering.{as_partial_cmp}, Cmp.{partial_order_from_agreeing_total}, Prelude.{refl}};
 
     ghost partial_cmp = { as_partial_cmp prefix_cmp };
 

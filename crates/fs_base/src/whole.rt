@@ -1,11 +1,7 @@
 //! Reading a file whole.
 
-ghost use Rattle.std.specs.Prelude.{◌≡◌, ◌≢◌, ◌≤◌, ℕ, IsTrue, IfOk};
-ghost use Rattle.std.specs.Result.{IsErrOf};
-ghost use Rattle.fs_base.specs.Draws.{PassedWithin};
-ghost use Rattle.fs_base.specs.Whole.{IsWhole};
-ghost use Rattle.fs_base.specs.Files.{OnlySlot};
-ghost use Rattle.fs_base.specs.Outside.{Rose};
+ghost use Rattle.std.specs.{Prelude.{◌≡◌, ◌≢◌, ◌≤◌, ℕ, IsTrue, IfOk}, Result.{IsErrOf}};
+ghost use Rattle.fs_base.specs.{Draws.{PassedWithin}, Whole.{IsWhole}, Files.{OnlySlot}, Outside.{Rose}};
 
 use super::{Counted, Files, Stop};
 use std::alloc::{AllocError, Global};

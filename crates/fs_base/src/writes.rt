@@ -1,8 +1,7 @@
 //! Writing a whole piece.
 
 ghost use Rattle.std.specs.Prelude.{◌≡◌, IsOk, OnOk, OnErr, length};
-ghost use Rattle.fs_base.specs.Outside.{HasCause};
-ghost use Rattle.fs_base.specs.Sink.{Grew, GrewPart};
+ghost use Rattle.fs_base.specs.{Outside.{HasCause}, Sink.{Grew, GrewPart}};
 
 use crate::{Failed, Sink};
 

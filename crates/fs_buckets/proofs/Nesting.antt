@@ -1,14 +1,10 @@
 -- Rules in order have destinations in order: as intervals they are nested or apart, and rules without one come last.
-use Rattle.fs_buckets.proofs.Words.{◌≡◌, ℕ, zero, suc, ◌+◌, ◌-◌, ◌^◌, ◌<◌, ◌≤◌, ◌⊎◌, inl, inr, refl, sym, ap, ap₂, subst, ◌∙◌, true, true≢false, Option, Some, None, List, [], ◌∷◌, get_or, map, Ordering, Less, Equal, Greater, is_le, nat_cmp, pow_pos, arith, AllByRecursion, MatchOrdering, ordering_then, nat_cmp_is, cases_lt, none-some, Family, width_of, afi_of, Ruled, IsRule, destination_of, IsMade, destination_cmp, last_shown, shown_cmp, listed, family_of_destination, IsOfFamily, span_by, span_of, spans_of, AreNesting}
-use Rattle.std.proofs.Math.Pow.{pow_mono}
-use Rattle.std.proofs.lemmas.Cmp.{ranked}
-use Rattle.fs_base.proofs.Blocks.{IsBlock, block_inside, block_meeting, block_of}
-use Rattle.fs_base.proofs.Orderings.{is_le_of_then}
-use Rattle.fs_order.specs.Comparison.{rule_cmp}
-use Rattle.fs_order.proofs.First.{destinations_first}
+use Rattle.fs_buckets.proofs.{Words.{◌≡◌, ℕ, zero, suc, ◌+◌, ◌-◌, ◌^◌, ◌<◌, ◌≤◌, ◌⊎◌, inl, inr, refl, sym, ap, ap₂, subst, ◌∙◌, true, true≢false, Option, Some, None, List, [], ◌∷◌, get_or, map, Ordering, Less, Equal, Greater, is_le, nat_cmp, pow_pos, arith, AllByRecursion, MatchOrdering, ordering_then, nat_cmp_is, cases_lt, none-some, Family, width_of, afi_of, Ruled, IsRule, destination_of, IsMade, destination_cmp, last_shown, shown_cmp, listed, family_of_destination, IsOfFamily, span_by, span_of, spans_of, AreNesting}, Destinations.{HasDestination, from_span, made_destination}}
+use Rattle.std.proofs.{Math.Pow.{pow_mono}, lemmas.Cmp.{ranked}}
+use Rattle.fs_base.proofs.{Blocks.{IsBlock, block_inside, block_meeting, block_of}, Orderings.{is_le_of_then}}
+use Rattle.fs_order.{specs.Comparison.{rule_cmp}, proofs.First.{destinations_first}}
 use Rattle.fs_rules.specs.Table.{AreOrdered, IsRuleOf}
 use Rattle.fs_validate.specs.declared.route.FlowRoute.{FlowRoute}
-use Rattle.fs_buckets.proofs.Destinations.{HasDestination, from_span, made_destination}
 
 le_from : (x y : ℕ) → is_le (nat_cmp x y) ≡ true → x ≤ y
 le_from x y h = at (nat_cmp x y) (ranked x y (nat_cmp x y) refl) h where

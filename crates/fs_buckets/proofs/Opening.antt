@@ -1,8 +1,5 @@
 -- Buckets with an empty one more among them.
-use Rattle.fs_buckets.proofs.Words.{◌≡◌, ℕ, ◌+◌, ◌-◌, ◌^◌, ◌<◌, ◌≤◌, ◌⊎◌, ◌||◌, inl, inr, refl, sym, ap, ap₂, subst, ◌∙◌, [], ◌∷◌, Bool, true, false, if◌then◌else◌, nat_le, nat_lt, Some, length, get_or, arith, insert, mod-eq_of_lt, cases_lt, cases_order, le-leb, le-ltb, lt-leb, lt-ltb, Buckets, Node, numbers_in, nodes_in, AreChanged, AreOpened, IsSubnet, beside, node_at, parent_beside, HasEmpty, IsGap, IsLeft, IsPassed, bucket_span, AreSound}
-use Rattle.fs_buckets.proofs.Splicing.{at_back, at_front, at_middle, spliced_size}
-use Rattle.fs_buckets.proofs.Stretching.{first_of, home_of, home_over, home_under, last_of, none, start_of}
-use Rattle.fs_buckets.proofs.Subnets.{subnet_proper, subnets_nest}
+use Rattle.fs_buckets.proofs.{Words.{◌≡◌, ℕ, ◌+◌, ◌-◌, ◌^◌, ◌<◌, ◌≤◌, ◌⊎◌, ◌||◌, inl, inr, refl, sym, ap, ap₂, subst, ◌∙◌, [], ◌∷◌, Bool, true, false, if◌then◌else◌, nat_le, nat_lt, Some, length, get_or, arith, insert, mod-eq_of_lt, cases_lt, cases_order, le-leb, le-ltb, lt-leb, lt-ltb, Buckets, Node, numbers_in, nodes_in, AreChanged, AreOpened, IsSubnet, beside, node_at, parent_beside, HasEmpty, IsGap, IsLeft, IsPassed, bucket_span, AreSound}, Splicing.{at_back, at_front, at_middle, spliced_size}, Stretching.{first_of, home_of, home_over, home_under, last_of, none, start_of}, Subnets.{subnet_proper, subnets_nest}}
 
 -- where a bucket stands among those with one more at a place
 lift : (place i : ℕ) → ℕ

@@ -1,9 +1,5 @@
 -- Buckets with the rules of one destination put anew.
-use Rattle.fs_buckets.proofs.Words.{◌≡◌, ℕ, ◌+◌, ◌-◌, ◌<◌, ◌≤◌, ◌⊎◌, inl, inr, sym, ap, subst, ◌∙◌, Option, Some, None, List, [], length, get_or, arith, AllByRecursion, splice, cases_lt, length-map, Family, width_of, Listed, all_admitted, shown_lent, LentRule, Buckets, IsSubnet, AreHoused, AreBucketsOf, HasStretch, Mends, AreSound, IsOfFamily, span_of, spans_of, AreNarrow, AreTo, IsStretch, place_by, AreNesting}
-use Rattle.fs_buckets.proofs.Splicing.{each_spliced, map_spliced}
-use Rattle.fs_buckets.proofs.Stretching.{bare_behind, housed_same, mends_spliced, nesting_housed, less_equal, nesting_spliced, none_count, same_count}
-use Rattle.fs_buckets.proofs.Widths.{narrow}
-use Rattle.fs_buckets.proofs.Nesting.{nesting_from}
+use Rattle.fs_buckets.proofs.{Words.{◌≡◌, ℕ, ◌+◌, ◌-◌, ◌<◌, ◌≤◌, ◌⊎◌, inl, inr, sym, ap, subst, ◌∙◌, Option, Some, None, List, [], length, get_or, arith, AllByRecursion, splice, cases_lt, length-map, Family, width_of, Listed, all_admitted, shown_lent, LentRule, Buckets, IsSubnet, AreHoused, AreBucketsOf, HasStretch, Mends, AreSound, IsOfFamily, span_of, spans_of, AreNarrow, AreTo, IsStretch, place_by, AreNesting}, Splicing.{each_spliced, map_spliced}, Stretching.{bare_behind, housed_same, mends_spliced, nesting_housed, less_equal, nesting_spliced, none_count, same_count}, Widths.{narrow}, Nesting.{nesting_from}}
 
 pub spans_size : (list : List LentRule) → length (spans_of (all_admitted list)) ≡ length list
 spans_size list = length-map (all_admitted list) (λ r. span_of r.rule) ∙ length-map list shown_lent

@@ -1,7 +1,5 @@
 -- Buckets of which one has another count of rules.
-use Rattle.fs_buckets.proofs.Words.{◌≡◌, ℕ, ◌+◌, ◌-◌, ◌^◌, ◌<◌, ◌≤◌, ◌⊎◌, inl, inr, sym, ap, ap₂, subst, ◌∙◌, Option, Some, None, List, length, get_or, replicate, arith, splice, cases_lt, get_or-replicate, get_or_default, length-replicate, Buckets, Node, numbers_in, nodes_in, AreAbove, AreChanged, IsSubnet, moved, node_at, AreHoused, span_at, AreBucketsOf, IsHolder, AreSound, AreTo}
-use Rattle.fs_buckets.proofs.Splicing.{Part, at_back, at_front, at_middle, part_at, spliced_size}
-use Rattle.fs_buckets.proofs.Stretching.{first_of, home_of, home_over, home_under, none, start_of}
+use Rattle.fs_buckets.proofs.{Words.{◌≡◌, ℕ, ◌+◌, ◌-◌, ◌^◌, ◌<◌, ◌≤◌, ◌⊎◌, inl, inr, sym, ap, ap₂, subst, ◌∙◌, Option, Some, None, List, length, get_or, replicate, arith, splice, cases_lt, get_or-replicate, get_or_default, length-replicate, Buckets, Node, numbers_in, nodes_in, AreAbove, AreChanged, IsSubnet, moved, node_at, AreHoused, span_at, AreBucketsOf, IsHolder, AreSound, AreTo}, Splicing.{Part, at_back, at_front, at_middle, part_at, spliced_size}, Stretching.{first_of, home_of, home_over, home_under, none, start_of}}
 
 -- the first buckets with so many rules in one of them, which are those from one number on before another in the other
 pub record AreResized (old new : Buckets) (bucket from to count : ℕ) : Type 0 where

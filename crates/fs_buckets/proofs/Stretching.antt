@@ -1,9 +1,5 @@
 -- How destinations stand to one another, and that rules in order stay nested with a stretch put anew.
-use Rattle.fs_buckets.proofs.Words.{◌≡◌, ℕ, zero, suc, ◌+◌, ◌-◌, ◌<◌, ◌≤◌, ◌⊎◌, inl, inr, refl, sym, ap, ap₂, subst, ◌∙◌, Bool, true, false, if◌then◌else◌, Option, Some, None, List, [], ◌∷◌, length, get_or, Less, Equal, Greater, nat_cmp, arith, AllByRecursion, splice, nat_cmp_is, ordering_then, cases_lt, cases_order, get_or_past, length-map, none-some, Family, Listed, Buckets, Node, numbers_in, nodes_in, node_at, AreHoused, span_at, IsLeft, IsPassed, Mends, Passes, bucket_span, AreSound, IsOfFamily, span_of, spans_of, AreTo, IsStretch, place_by, span_cmp, AreNesting}
-use Rattle.fs_buckets.proofs.Homes.{home_before, home_from}
-use Rattle.fs_buckets.proofs.Nesting.{Fits, Follows, follows_none, nesting_from, span_proper, spans_fit}
-use Rattle.fs_buckets.proofs.Subnets.{subnet_proper}
-use Rattle.fs_buckets.proofs.Splicing.{Part, at_back, at_front, at_middle, map_spliced, part_at}
+use Rattle.fs_buckets.proofs.{Words.{◌≡◌, ℕ, zero, suc, ◌+◌, ◌-◌, ◌<◌, ◌≤◌, ◌⊎◌, inl, inr, refl, sym, ap, ap₂, subst, ◌∙◌, Bool, true, false, if◌then◌else◌, Option, Some, None, List, [], ◌∷◌, length, get_or, Less, Equal, Greater, nat_cmp, arith, AllByRecursion, splice, nat_cmp_is, ordering_then, cases_lt, cases_order, get_or_past, length-map, none-some, Family, Listed, Buckets, Node, numbers_in, nodes_in, node_at, AreHoused, span_at, IsLeft, IsPassed, Mends, Passes, bucket_span, AreSound, IsOfFamily, span_of, spans_of, AreTo, IsStretch, place_by, span_cmp, AreNesting}, Homes.{home_before, home_from}, Nesting.{Fits, Follows, follows_none, nesting_from, span_proper, spans_fit}, Subnets.{subnet_proper}, Splicing.{Part, at_back, at_front, at_middle, map_spliced, part_at}}
 
 -- one destination stands before another
 abbrev pub Before : ℕ × ℕ → ℕ × ℕ → Type 0

@@ -1,6 +1,5 @@
 -- The addresses of a rule's destination are those of a prefix, and have the width of its family.
-use Rattle.fs_buckets.proofs.Words.{◌≡◌, ◌∙◌, ℕ, zero, suc, ◌+◌, ◌-◌, ◌^◌, ◌<◌, ◌≤◌, sym, subst, Some, List, [], ◌∷◌, pow_pos, arith, AllByRecursion, none-some, Family, IsBlock, width_of, block_of, IsMade, last_shown, Listed, family_of_destination, IsSubnet, IsOfFamily, span_of, spans_of, AreNarrow}
-use Rattle.fs_buckets.proofs.Destinations.{HasDestination, from_span, made_destination}
+use Rattle.fs_buckets.proofs.{Words.{◌≡◌, ◌∙◌, ℕ, zero, suc, ◌+◌, ◌-◌, ◌^◌, ◌<◌, ◌≤◌, sym, subst, Some, List, [], ◌∷◌, pow_pos, arith, AllByRecursion, none-some, Family, IsBlock, width_of, block_of, IsMade, last_shown, Listed, family_of_destination, IsSubnet, IsOfFamily, span_of, spans_of, AreNarrow}, Destinations.{HasDestination, from_span, made_destination}}
 
 span_narrow : (family : Family) (r : Listed) (s : ℕ × ℕ) → IsOfFamily family r → span_of r.rule ≡ Some s → (s.0 < 2 ^ width_of family) × (s.1 < 2 ^ width_of family) × IsSubnet s.0 s.1
 span_narrow family r s own e = subst (λ (x : ℕ × ℕ). (x.0 < 2 ^ width_of family) × (x.1 < 2 ^ width_of family) × IsSubnet x.0 x.1) (sym from.span) (subst (λ f. (from.d.1 < 2 ^ width_of f) × (last_shown from.d < 2 ^ width_of f) × IsSubnet from.d.1 (last_shown from.d)) same below) where

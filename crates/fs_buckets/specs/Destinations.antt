@@ -1,12 +1,7 @@
 -- The destinations of rules as first and last addresses, and where one stands among others.
-use Rattle.std.specs.Prelude.{◌≡◌, ℕ, ◌<◌, ◌≤◌, Option, Some, None, option_map, List, length, get_or, map, ◌≢◌, ◌^◌}
-use Rattle.std.specs.Ordering.{nat_cmp, ordering_then}
-use Rattle.std.specs.declared.cmp.Ordering.{Ordering}
-use Rattle.std.specs.declared.cmp.Ordering.TheVariants.{Less, Equal, Greater}
-use Rattle.fs_base.specs.declared.prefix.Family.{Family}
-use Rattle.fs_base.specs.declared.prefix.Prefix.{Prefix}
-use Rattle.fs_nlri.specs.Parts.{Ruled}
-use Rattle.fs_nlri.specs.Rule.{IsRule, destination_of, shown}
+use Rattle.std.specs.{Prelude.{◌≡◌, ℕ, ◌<◌, ◌≤◌, Option, Some, None, option_map, List, length, get_or, map, ◌≢◌, ◌^◌}, Ordering.{nat_cmp, ordering_then}, declared.cmp.Ordering.{Ordering, TheVariants.{Less, Equal, Greater}}}
+use Rattle.fs_base.specs.declared.prefix.{Family.{Family}, Prefix.{Prefix}}
+use Rattle.fs_nlri.specs.{Parts.{Ruled}, Rule.{IsRule, destination_of, shown}}
 use Rattle.fs_order.specs.Laws.{last_shown}
 use Rattle.fs_rules.specs.Lent.{Listed}
 use Rattle.fs_buckets.specs.Buckets.{IsSubnet}

@@ -1,9 +1,6 @@
 -- Runs of rules with one destination, as intervals of addresses.
 use Rattle.std.specs.Prelude.{◌≡◌, ℕ, ◌+◌, ◌-◌, ◌<◌, ◌≤◌, ◌++◌, ◌∷◌, [], Option, Some, None, List, length, get_or}
-use Rattle.fs_buckets.specs.declared.nodes.Node.{Node}
-use Rattle.fs_buckets.specs.declared.runs.Runs.{Runs}
-use Rattle.fs_buckets.specs.Addresses.{numbers_in}
-use Rattle.fs_buckets.specs.Buckets.{node_at}
+use Rattle.fs_buckets.specs.{declared.{nodes.Node.{Node}, runs.Runs.{Runs}}, Addresses.{numbers_in}, Buckets.{node_at}}
 
 -- Of each rule the first and the last address of its destination, in the order of rules: last addresses rise, one that
 -- begins before an earlier one ends begins no later than that, and rules without a destination come last.

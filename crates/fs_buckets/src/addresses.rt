@@ -1,11 +1,8 @@
 //! Lists of addresses, in the width of their family.
 
-ghost use Rattle.std.specs.Prelude.{◌≡◌, ◌<◌, ◌≤◌, ◌+◌, ◌^◌, ◌++◌, ◌∷◌, [], ℕ, IsTrue, IfOk, OnOk, get_or, length};
-ghost use Rattle.std.specs.List.{insert};
+ghost use Rattle.std.specs.{Prelude.{◌≡◌, ◌<◌, ◌≤◌, ◌+◌, ◌^◌, ◌++◌, ◌∷◌, [], ℕ, IsTrue, IfOk, OnOk, get_or, length}, List.{insert}};
 ghost use Rattle.fs_base.specs.Bits.{width_of};
-ghost use Rattle.fs_buckets.specs.Addresses.{numbers_in, width_in, number_of};
-ghost use Rattle.fs_buckets.specs.Between.{IsBetween, IsPlaceOf};
-ghost use Rattle.fs_buckets.specs.Buckets.{AreRising};
+ghost use Rattle.fs_buckets.specs.{Addresses.{numbers_in, width_in, number_of}, Between.{IsBetween, IsPlaceOf}, Buckets.{AreRising}};
 
 use crate::marks::Marks;
 use fs_base::{Address, Family, Memory};

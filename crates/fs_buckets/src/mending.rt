@@ -1,10 +1,8 @@
 //! Buckets with the rules of one destination put anew.
 
-ghost use Rattle.std.specs.Prelude.{◌≡◌, ◌≤◌, ◌+◌, ◌-◌, ◌<◌, ◌^◌, true, IfOk, List, is_some, length};
-ghost use Rattle.std.specs.List.{AllByRecursion, splice};
+ghost use Rattle.std.specs.{Prelude.{◌≡◌, ◌≤◌, ◌+◌, ◌-◌, ◌<◌, ◌^◌, true, IfOk, List, is_some, length}, List.{AllByRecursion, splice}};
 ghost use Rattle.fs_rules.specs.Lent.{Listed, all_admitted};
-ghost use Rattle.fs_buckets.specs.Destinations.{AreTo, IsOfFamily, spans_of, target_of};
-ghost use Rattle.fs_buckets.specs.Housed.{AreBucketsOf, AreSound, HasStretch};
+ghost use Rattle.fs_buckets.specs.{Destinations.{AreTo, IsOfFamily, spans_of, target_of}, Housed.{AreBucketsOf, AreSound, HasStretch}};
 
 use crate::buckets::{Buckets, buckets_with};
 use crate::runs::mended_runs;

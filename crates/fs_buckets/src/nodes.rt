@@ -2,8 +2,7 @@
 
 ghost use Rattle.std.specs.Prelude.{◌≡◌, ◌<◌, ◌≤◌, ◌^◌, ◌++◌, ◌∷◌, [], IfOk, IsTrue, OnOk, length};
 ghost use Rattle.fs_base.specs.Bits.{width_of};
-ghost use Rattle.fs_buckets.specs.Addresses.{node_width, nodes_in};
-ghost use Rattle.fs_buckets.specs.Buckets.{AreAbove, AreChanged, AreOpened, beside, moved, node_at, parent_beside};
+ghost use Rattle.fs_buckets.specs.{Addresses.{node_width, nodes_in}, Buckets.{AreAbove, AreChanged, AreOpened, beside, moved, node_at, parent_beside}};
 
 use fs_base::{Family, Memory};
 use std::alloc::Global;

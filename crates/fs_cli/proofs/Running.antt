@@ -1,36 +1,21 @@
 -- What the clauses of a run say follows from what it does.
-use Rattle.fs_cli.proofs.Words.{◌≡◌, ◌≢◌, ◌⊎◌, ◌++◌, append-nil, inl, inr, ◌<◌, ◌∙◌, ◌==◌, ℕ, List, [], ◌∷◌, Option, Some, None, Result, Ok, Err, IsTrue, refl, ap, sym, subst, arith, true, false, Bool, not, if◌then◌else◌, filter, length, nat_le, Happened, happened, with_wire, FilesFailed, SinkFailed, WireFailed, FilesStood, SinkStood, WireStood, Grew, Grew-refl, Config, Timed, tape_of, Conversation, conversation, ChecksSo, Does, IsOneOf, Runs, HasNoMoments, HasStatus, HasCauses, Completes, Promises, objects, FailedOver, OutsideFailed, WireServed, Objects, AreTold, FilesKept, SinkKept, WireKept, ClockKept, names_in, happened_in, talk_in, speaks, statuses, EnforcesSo, Enforced, Wants, Inputs, inputs, inputs_stage, status_for, HoldsConfig, Names, OpensBoth, fetch, config_stage, Form, Enforce, Surveys, Converts, Check, Gen, form_of, Announce, Listen, Pair, Text, ListsSo, Surveyed, listed_status, text_for, HasVersion, HoldsTape, accepted_stage, tape_stage, Answers, answered, Stage, Found, Stopped, Verdict, and_then, or_stop, status_of, Refusal, Outside, Rejected, Tape, Capture, Dump, Memory, Limit, Session, Caused, due_status, early_status, late_status, never_early, never_zero, not_rose, same_found}
-use Rattle.std.specs.List.{AllByRecursion}
-use Rattle.std.specs.Prelude.{⊤}
-use Rattle.std.proofs.lemmas.Bool.Decides.{nat_tests}
+use Rattle.fs_cli.proofs.Words.{◌≡◌, ◌≢◌, ◌⊎◌, ◌++◌, append-nil, inl, inr, ◌<◌, ◌∙◌, ◌==◌, ℕ, List, [], ◌∷◌, Option, Some, None, Result, Ok, Err, IsTrue, refl, ap, sym, subst, arith, true, false, Bool, not, if◌then◌else◌, filter, length, nat_le, Happened, happened, with_wire, FilesStood, SinkStood, WireStood, Grew, Grew-refl, Config, Timed, tape_of, Conversation, conversation, ChecksSo, Does, IsOneOf, Runs, HasNoMoments, HasStatus, HasCauses, Completes, Promises, objects, FailedOver, OutsideFailed, WireServed, Objects, AreTold, FilesKept, SinkKept, WireKept, ClockKept, names_in, happened_in, talk_in, speaks, statuses, EnforcesSo, Enforced, Wants, Inputs, inputs, inputs_stage, status_for, HoldsConfig, Names, fetch, config_stage, Form, Enforce, Surveys, Converts, Check, Gen, form_of, Announce, Listen, Pair, Text, ListsSo, Surveyed, listed_status, text_for, HasVersion, HoldsTape, accepted_stage, tape_stage, Answers, answered, Stage, Found, Stopped, Verdict, and_then, or_stop, status_of, Refusal, Outside, Rejected, Tape, Capture, Dump, Memory, Limit, Session, Caused, due_status, early_status, late_status, never_early, never_zero, not_rose, same_found, sending_stage, Opened, OpensFront, Openings, openings}
+use Rattle.std.{specs.{List.{AllByRecursion}, Prelude.{⊤}}, proofs.lemmas.Bool.Decides.{nat_tests}}
 use Rattle.fs_base.specs.declared.Files as files
 use Rattle.fs_base.specs.declared.Sink as sink
 use Rattle.fs_base.specs.declared.Wire as wire
 use Rattle.fs_base.specs.declared.Clock as clock
 use Rattle.fs_input.specs.Records.{End, done, limited, bad}
 use Rattle.fs_conf.specs.Config.{config_of}
-use Rattle.cmd_enforce.specs.Capture.{Captured, Recorded, capture_of}
-use Rattle.cmd_enforce.specs.declared.fault.CaptureReason.{CaptureReason}
+use Rattle.cmd_enforce.specs.{Capture.{Captured, Recorded, capture_of}, declared.fault.CaptureReason.{CaptureReason}, Judge.{capture_stage, lines_from, rules_by, status_at}, Moments.{AnswersAt, HoldAt, verdict_at}}
 use Rattle.fs_rules.specs.Table.{Held}
-use Rattle.fs_tape.specs.Laws.{tape_text}
-use Rattle.fs_tape.specs.declared.fault.TapeReason.{TapeReason}
-use Rattle.cmd_wire.specs.Promised.{AnnouncePromises, PairPromises}
-use Rattle.cmd_wire.proofs.Promising.{announce_promises, announce_status}
-use Rattle.cmd_wire.specs.PromisedHearing.{ListenPromises}
-use Rattle.cmd_wire.proofs.PromisingHearing.{listen_promises, listen_status}
-use Rattle.cmd_wire.proofs.PromisingPair.{pair_promises, pair_status}
+use Rattle.cmd_wire.{specs.{Announcing.{Announced, IsOfSession}, Listening.{Heard, hearing_stage}, Pairing.{Carries}}, proofs.{Concluding.{session_status}, Statuses.{none_failed as none_of_three}, Promising.{announce_promises, pair_promises}, PromisingHearing.{listen_promises}, Accepted.{some_found, then_found}}}
 use Rattle.cmd_gen.specs.Command.{GeneratesSo, Generated}
 use Rattle.fs_mrt.specs.declared.fault.DumpReason.{DumpReason}
-use Rattle.cmd_convert.specs.Command.{Converted, ConvertsSo, convert_status, dump_stage, status_for as status_by, status_at as dump_status, verdict_of}
-use Rattle.cmd_convert.specs.Making.{remade}
-use Rattle.cmd_convert.proofs.Fitting.{reads_back_converted}
-use Rattle.fs_cli.specs.declared.command.Subject.{Subject}
-use Rattle.fs_cli.specs.declared.survey.Survey.{Survey}
+use Rattle.cmd_convert.{specs.{Command.{Converted, ConvertsSo, convert_status, dump_stage, status_for as status_by, status_at as dump_status, verdict_of}, Making.{remade}}, proofs.Fitting.{reads_back_converted}}
+use Rattle.fs_cli.specs.declared.{command.Subject.{Subject}, survey.Survey.{Survey}}
 use Rattle.fs_tape.specs.declared.magic.Version.TheVariants.{Two}
 use Rattle.cmd_stages.proofs.LookingAhead.{found_items}
-use Rattle.cmd_enforce.specs.Judge.{capture_stage, lines_from, output_of, rules_by, status_at}
-use Rattle.cmd_enforce.specs.Moments.{AnswersAt, HoldAt, verdict_at}
-use Rattle.cmd_wire.proofs.Accepted.{some_found, then_found}
 
 -- the status
 
@@ -99,9 +84,9 @@ causes_of tells limit holds (Surveys survey config tape) call talk answer told d
 causes_of tells limit holds (Converts config dump) call talk answer told d = dump_caused limit holds config dump _ _ _ answer (d told)
 causes_of tells limit holds (Check subject word) call talk answer told d = check_status limit holds subject word _ _ _ _ talk answer d
 causes_of tells limit holds (Gen count) call talk answer told d = gen_status count _ _ _ _ answer d
-causes_of tells limit holds (Announce config rules address) call talk answer told d = announce_status limit holds config rules _ _ _ talk answer (d told)
-causes_of tells limit holds (Listen config address) call talk answer told d = listen_status limit holds config _ _ _ talk answer (d told)
-causes_of tells limit holds (Pair config rules) call talk answer told d = pair_status limit holds config rules _ _ _ talk answer (d told)
+causes_of tells limit holds (Announce config rules address) call talk answer told d = session_status (sending_stage limit holds config rules) (Announced limit talk) call answer (d told)
+causes_of tells limit holds (Listen config address) call talk answer told d = session_status (hearing_stage limit holds config) (Heard limit talk) call answer (d told)
+causes_of tells limit holds (Pair config rules) call talk answer told d = session_status (sending_stage limit holds config rules) (Carries limit talk) call answer (d told)
 
 -- completeness
 
@@ -109,9 +94,7 @@ none_failed : (form : Form) (call : Happened) → FilesStood call → SinkStood 
 none_failed form call f s w failed = by (speaks form) refl failed
   where
     by : (b : Bool) → speaks form ≡ b → FailedOver b call → ⊥
-    by true e (inl r) = not_rose call.before.file_faults call.now.file_faults f r
-    by true e (inr (inl r)) = not_rose call.before.sink_faults call.now.sink_faults s r
-    by true e (inr (inr r)) = not_rose call.before.wire_faults call.now.wire_faults (w e) r
+    by true e any = none_of_three call f s (w e) any
     by false e (inl r) = not_rose call.before.file_faults call.now.file_faults f r
     by false e (inr r) = not_rose call.before.sink_faults call.now.sink_faults s r
 
@@ -180,36 +163,29 @@ enforced_well : (limit : ℕ) (holds : Names) (config tape capture : List ℕ) (
     → EnforcesSo limit holds config tape capture failed call.before.written call.now.written answer → answer ≡ 0 → Enforced limit holds config tape capture call
 enforced_well limit holds config tape capture failed call answer (inl early) zero =
     absurd (never_early (accepted_stage limit holds config tape) failed answer 0 zero (λ e. absurd cc) (λ e. absurd cc) (λ refusal h e. never_zero refusal e) early.reason)
-enforced_well limit holds config tape capture failed call answer (inr judged) zero =
-    let files = both_found limit holds config tape judged.accepted judged.items judged.found in
-    let read = by (holds capture) judged.judged in
-    record {
-      accepted = judged.accepted;
-      items = judged.items;
-      config_is = files.0;
-      tape_is = files.1;
-      capture_octets = read.0;
-      capture_is = read.2;
-      capture_done = read.3;
-      held = read.1;
-      leaves = read.4;
-      wrote = read.5;
-    }
+enforced_well limit holds config tape capture failed call answer (inr judged) zero = by (holds capture) refl judged.judged
   where
-    by : (content : Option (List ℕ)) → AnswersAt judged.accepted judged.items (and_then (or_stop Outside content) (λ o. Found (capture_of limit o))) failed call.before.written call.now.written answer
-        → (octets : List ℕ) × (held : ℕ → Held) × (content ≡ Some octets) × ((capture_of limit octets).end ≡ done)
-        × HoldAt judged.accepted judged.items held (capture_of limit octets).packets × Grew call.before.written call.now.written (output_of held (capture_of limit octets))
-    by None a = absurd (never_zero Outside (due_zero failed (status_of Outside) answer zero a.answers.status_is))
-    by (Some octets) a =
+    by : (content : Option (List ℕ)) → holds capture ≡ content
+        → AnswersAt judged.accepted judged.items (and_then (or_stop Outside content) (λ o. Found (capture_of limit o))) failed call.before.written call.now.written answer
+        → Enforced limit holds config tape capture call
+    by None e a = absurd (never_zero Outside (due_zero failed (status_of Outside) answer zero a.answers.status_is))
+    by (Some octets) e a =
+        let files = both_found limit holds config tape judged.accepted judged.items judged.found in
         let all : a.came.judged ≡ (capture_of limit octets).packets =
-        sym (a.came.parts ∙ ap (λ (rest : List Captured). a.came.judged ++ rest) (a.all (λ e. absurd cc) (λ e. absurd cc)) ∙ append-nil a.came.judged) in (
-          octets,
-          a.came.held,
-          refl,
-          ended_well (capture_of limit octets).end (due_zero failed (status_at (capture_of limit octets).end) answer zero a.answers.status_is),
-          subst (HoldAt judged.accepted judged.items a.came.held) all a.came.leaves,
-          subst (λ (packets : List Captured). Grew call.before.written call.now.written (lines_from 0 (rules_by a.came.held) packets)) all (whole_zero _ failed _ _ answer zero a.answers),
-        )
+        sym (a.came.parts ∙ ap (λ (rest : List Captured). a.came.judged ++ rest) (a.all (λ e. absurd cc) (λ e. absurd cc)) ∙ append-nil a.came.judged) in
+        record {
+          accepted = judged.accepted;
+          items = judged.items;
+          config_is = files.0;
+          tape_is = files.1;
+          capture_octets = octets;
+          capture_is = e;
+          capture_done = ended_well (capture_of limit octets).end (due_zero failed (status_at (capture_of limit octets).end) answer zero a.answers.status_is);
+          held = a.came.held;
+          leaves = subst (HoldAt judged.accepted judged.items a.came.held) all a.came.leaves;
+          wrote = subst (λ (packets : List Captured). Grew call.before.written call.now.written (lines_from 0 (rules_by a.came.held) packets)) all
+              (whole_zero _ failed _ _ answer zero a.answers);
+        }
 
 listed_well : (survey : Text) (limit : ℕ) (holds : Names) (config tape : List ℕ) (failed : Type 0) (call : Happened) (answer : ℕ)
     → ListsSo survey limit holds config tape failed call.before.written call.now.written answer → answer ≡ 0 → Surveyed survey limit holds config tape call
@@ -236,27 +212,25 @@ converted_well : (limit : ℕ) (holds : Names) (config dump : List ℕ) (failed 
     → ConvertsSo limit holds config dump failed call.before.written call.now.written answer → answer ≡ 0 → Converted limit holds config dump call
 converted_well limit holds config dump failed call answer (inl early) zero =
     absurd (never_early (config_stage limit holds config) failed answer 0 zero (λ e. absurd cc) (λ e. absurd cc) (λ refusal h e. never_zero refusal e) early.reason)
-converted_well limit holds config dump failed call answer (inr makes) zero =
-    let file = config_held limit holds config makes.accepted makes.found in
-    let read = by (holds dump) makes.answers in
-    record {
-      accepted = makes.accepted;
-      config_is = file;
-      dump_octets = read.0;
-      dump_is = read.1;
-      items = (remade makes.accepted limit read.0).0;
-      items_are = read.2;
-      wrote = read.3;
-      read_back = λ tape_limit are. reads_back_converted file.octets makes.accepted limit tape_limit read.0 file.accepted are;
-    }
+converted_well limit holds config dump failed call answer (inr makes) zero = by (holds dump) refl makes.answers
   where
-    by : (content : Option (List ℕ)) → Answers (verdict_of makes.accepted limit (or_stop Outside content)) failed call.before.written call.now.written answer
-        → (octets : List ℕ) × (content ≡ Some octets) × (remade makes.accepted limit octets ≡ ((remade makes.accepted limit octets).0, done))
-        × Grew call.before.written call.now.written (tape_text Two (remade makes.accepted limit octets).0)
-    by None a = absurd (never_zero Outside (due_zero failed (status_of Outside) answer zero a.status_is))
-    by (Some octets) a =
-        let ended = dump_done (remade makes.accepted limit octets).1 (due_zero failed (dump_status (remade makes.accepted limit octets).1) answer zero a.status_is) in
-        (octets, refl, (λ i. ((remade makes.accepted limit octets).0, ended i)), whole_zero _ failed _ _ answer zero a)
+    by : (content : Option (List ℕ)) → holds dump ≡ content
+        → Answers (verdict_of makes.accepted limit (or_stop Outside content)) failed call.before.written call.now.written answer → Converted limit holds config dump call
+    by None e a = absurd (never_zero Outside (due_zero failed (status_of Outside) answer zero a.status_is))
+    by (Some octets) e a =
+        let file = config_held limit holds config makes.accepted makes.found in
+        let made = remade makes.accepted limit octets in
+        let ended = dump_done made.1 (due_zero failed (dump_status made.1) answer zero a.status_is) in
+        record {
+          accepted = makes.accepted;
+          config_is = file;
+          dump_octets = octets;
+          dump_is = e;
+          items = made.0;
+          items_are = λ i. (made.0, ended i);
+          wrote = whole_zero _ failed _ _ answer zero a;
+          read_back = λ tape_limit are. reads_back_converted file.octets makes.accepted limit tape_limit octets file.accepted are;
+        }
 
 generated_well : (count : ℕ) (failed : Type 0) (call : Happened) (answer : ℕ)
     → GeneratesSo count failed call.before.written call.now.written answer → answer ≡ 0 → Generated count call
@@ -305,6 +279,9 @@ pub one_but : {T : Type 0} (r : Result T Refusal) (others : List ℕ) → AllByR
 one_but r [] all = every_one r
 one_but r (s ∷ others) all = without s (but others) (answered r) all.0 (one_but r others all.1)
 
+pub one_of_session : {T : Type 0} (r : Result T Refusal) → IsOfSession (answered r) → IsOneOf (but (4 ∷ 5 ∷ 10 ∷ [])) (answered r)
+one_of_session r p = one_but r (4 ∷ 5 ∷ 10 ∷ []) (p.0, (p.1, (p.2, tt)))
+
 -- at want of memory nothing is written, over a tape that isn't of the second version
 pub wants_enforce : {S T : Type 0} {tells : Bool} (limit : ℕ) (holds : Names) (result : Result T Refusal) {form : Form} {config tape capture : List ℕ} {old new : S} {answer : ℕ}
     → form ≡ Enforce config tape capture → answer ≡ answered result
@@ -323,13 +300,18 @@ enforce_as Says e asked p = subst of (sym e ∙ asked) p
     of _ = ⊤
 
 -- and of a survey, whose status is answered
-pub survey_as : (Says : List ℕ → List ℕ → ℕ → Type 0) {form : Form} {survey survey' : Survey} {config tape config' tape' : List ℕ} {status answer : ℕ}
-    → form ≡ Surveys survey config tape → form ≡ Surveys survey' config' tape' → answer ≡ status → Says config tape status → Says config' tape' answer
-survey_as Says {config' = config'} {tape' = tape'} {status = status} e asked same p = subst (Says config' tape') (sym same) (subst of (sym e ∙ asked) p)
-  where
-    of : Form → Type 0
-    of (Surveys kind a b) = Says a b status
-    of _ = ⊤
+-- what the command of this form opened, at the status that its answer has
+pub opens_as : {form shown : Form} {before now : Option (List Opened)} {status answer : ℕ}
+    → shown ≡ form → answer ≡ status → OpensFront (openings form) before now status → OpensFront (openings shown) before now answer
+opens_as {before = before} {now = now} {answer = answer} shown same p =
+    subst (λ (f : Form). OpensFront (openings f) before now answer) (sym shown) (subst (OpensFront _ before now) (sym same) p)
+
+-- a command that opens no file
+pub opens_none : {form shown : Form} (before : Option (List Opened)) (answer : ℕ) → shown ≡ form
+    → openings form ≡ record { files = []; judged = 1; due = 0 } → OpensFront (openings shown) before before answer
+opens_none before answer shown none =
+    subst (λ (o : Openings). OpensFront o before before answer) (sym (ap openings shown ∙ none))
+    (record { count = 1; front = Grew-refl before; some = omega (arith); few = λ three. omega (arith); all = λ zero. omega (arith) })
 
 -- the promises of a run, whose words ask for no command
 
@@ -346,7 +328,7 @@ promises_none limit of_files of_sink of_wire of_clock files sink wire clock word
       nothing_done = λ none. (refl, refl, refl, refl);
       check_opens_nothing = λ subject word asked. refl;
       gen_opens_nothing = λ count asked. refl;
-      survey_opens = λ survey config tape asked. not_asked (Surveys survey config tape) (form_of words) e asked;
+      opens = λ asked is. not_asked asked (form_of words) e is;
       wire_unused = λ form asked silent. (refl, refl);
       config_writes_nothing = λ three. (refl, refl, refl);
       limit_writes_nothing = λ seven survey config tape asked. refl;
@@ -388,8 +370,7 @@ pub promises_some : {F S W C : Type 0} (limit : ℕ) (w : Objects F S W C) (word
     → Wants limit (names_in w) config tape capture (w.of_files.left w.files_before 2) (w.of_files.left w.files_behind 2) (happened_in w))
     → ((subject : Subject) (word : List ℕ) → form ≡ Check subject word → FilesKept w)
     → ((count : ℕ) → form ≡ Gen count → FilesKept w)
-    → ((survey : Survey) (config tape : List ℕ) → form ≡ Surveys survey config tape
-    → OpensBoth config tape (w.of_files.opened w.files_before) (w.of_files.opened w.files_behind) answer)
+    → OpensFront (openings form) (w.of_files.opened w.files_before) (w.of_files.opened w.files_behind) answer
     → (speaks form ≡ false → WireKept w × ClockKept w)
     → Promises limit w words answer
 promises_some limit w words form answer e run known quiet wanting bounded still unfinished unopened generates opens silent =
@@ -409,7 +390,7 @@ promises_some limit w words form answer e run known quiet wanting bounded still 
       nothing_done = λ none. no_form form (form_of words) e none;
       check_opens_nothing = λ subject word asked. unopened subject word (the (Check subject word) asked);
       gen_opens_nothing = λ count asked. generates count (the (Gen count) asked);
-      survey_opens = λ survey config tape asked. opens survey config tape (the (Surveys survey config tape) asked);
+      opens = λ asked is. subst (λ (f : Form). OpensFront (openings f) (w.of_files.opened w.files_before) (w.of_files.opened w.files_behind) answer) (the asked is) opens;
       wire_unused = λ asked is unspoken. silent (ap speaks (the asked is) ∙ unspoken);
       config_writes_nothing = quiet;
       limit_writes_nothing = λ seven survey config tape asked. bounded seven survey config tape (the (Surveys survey config tape) asked);

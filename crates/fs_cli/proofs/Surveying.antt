@@ -1,8 +1,7 @@
 -- How the answer of a survey follows from those of its stages.
 use Rattle.fs_cli.proofs.Words.{◌≡◌, ◌≢◌, ◌⊎◌, inl, inr, ◌∙◌, ℕ, List, [], Option, Result, Ok, Err, refl, ap, sym, subst, Grew, GrewPart, Config, Grew-refl, Timed, Names, config_stage, tape_stage, IsPlayed, untimed, answered, Answers, verdict_with, Stage, Found, and_then, status_of, HasReason, Fails, Writes, Refusal, Outside, Rejected, Tape, Capture, Dump, Memory, Limit, Session, take_nothing, accepted_with, fails_for, said_by, said_partly, said_so, said_whole, Text, stopped_text, ListsSo, SaysOf}
 use Rattle.std.specs.Result.{IsErrAnd}
-use Rattle.fs_desk.specs.Desk.{Desked}
-use Rattle.fs_desk.proofs.Leaves.{played_leaves}
+use Rattle.fs_desk.{specs.Desk.{Desked}, proofs.Leaves.{played_leaves}}
 
 -- of no other fault than a tape's anything is said
 nothing_said : (refusal : Refusal) → status_of refusal ≢ 4 → stopped_text refusal ≡ []

@@ -1,14 +1,7 @@
 -- What the command line may say.
-use Rattle.std.specs.Prelude.{◌==◌, ◌&&◌, ℕ, List, [], ◌∷◌, Bool, false, not, nat_le, Option, Some, None, if◌then◌else◌, codes, decimal, option_map}
-use Rattle.std.specs.Str.{bytes_eq}
-use Rattle.std.specs.Str.Parse.{digits_value}
+use Rattle.std.specs.{Prelude.{◌==◌, ◌&&◌, ℕ, List, [], ◌∷◌, Bool, false, not, nat_le, Option, Some, None, if◌then◌else◌, codes, decimal, option_map}, Str.{bytes_eq, Parse.{digits_value}}}
 use Rattle.fs_base.specs.declared.prefix.Family.TheVariants.{V4, V6}
-use Rattle.fs_cli.specs.declared.command.Command.{Command}
-use Rattle.fs_cli.specs.declared.command.Command.TheVariants.{Enforce as EnforceCommand, Survey as SurveyCommand, Convert as ConvertCommand, Check as CheckCommand, Gen as GenCommand, Announce as AnnounceCommand, Listen as ListenCommand, Pair as PairCommand}
-use Rattle.fs_cli.specs.declared.command.Subject.{Subject}
-use Rattle.fs_cli.specs.declared.command.Subject.TheVariants.{Nlri, Text}
-use Rattle.fs_cli.specs.declared.survey.Survey.{Survey}
-use Rattle.fs_cli.specs.declared.survey.Survey.TheVariants.{Rules, Shadow, Words}
+use Rattle.fs_cli.specs.declared.{command.{Command.{Command, TheVariants.{Enforce as EnforceCommand, Survey as SurveyCommand, Convert as ConvertCommand, Check as CheckCommand, Gen as GenCommand, Announce as AnnounceCommand, Listen as ListenCommand, Pair as PairCommand}}, Subject.{Subject, TheVariants.{Nlri, Text}}}, survey.Survey.{Survey, TheVariants.{Rules, Shadow, Words}}}
 
 -- a command, with the names of the files that it is to read, or the word that it is to say of and what as, or how
 -- many steps and packets it is to generate, or the files and the address of whom it is to announce to or to receive from,
@@ -79,7 +72,7 @@ form_of _ = None
 -- what a parsed command says
 abbrev pub form_shown : Command → Form
 form_shown (EnforceCommand names) = Enforce names.config.now names.tape.now names.capture.now
-form_shown (SurveyCommand survey names) = Surveys survey names.config.now names.tape.now
+form_shown (SurveyCommand survey config tape) = Surveys survey config.now tape.now
 form_shown (ConvertCommand names) = Converts names.config.now names.dump.now
 form_shown (CheckCommand subject word) = Check subject word.now
 form_shown (GenCommand count) = Gen count

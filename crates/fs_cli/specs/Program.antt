@@ -1,27 +1,14 @@
 -- What a run of the program promises, and what it answers and writes.
 use Rattle.std.specs.Prelude.{◌≡◌, ◌⊎◌, ℕ, List, [], ◌∷◌, Bool, true, false, Option, if◌then◌else◌, ◌↔◌, IsTrue, IfSome, Some, None}
-use Rattle.fs_base.specs.Happened.{Happened, SinkFailed, happened, with_wire, FilesFailed, FilesStood, SinkStood, WireFailed, WireStood, Wrote}
-use Rattle.fs_base.specs.Sink.{Grew}
-use Rattle.fs_reports.specs.Report.{Reports}
-use Rattle.fs_reports.specs.Text.{ReportsText}
-use Rattle.cmd_stages.specs.Refusal.{Verdict, Answers}
+use Rattle.fs_base.specs.{Happened.{Happened, SinkFailed, happened, with_wire, FilesFailed, FilesStood, SinkStood, WireStood, Wrote}, Sink.{Grew}}
+use Rattle.fs_reports.specs.{Report.{Reports}, Text.{ReportsText}}
+use Rattle.cmd_stages.specs.{Refusal.{Verdict, Answers}, Load.{Names, sending_stage, Openings, OpensFront, config_alone, config_then}, Play.{HasVersion, accepted_stage}}
 use Rattle.cmd_convert.specs.Command.{Converts as ConvertsDump, Converted, convert_status}
-use Rattle.cmd_enforce.specs.Command.{Enforces, Enforced, Wants, inputs_stage, status_for}
+use Rattle.cmd_enforce.specs.Command.{Enforces, Enforced, Wants, inputs_stage, status_for, openings_of}
 use Rattle.cmd_gen.specs.Command.{Generates, Generated}
-use Rattle.cmd_stages.specs.Load.{Names, OpensBoth}
-use Rattle.cmd_wire.specs.Announcing.{Announces}
-use Rattle.cmd_wire.specs.Conversation.{Conversation, conversation}
-use Rattle.cmd_wire.specs.Listening.{ListensTo}
-use Rattle.cmd_wire.specs.Pairing.{Joins}
-use Rattle.cmd_wire.specs.Promised.{AnnouncePromises, HasAnnounceStatus, HasPairStatus, PairPromises}
-use Rattle.cmd_wire.specs.PromisedHearing.{HasListenStatus, ListenPromises}
-use Rattle.fs_cli.specs.Command.{Form, Enforce, Surveys, Converts, Check, Gen, form_of, Announce, Listen, Pair}
-use Rattle.cmd_stages.specs.Play.{HasVersion, accepted_stage}
+use Rattle.cmd_wire.specs.{Announcing.{Announced, Announces}, Conversation.{Conversation, conversation}, Listening.{Heard, ListensTo, hearing_stage}, Pairing.{Carries, Joins}, Concluded.{AnyFailed, HasStatusBy}, Promised.{AnnouncePromises, ListenPromises, PairPromises}}
+use Rattle.fs_cli.specs.{Command.{Form, Enforce, Surveys, Converts, Check, Gen, form_of, Announce, Listen, Pair}, Survey.{Lists, Surveyed, listed_status, text_for}, declared.{command.Subject.{Subject, TheVariants.{Nlri, Text}}, survey.Survey.{Survey}}}
 use Rattle.fs_tape.specs.declared.magic.Version.TheVariants.{Two}
-use Rattle.fs_cli.specs.Survey.{Lists, Surveyed, listed_status, text_for}
-use Rattle.fs_cli.specs.declared.command.Subject.{Subject}
-use Rattle.fs_cli.specs.declared.command.Subject.TheVariants.{Nlri, Text}
-use Rattle.fs_cli.specs.declared.survey.Survey.{Survey}
 use Rattle.fs_base.specs.declared.Files as files
 use Rattle.fs_base.specs.declared.Sink as sink
 use Rattle.fs_base.specs.declared.Wire as wire
@@ -92,9 +79,20 @@ HasStatus limit holds (Converts config dump) talk answer = answer ≡ convert_st
 HasStatus limit holds (Check subject word) talk answer =
     (accepted : Bool) × (text : List ℕ) × ReportsOn subject word text accepted × (answer ≡ (report_verdict accepted text).status)
 HasStatus limit holds (Gen count) talk answer = answer ≡ 0
-HasStatus limit holds (Announce config rules address) talk answer = HasAnnounceStatus limit holds config rules talk answer
-HasStatus limit holds (Listen config address) talk answer = HasListenStatus limit holds config talk answer
-HasStatus limit holds (Pair config rules) talk answer = HasPairStatus limit holds config rules talk answer
+HasStatus limit holds (Announce config rules address) talk answer =
+    HasStatusBy (Announced limit talk) (sending_stage limit holds config rules) answer
+HasStatus limit holds (Listen config address) talk answer = HasStatusBy (Heard limit talk) (hearing_stage limit holds config) answer
+HasStatus limit holds (Pair config rules) talk answer = HasStatusBy (Carries limit talk) (sending_stage limit holds config rules) answer
+
+-- the files that a command opens, in order
+abbrev pub openings : Form → Openings
+openings (Enforce config tape capture) = openings_of config tape capture
+openings (Surveys survey config tape) = config_then 1 config tape
+openings (Converts config dump) = config_then 1 config dump
+openings (Announce config rules address) = config_then 2 config rules
+openings (Listen config address) = config_alone config
+openings (Pair config rules) = config_then 2 config rules
+openings form = record { files = []; judged = 1; due = 0 }
 
 -- whether a command speaks over the wire
 abbrev pub speaks : Form → Bool
@@ -105,7 +103,7 @@ speaks form = false
 
 -- a call on the files or on the sink failed, or on the wire of a command that speaks over it
 abbrev pub FailedOver : (speaks : Bool) → Happened → Type 0
-FailedOver true call = FilesFailed call ⊎ (SinkFailed call ⊎ WireFailed call)
+FailedOver true call = AnyFailed call
 FailedOver false call = FilesFailed call ⊎ SinkFailed call
 
 abbrev pub OutsideFailed : Form → Happened → Type 0
@@ -208,9 +206,10 @@ pub record Promises {F S W C : Type 0} (limit : ℕ) (w : Objects F S W C) (word
       → form_of words ≡ Some (Check subject word) → FilesKept w
   -- `gen` opens no file.
   pub gen_opens_nothing : (count : ℕ) → form_of words ≡ Some (Gen count) → FilesKept w
-  -- A survey opens the configuration and then the tape, each in its slot, and no other file; at 3 the configuration alone.
-  pub survey_opens : (survey : Survey) (config tape : List ℕ) → form_of words ≡ Some (Surveys survey config tape)
-      → OpensBoth config tape (w.of_files.opened w.files_before) (w.of_files.opened w.files_behind) answer
+  -- What a command opened is a front of its files, in their order, each in its slot: the first at least, at 0 all
+  -- (`enforce` the first three at least), at 3 of `enforce`, `convert` and a survey the configuration alone.
+  pub opens : (form : Form) → form_of words ≡ Some form
+      → OpensFront (openings form) (w.of_files.opened w.files_before) (w.of_files.opened w.files_behind) answer
   -- Only `announce`, `listen` and `pair` use the wire, and the clock.
   pub wire_unused : (form : Form) → form_of words ≡ Some form → speaks form ≡ false → WireKept w × ClockKept w
   -- At 3 nothing is written, and neither the wire nor the clock is used, whatever the files tell.

@@ -1,24 +1,13 @@
 -- What the commands that survey a tape answer and write.
-use Rattle.std.specs.Prelude.{◌≡◌, ◌≢◌, ◌⊎◌, ℕ, List, [], Option, Result}
-use Rattle.std.specs.Result.{IsErrAnd}
-use Rattle.fs_base.specs.Happened.{Happened, FilesFailed, SinkFailed, Wrote}
-use Rattle.fs_base.specs.Sink.{Grew}
-use Rattle.fs_base.specs.declared.config.Config.{Config}
-use Rattle.fs_cli.specs.declared.survey.Survey.{Survey}
-use Rattle.fs_cli.specs.declared.survey.Survey.TheVariants.{Rules, Shadow, Words}
-use Rattle.fs_reports.specs.Listing.{listing}
-use Rattle.fs_reports.specs.TapeFault.{tape_fault_line}
+use Rattle.std.specs.{Prelude.{◌≡◌, ◌≢◌, ◌⊎◌, ℕ, List, [], Option, Result}, Result.{IsErrAnd}}
+use Rattle.fs_base.specs.{Happened.{Happened, FilesFailed, SinkFailed, Wrote}, Sink.{Grew}, declared.config.Config.{Config}}
+use Rattle.fs_cli.specs.declared.survey.Survey.{Survey, TheVariants.{Rules, Shadow, Words}}
+use Rattle.fs_reports.specs.{Listing.{listing}, TapeFault.{tape_fault_line}, Worded.{worded}}
 use Rattle.fs_rules.specs.Table.{Held}
 use Rattle.fs_shadow.specs.Text.{shadow_listing}
 use Rattle.fs_tape.specs.Tape.{Item, Timed}
-use Rattle.fs_reports.specs.Worded.{worded}
-use Rattle.cmd_stages.specs.Load.{HoldsConfig, Names}
-use Rattle.fs_desk.specs.Leaves.{Leaves}
-use Rattle.cmd_stages.specs.Play.{HoldsTape, accepted_stage, untimed}
-use Rattle.cmd_stages.specs.Refusal.{Answers, verdict_with, Stage, Found, Stopped, status_of}
-use Rattle.cmd_stages.specs.Writing.{Fails}
-use Rattle.cmd_stages.specs.declared.refusal.Refusal.{Refusal}
-use Rattle.cmd_stages.specs.declared.refusal.Refusal.TheVariants.{Tape}
+use Rattle.cmd_stages.specs.{Load.{HoldsConfig, Names}, Play.{HoldsTape, accepted_stage, untimed}, Refusal.{Answers, verdict_with, Stage, Found, Stopped, status_of}, Writing.{Fails}, declared.refusal.Refusal.{Refusal, TheVariants.{Tape}}}
+use Rattle.fs_desk.specs.{Desk.{Desked, Played}, Leaves.{Leaves}}
 
 -- a survey: its text, of the configuration, the items of a tape, and the routes that they leave held
 abbrev pub Text : Type 0
@@ -28,6 +17,11 @@ abbrev pub text_for : Survey → Text
 text_for Rules = listing
 text_for Words = worded
 text_for Shadow = shadow_listing
+
+-- the text surveys what a desk holds that was played to these items
+abbrev pub SurveysDesk : Text → Desked → List ℕ → Type 0
+SurveysDesk survey desk text =
+    (config : Config) (items : List Item) → Played config items desk → text ≡ survey config items desk.held
 
 -- what is written at a refusal: of a tape's fault its name and its place
 abbrev pub stopped_text : Refusal → List ℕ

@@ -1,10 +1,9 @@
 //! What the words of the command line ask for.
 
-ghost use Rattle.std.specs.Prelude.{◌≡◌, ◌∷◌, [], decimal, map, option_map, string_bytes};
-ghost use Rattle.std.specs.Str.{bytes_eq};
+ghost use Rattle.std.specs.{Prelude.{◌≡◌, ◌∷◌, [], decimal, map, option_map, string_bytes}, Str.{bytes_eq}};
 ghost use Rattle.fs_cli.specs.Command.{check_form, count_of, form_of, is_name, form_shown, subject_of, survey_of};
 
-use crate::survey::{Survey, SurveyNames};
+use crate::survey::Survey;
 use cmd_convert::DumpNames;
 use cmd_enforce::InputNames;
 use fs_base::Family;
@@ -19,7 +18,11 @@ pub enum Command<'w> {
     /// Plays a tape, and judges the packets of a capture by the rules that it admits at their moments.
     Enforce(InputNames<'w>),
     /// Plays a tape, and surveys what it leaves.
-    Survey(Survey, SurveyNames<'w>),
+    Survey {
+        survey: Survey,
+        config: &'w str,
+        tape: &'w str,
+    },
     /// Reads a dump, and writes the tape of the second version that its records make.
     Convert(DumpNames<'w>),
     /// Plays a generated tape, and counts what becomes of generated packets: so many of each.
@@ -116,13 +119,11 @@ fn parse_two<'w>(word: &str, first: &'w str, second: &'w str) -> Option<Command<
             rules: second,
         }),
         _ => match survey_of(word) {
-            Some(survey) => Some(Command::Survey(
+            Some(survey) => Some(Command::Survey {
                 survey,
-                SurveyNames {
-                    config,
-                    tape: second,
-                },
-            )),
+                config,
+                tape: second,
+            }),
             None => None,
         },
     }

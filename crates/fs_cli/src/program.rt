@@ -2,13 +2,9 @@
 
 ghost use Rattle.std.specs.Prelude.{◌≡◌, ◌≢◌, ◌≤◌, ◌^◌, ◌∷◌, [], ℕ, IfOk, IsTrue, List, Some, false, map, string_bytes};
 ghost use Rattle.fs_base.specs.Happened.{at_sink, happened, with_wire};
-ghost use Rattle.fs_cli.specs.declared.command.Subject.{Subject};
-ghost use Rattle.fs_cli.specs.declared.survey.Survey.{Survey};
-ghost use Rattle.fs_cli.specs.Program.{Checks, HasNoMoments, IsOneOf, Promises, ReportsOn, Runs, checked, speaks, objects};
-ghost use Rattle.fs_cli.specs.Command.{form_shown, Check, Enforce, Gen, Surveys};
-ghost use Rattle.cmd_stages.specs.Load.{OpensBoth};
+ghost use Rattle.fs_cli.specs.{declared.{command.Subject.{Subject}, survey.Survey.{Survey}}, Program.{Checks, HasNoMoments, IsOneOf, Promises, ReportsOn, Runs, checked, speaks, objects, openings}, Command.{form_shown, Check, Enforce, Gen, Surveys}};
+ghost use Rattle.cmd_stages.specs.{Load.{OpensFront}, Refusal.{answered}};
 ghost use Rattle.cmd_enforce.specs.Command.{Wants};
-ghost use Rattle.cmd_stages.specs.Refusal.{answered};
 ghost use Rattle.cmd_wire.specs.Conversation.{conversation};
 
 use crate::command::{Command, Subject, parse};
@@ -99,10 +95,8 @@ fn perform<F: Files, S: Sink, W: Wire, C: Clock>(
         → (config tape : List ℕ)
         → form_shown job.entry.command ≡ Surveys survey config tape
         → sink.new ≡ sink.old }
-    ensures opens { (survey : Survey)
-        → (config tape : List ℕ)
-        → form_shown job.entry.command ≡ Surveys survey config tape
-        → OpensBoth config tape (F.opened files.old) (F.opened files.new) result }
+    ensures opens { OpensFront (openings (form_shown job.entry.command))
+        (F.opened files.old) (F.opened files.new) result }
     ensures still { IsTrue F.tells
         → result ≡ 4
         → (config tape capture : List ℕ)
@@ -125,9 +119,11 @@ fn perform<F: Files, S: Sink, W: Wire, C: Clock>(
     let Job { command, limit } = job;
     match command {
         Command::Enforce(names) => answer_of(enforce(alloc, files, sink, &names, limit)),
-        Command::Survey(survey, names) => {
-            answer_of(survey_tape(alloc, files, sink, survey, &names, limit))
-        }
+        Command::Survey {
+            survey,
+            config,
+            tape,
+        } => answer_of(survey_tape(alloc, files, sink, survey, config, tape, limit)),
         Command::Convert(names) => answer_of(convert(alloc, files, sink, &names, limit)),
         Command::Check(subject, word) => run_check(alloc, sink, subject, word),
         Command::Gen(count) => answer_of(generate(alloc, sink, count)),

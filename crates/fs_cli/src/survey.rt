@@ -1,14 +1,9 @@
 //! The commands that play a tape and survey what it leaves.
 
-ghost use Rattle.std.specs.Prelude.{◌≡◌, ◌≤◌, ◌⊎◌, IfOk, IsTrue, List};
-ghost use Rattle.fs_base.specs.Happened.{happened};
-ghost use Rattle.fs_base.specs.Outside.{Rose};
-ghost use Rattle.fs_base.specs.declared.config.Config.{Config};
-ghost use Rattle.fs_tape.specs.Tape.{Item};
-ghost use Rattle.fs_desk.specs.Desk.{Played};
-ghost use Rattle.cmd_stages.specs.Load.{OpensBoth};
-ghost use Rattle.cmd_stages.specs.Refusal.{IsOfTape, answered, status_of};
-ghost use Rattle.fs_cli.specs.Survey.{IsOfSurvey, Lists, SaysOf, text_for};
+ghost use Rattle.std.specs.Prelude.{◌≡◌, ◌≤◌, ◌⊎◌, IfOk, IsTrue};
+ghost use Rattle.fs_base.specs.{Happened.{happened}, Outside.{Rose}};
+ghost use Rattle.cmd_stages.specs.{Load.{OpensFront, config_then}, Refusal.{IsOfTape, answered, status_of}};
+ghost use Rattle.fs_cli.specs.Survey.{IsOfSurvey, Lists, SaysOf, SurveysDesk, text_for};
 
 use cmd_stages::{Refusal, load_config, play_whole, write_made};
 use fs_base::{Files, Memory, Sink};
@@ -29,13 +24,6 @@ pub enum Survey {
     Shadow,
 }
 
-/// The names of the files that a survey is made of.
-#[derive(Clone, Copy, Drop)]
-pub struct SurveyNames<'w> {
-    pub config: &'w str,
-    pub tape: &'w str,
-}
-
 /// Plays the tape, and writes the survey of what it leaves; at a fault of the tape only that is written.
 ///
 /// # Errors
@@ -46,23 +34,24 @@ pub fn survey_tape<F: Files, S: Sink>(
     files: &mut F,
     sink: &mut S,
     survey: Survey,
-    names: &SurveyNames<'_>,
+    config: &str,
+    tape: &str,
     limit: u64,
 ) -> Result<(), Refusal>
     ensures files_later { F.faults files.old ≤ F.faults files.new }
     ensures sink_later { S.faults sink.old ≤ S.faults sink.new }
     ensures possible { IsOfSurvey (answered result) }
     ensures quiet { (answered result ≡ 3) ⊎ (answered result ≡ 6) ⊎ (answered result ≡ 7) → sink.new ≡ sink.old }
-    ensures opens { OpensBoth names.now.config.now names.now.tape.now
+    ensures opens { OpensFront (config_then 1 config.now tape.now)
         (F.opened files.old) (F.opened files.new) (answered result) }
 
     ensures lists { IsTrue F.tells
-        → Lists (text_for survey) limit (F.holds files.old) names.now.config.now names.now.tape.now
+        → Lists (text_for survey) limit (F.holds files.old) config.now tape.now
         (happened F.Files S.Sink files.old files.new sink.old sink.new)
         (answered result) }
 {
-    let config = load_config(alloc, files, names.config, limit)?;
-    match play_whole(alloc, files, &config, names.tape, limit) {
+    let config = load_config(alloc, files, config, limit)?;
+    match play_whole(alloc, files, &config, tape, limit) {
         Ok(whole) => write_made(survey_text(alloc, survey, &whole.desk), sink),
         Err(refusal) => tell_refusal(alloc, refusal, sink),
     }
@@ -70,8 +59,7 @@ pub fn survey_tape<F: Files, S: Sink>(
 
 /// The survey of the desk behind a tape.
 fn survey_text(alloc: Global, survey: Survey, desk: &Desk<'_>) -> Result<Vec<u8>, Memory>
-    ensures { IfOk result (λ text. (config : Config) (items : List Item) → Played config items desk.now
-        → text.items ≡ text_for survey config items desk.now.held) }
+    ensures { IfOk result (λ text. SurveysDesk (text_for survey) desk.now text.items) }
 {
     match survey {
         Survey::Rules => desk_text(alloc, desk),

@@ -1,6 +1,5 @@
 -- The search through buckets, from one to its parent: what it passes holds no rule that matches, and what it tests is near.
-use Rattle.fs_compile.proofs.Words.{◌≡◌, ℕ, ◌+◌, ◌-◌, ◌<◌, ◌≤◌, ◌⊎◌, inl, inr, max, sym, ap, subst, ◌∙◌, Bool, true, false, true≢false, Option, Some, None, MatchOption, IfSome, cond, map, List, length, get_or, count_by, arith, cases_lt, get_or-map, sum_by-take-le, false_from, Node, AreBuckets, node_at, AreNear, Found, Missed, Within, marked, tested_to}
-use Rattle.fs_compile.proofs.Counts.{marked_all, marked_later, marked_tested}
+use Rattle.fs_compile.proofs.{Words.{◌≡◌, ℕ, ◌+◌, ◌-◌, ◌<◌, ◌≤◌, ◌⊎◌, inl, inr, max, sym, ap, subst, ◌∙◌, Bool, true, false, true≢false, Option, Some, None, MatchOption, IfSome, cond, map, List, length, get_or, count_by, arith, cases_lt, get_or-map, sum_by-take-le, false_from, Node, AreBuckets, node_at, AreNear, Found, Missed, Within, marked, tested_to}, Counts.{marked_all, marked_later, marked_tested}}
 use Rattle.fs_buckets.proofs.Homes.{home_before, home_from}
 
 -- Stretches joined.

@@ -1,6 +1,5 @@
 -- The filters of rules of which a stretch is put anew.
-use Rattle.fs_compile.proofs.Words.{◌≡◌, ℕ, ◌+◌, ◌-◌, ◌*◌, ◌<◌, ◌≤◌, max, refl, sym, ap, ap₂, subst, ◌∙◌, false, List, length, get_or, arith, splice, length-map, PortRows, Fast, Filter, ArePortRows, AreRowsOf, IsColumn, bit_in, words_for, Facts, facts_hold, IsFilter, hits, at_back, at_front, map_spliced, spliced_size}
-use Rattle.fs_compile.specs.declared.columns.Column.{Column}
+use Rattle.fs_compile.{proofs.Words.{◌≡◌, ℕ, ◌+◌, ◌-◌, ◌*◌, ◌<◌, ◌≤◌, max, refl, sym, ap, ap₂, subst, ◌∙◌, false, List, length, get_or, arith, splice, length-map, PortRows, Fast, Filter, ArePortRows, AreRowsOf, IsColumn, bit_in, words_for, Facts, facts_hold, IsFilter, hits, at_back, at_front, map_spliced, spliced_size}, specs.declared.columns.Column.{Column}}
 
 column_moved : (before after : List Fast) (first end first' end' : ℕ) (column : Column) → first ≤ end → end' ≡ first' + (end - first)
     → ((facts : Facts) (i : ℕ) → first + i < end → get_or (hits facts after) (first' + i) false ≡ get_or (hits facts before) (first + i) false)

@@ -1,6 +1,5 @@
 -- An index with the rules of one destination put anew.
-use Rattle.fs_compile.proofs.Words.{◌≡◌, ℕ, ◌-◌, ◌≤◌, sym, ap, subst, ◌∙◌, Option, List, ◌++◌, take, drop, length, arith, AllByRecursion, splice, length-map, Family, Listed, Fast, StandsFor, AreHoused, HasStretch, Indexed, IsIndexOf, StandForEach, actions_of, IsOfFamily, span_of, spans_of, IsStretch, each_spliced, map_spliced, rules_size}
-use Rattle.fs_compile.proofs.Indexing.{stand_size}
+use Rattle.fs_compile.proofs.{Words.{◌≡◌, ℕ, ◌-◌, ◌≤◌, sym, ap, subst, ◌∙◌, Option, List, ◌++◌, take, drop, length, arith, AllByRecursion, splice, length-map, Family, Listed, Fast, StandsFor, AreHoused, HasStretch, Indexed, IsIndexOf, StandForEach, actions_of, IsOfFamily, span_of, spans_of, IsStretch, each_spliced, map_spliced, rules_size}, Indexing.{stand_size}}
 use Rattle.fs_buckets.proofs.Pairing.{each_append as pairs_append, each_dropped as pairs_dropped, each_taken as pairs_taken}
 
 -- the index stands for the rules with the stretch put anew

@@ -1,8 +1,6 @@
 -- What the search over the buckets of an index says of the rules that it stands for.
-use Rattle.fs_compile.proofs.Words.{◌≡◌, ℕ, zero, suc, ◌+◌, ◌-◌, ◌<◌, ◌≤◌, ◌⊎◌, inl, inr, refl, sym, ap, ap₂, subst, ◌∙◌, Bool, true, false, true≢false, cond, if◌then◌else◌, Option, Some, None, MatchOption, max, List, [], ◌∷◌, length, get_or, drop, map, count_by, get_or-drop, drop_of_length-le, arith, AllByRecursion, cases_lt, drop-map, get_or_past, length-map, sum_by-cons, sum_by-take-drop, none-some, Family, V4, V6, Viewed, family_of, is_match, Listed, first_from, Compiled, Fast, Hit, AreFacts, Facts, IsSmall, StandsFor, Indexed, IsIndexOf, StandForEach, IsOfFamily, spans_of, StandsForLists, next_from, number_of, reaches, reaching, reaching_behind, reaching_from, Found, IsNear, Missed, Within, hit_number, hits, marked, tested_to, each_size}
-use Rattle.fs_compile.proofs.Climbing.{marked_most}
+use Rattle.fs_compile.proofs.{Words.{◌≡◌, ℕ, zero, suc, ◌+◌, ◌-◌, ◌<◌, ◌≤◌, ◌⊎◌, inl, inr, refl, sym, ap, ap₂, subst, ◌∙◌, Bool, true, false, true≢false, cond, if◌then◌else◌, Option, Some, None, MatchOption, max, List, [], ◌∷◌, length, get_or, drop, map, count_by, get_or-drop, drop_of_length-le, arith, AllByRecursion, cases_lt, drop-map, get_or_past, length-map, sum_by-cons, sum_by-take-drop, none-some, Family, V4, V6, Viewed, family_of, is_match, Listed, first_from, Compiled, Fast, Hit, AreFacts, Facts, IsSmall, StandsFor, Indexed, IsIndexOf, StandForEach, IsOfFamily, spans_of, StandsForLists, next_from, number_of, reaches, reaching, reaching_behind, reaching_from, Found, IsNear, Missed, Within, hit_number, hits, marked, tested_to, each_size}, Climbing.{marked_most}, Reaching.{bare_reaches, match_reaches, span_reaches}}
 use Rattle.fs_ranges.proofs.Placing.{held_of}
-use Rattle.fs_compile.proofs.Reaching.{bare_reaches, match_reaches, span_reaches}
 
 abbrev matches_of : Viewed → List Listed → List Bool
 matches_of view rules = map (λ r. is_match r.rule view) rules
@@ -114,15 +112,15 @@ numbered : (P : Type 0) (Q : ℕ → Type 0) (r : Option Hit) → MatchOption r 
 numbered P Q None h = h
 numbered P Q (Some hit) h = h
 
-near_at : (view : Viewed) (facts : Facts) (rules : List Listed) (index : Indexed) (lent : List Fast) (address : ℕ) → lent ≡ index.rules → AreFacts view facts → address ≡ number_of facts.destination
+near_at : (view : Viewed) (facts : Facts) (rules : List Listed) (index : Indexed) (lent : List Fast) (address : ℕ) → lent ≡ index.rules → AreFacts view facts → address ≡ number_of facts.view.destination
     → IsIndexOf view.family rules index → IsNear index.buckets address (length lent) (near_of view rules)
 near_at view facts rules index lent address e are at h =
     subst (λ (fs : List Fast). IsNear index.buckets address (length fs) (near_of view rules)) (sym e)
-    (subst (λ (a : ℕ). IsNear index.buckets a (length index.rules) (near_of view rules)) (sym (at ∙ ap number_of are.destination)) (are_near view rules index h are.small are.same_family))
+    (subst (λ (a : ℕ). IsNear index.buckets a (length index.rules) (near_of view rules)) (sym (at ∙ (λ i. number_of (are.same i).destination))) (are_near view rules index h are.small are.same_family))
 
 -- What a search over the index says, by what it says of any list of tests that are near.
 pub search_is : (view : Viewed) (facts : Facts) (rules : List Listed) (index : Indexed) (lent : List Fast) (address n : ℕ) (r : Option Hit) → lent ≡ index.rules → AreFacts view facts
-    → address ≡ number_of facts.destination → IsIndexOf view.family rules index
+    → address ≡ number_of facts.view.destination → IsIndexOf view.family rules index
     → ((near : List Bool) → IsNear index.buckets address (length lent) near → Within (hits facts lent) near → MatchOption r (Missed (hits facts lent) n (length lent)) (λ hit. Found (hits facts lent) n (length lent) hit.number))
     → hit_number r ≡ next_from n view rules
 search_is view facts rules index lent address n r e are at h found =
@@ -158,7 +156,7 @@ ahead view rules from most before after (Some k) h =
     omega (arith, h, a, b)
 
 pub steps_are : (view : Viewed) (facts : Facts) (rules : List Listed) (index : Indexed) (lent : List Fast) (address from before after : ℕ) (r : Option ℕ) → lent ≡ index.rules → AreFacts view facts
-    → address ≡ number_of facts.destination → IsIndexOf view.family rules index
+    → address ≡ number_of facts.view.destination → IsIndexOf view.family rules index
     → ((near : List Bool) → IsNear index.buckets address (length lent) near → after + marked from near ≤ before + marked (tested_to r (length lent)) near)
     → after + reaching_behind r view rules ≤ before + reaching_from from view rules
 steps_are view facts rules index lent address from before after r e are at h bound =

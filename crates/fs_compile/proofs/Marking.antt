@@ -1,9 +1,7 @@
 -- Bits that are set where no other is cleared, for more and more of a run's rules.
 use Rattle.fs_compile.proofs.Words.{◌≡◌, ℕ, ◌+◌, ◌-◌, ◌*◌, ◌/◌, ◌%◌, ◌^◌, ◌<◌, ◌≤◌, ◌⊎◌, inl, inr, max, refl, sym, subst, ◌∙◌, Bool, true, false, true≢false, ◌||◌, bit_or, set, take, List, get_or, length, w64, arith, bit_at, cases_lt, cases_order, get_or-map, get_or-set_other, get_or-set_same, length-set, bit_at-lt, bit_at_or, bit_at_set_same, Fast, AreMarked, ArePortsMarked, Grown, IsClass, bit_in, Facts, key_of, facts_hold, hits, contains, is_in}
 use Rattle.std.proofs.lemmas.List.Folds.{list_any_more}
-use Rattle.fs_ranges.specs.declared.Limit.{Limit}
-use Rattle.fs_ranges.specs.Limits.{allows, allows_port}
-use Rattle.fs_ranges.specs.Facts.{number_of}
+use Rattle.fs_ranges.specs.{declared.Limit.{Limit}, Limits.{allows, allows_port}, Facts.{number_of}}
 
 abbrev pub with_bit : ℕ → ℕ → ℕ
 with_bit n bit = bit_or n (1 * 2 ^ bit % 18446744073709551616)

@@ -1,11 +1,8 @@
 -- The rules of a matcher put anew, one place after the other.
-use Rattle.fs_compile.proofs.Words.{◌≡◌, ℕ, zero, suc, Result, Ok, Err, IfOk, ◌-◌, ◌^◌, ◌<◌, ◌≤◌, ◌+◌, ◌==◌, ◌&&◌, ◌||◌, ◌⊎◌, inl, inr, refl, sym, ap, subst, ◌∙◌, Bool, true, false, true≢false, not, cond, Option, Some, None, IfSome, option_map, List, [], ◌∷◌, filter, length, get_or, map, Ordering, Less, Equal, Greater, nat_cmp, pow_pos, arith, AllByRecursion, is_eq, is_gt, is_lt, ordering_then, cases_order, eq-eqb, eqb-true, slice_get_read, each_append, each_weaker, filter_all, filter_on, each_filtered, afi_of, width_of, Family, V4, V6, Prefix, IsMade, Ruled, destination_of, shown, destination_cmp, last_shown, shown_cmp, Listed, listed, Held, IsAdmitted, IsRuleOf, admitted, Change, family_of_destination, Compiled, IsIndexOf, IsOfFamily, span_by, span_of, spans_of, AreTo, place_by, span_cmp, target_of, StandsForLists, admitted_in, AreOwn, put_in, replaced, AreNesting, all_of_family, nesting, made_destination, each_got, same_place}
-use Rattle.std.specs.Cmp.{nat_cmp_is}
-use Rattle.std.proofs.Math.Pow.{pow-lt}
+use Rattle.fs_compile.proofs.{Words.{◌≡◌, ℕ, zero, suc, Result, Ok, Err, IfOk, ◌-◌, ◌^◌, ◌<◌, ◌≤◌, ◌+◌, ◌==◌, ◌&&◌, ◌||◌, ◌⊎◌, inl, inr, refl, sym, ap, subst, ◌∙◌, Bool, true, false, true≢false, not, cond, Option, Some, None, IfSome, option_map, List, [], ◌∷◌, filter, length, get_or, map, Ordering, Less, Equal, Greater, nat_cmp, pow_pos, arith, AllByRecursion, is_eq, is_gt, is_lt, ordering_then, cases_order, eq-eqb, eqb-true, slice_get_read, each_append, each_weaker, filter_all, filter_on, each_filtered, afi_of, width_of, Family, V4, V6, Prefix, IsMade, Ruled, destination_of, shown, destination_cmp, last_shown, shown_cmp, Listed, listed, Held, IsAdmitted, IsRuleOf, admitted, Change, family_of_destination, Compiled, IsIndexOf, IsOfFamily, span_by, span_of, spans_of, AreTo, place_by, span_cmp, target_of, StandsForLists, admitted_in, AreOwn, put_in, replaced, AreNesting, all_of_family, nesting, made_destination, each_got, same_place}, Parting.{one_fewer}, Replacing.{placed}}
+use Rattle.std.{specs.Cmp.{nat_cmp_is}, proofs.Math.Pow.{pow-lt}}
 use Rattle.fs_rules.specs.Changes.{AdmitsElsewhere, IsOwn, is_to, touched_by}
 use Rattle.fs_validate.specs.declared.route.FlowRoute.{FlowRoute}
-use Rattle.fs_compile.proofs.Parting.{one_fewer}
-use Rattle.fs_compile.proofs.Replacing.{placed}
 
 -- the rules are of the family
 abbrev pub AreOf : Family → List Listed → Type 0

@@ -1,9 +1,7 @@
 -- Which packets the destination of a rule covers: those whose destination lies between its first and its last address. A
 -- rule matches no others.
 use Rattle.fs_compile.proofs.Words.{◌≡◌, ℕ, ◌-◌, ◌*◌, ◌^◌, ◌<◌, ◌≤◌, ◌==◌, ◌↔◌, refl, sym, ap, ap₂, subst, ◌∙◌, Bool, true, false, true≢false, cond, Option, Some, None, List, [], ◌∷◌, arith, list_all, eqb-true, eq-eqb, none-some, and_first, and_second, Family, V4, V6, Prefix, width_of, cleared, Body, V4Body, V6Body, ListBody, Part, Ruled, IsRule, IsNormalAt, AreNormal, destination_body, destination_in, destination_of, IsMade, destination_first, last_shown, Viewed, family_of, is_match, is_prefix_of, body_matches, part_matches, family_of_destination, IsSmallAddress, span_by, span_of, number_of, covers_address, reaches, made_destination, HasDestination, from_span}
-use Rattle.fs_base.specs.declared.config.Address.{Address}
-use Rattle.fs_base.specs.declared.config.Address.TheVariants.{V4 as V4Address, V6 as V6Address}
-use Rattle.fs_base.proofs.Addresses.{address_range}
+use Rattle.fs_base.{specs.declared.config.Address.{Address, TheVariants.{V4 as V4Address, V6 as V6Address}}, proofs.Addresses.{address_range}}
 use Rattle.fs_nlri.specs.Forms.{form_of}
 
 -- the addresses with the first bits of a destination are those from its first to its last

@@ -1,7 +1,6 @@
 -- The rules that a packet may match, by the bits of words.
 use Rattle.fs_compile.proofs.Words.{◌≡◌, ℕ, ◌+◌, ◌-◌, ◌*◌, ◌/◌, ◌%◌, ◌^◌, ◌<◌, ◌≤◌, ◌⊎◌, inl, inr, max, min, sym, subst, ap, ◌∙◌, Bool, true, false, bit_and, map, List, get_or, length, w64, arith, bit_at, trailing_zeros, cases_lt, get_or-map, bit_at-trailing_zeros, bit_at-zero, bit_at_and, bit_at_or, false_from, Rows, PortRows, Fast, ArePortRows, IsClass, IsRow, bit_in, words_for, Facts, AreRows, front_of, word_of, Missed, hits}
-use Rattle.std.proofs.Math.Nat.{div-div-eq-div-mul, div-le_self}
-use Rattle.std.proofs.lemmas.Nat.{pow-add}
+use Rattle.std.proofs.{Math.Nat.{div-div-eq-div-mul, div-le_self}, lemmas.Nat.{pow-add}}
 use Rattle.fs_ranges.specs.Facts.{number_of}
 
 -- the bits of a number without its lowest ones

@@ -1,6 +1,5 @@
 -- Words of rows that have no bit in front.
-use Rattle.fs_compile.proofs.Words.{◌≡◌, ℕ, ◌+◌, ◌-◌, ◌*◌, ◌/◌, ◌<◌, ◌≤◌, Bool, false, List, get_or, arith, Rows, AreRows, front_of}
-use Rattle.fs_compile.proofs.Sieving.{none_marked, set_in_all}
+use Rattle.fs_compile.proofs.{Words.{◌≡◌, ℕ, ◌+◌, ◌-◌, ◌*◌, ◌/◌, ◌<◌, ◌≤◌, Bool, false, List, get_or, arith, Rows, AreRows, front_of}, Sieving.{none_marked, set_in_all}}
 
 -- no rule matches of those whose words have none
 pub words_missed : (tests : List Bool) (rows : Rows) (first to place next : ℕ) → AreRows tests first to rows → ((w : ℕ) → place ≤ w → w < next → front_of rows w ≡ 0)

@@ -1,13 +1,8 @@
 -- The numbers of a field in classes, and which rules of a run a packet may match whose number is of a class.
-use Rattle.std.specs.Prelude.{◌≡◌, ℕ, ◌+◌, ◌-◌, ◌*◌, ◌/◌, ◌%◌, ◌<◌, ◌≤◌, max, Bool, true, false, List, get_or, length}
-use Rattle.std.specs.Int.{bit_at}
-use Rattle.fs_compile.specs.declared.columns.Column.{Column}
-use Rattle.fs_compile.specs.declared.columns.PortRows.{PortRows}
-use Rattle.fs_ranges.specs.declared.Fast.{Fast}
-use Rattle.fs_buckets.specs.Buckets.{AreRising}
-use Rattle.fs_ranges.specs.Facts.{Facts, key_of, number_of}
-use Rattle.fs_compile.specs.Search.{hits}
-use Rattle.fs_buckets.specs.Between.{IsPlaceOf}
+use Rattle.std.specs.{Prelude.{◌≡◌, ℕ, ◌+◌, ◌-◌, ◌*◌, ◌/◌, ◌%◌, ◌<◌, ◌≤◌, max, Bool, true, false, List, get_or, length}, Int.{bit_at}}
+use Rattle.fs_compile.specs.{declared.columns.{Column.{Column}, PortRows.{PortRows}}, Search.{hits}}
+use Rattle.fs_ranges.specs.{declared.Fast.{Fast}, Facts.{Facts, key_of, number_of}}
+use Rattle.fs_buckets.specs.{Buckets.{AreRising}, Between.{IsPlaceOf}}
 
 -- the class of a number: classes before it end below the number, and it and those behind don't
 abbrev pub IsClass : (bounds : List ℕ) → (number class : ℕ) → Type 0

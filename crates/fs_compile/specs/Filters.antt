@@ -1,13 +1,7 @@
 -- Which rules of a long run a packet may match.
-use Rattle.std.specs.Prelude.{◌≡◌, ℕ, ◌+◌, ◌-◌, ◌*◌, ◌/◌, ◌%◌, ◌<◌, ◌≤◌, max, Bool, true, false, List, get_or, length}
-use Rattle.std.specs.Int.RustNames.{bit_and, bit_or}
-use Rattle.std.specs.Int.{bit_at}
-use Rattle.std.specs.List.{All}
+use Rattle.std.specs.{Prelude.{◌≡◌, ℕ, ◌+◌, ◌-◌, ◌*◌, ◌/◌, ◌%◌, ◌<◌, ◌≤◌, max, Bool, true, false, List, get_or, length}, Int.{bit_at, RustNames.{bit_and, bit_or}}, List.{All}}
 use Rattle.fs_ranges.specs.declared.Fast.{Fast}
-use Rattle.fs_compile.specs.declared.filters.Filter.{Filter}
-use Rattle.fs_compile.specs.declared.filters.Filters.{Filters}
-use Rattle.fs_compile.specs.declared.filters.Rows.{Rows}
-use Rattle.fs_compile.specs.Columns.{ArePortRows, IsColumn, IsRow}
+use Rattle.fs_compile.specs.{declared.filters.{Filter.{Filter}, Filters.{Filters}, Rows.{Rows}}, Columns.{ArePortRows, IsColumn, IsRow}}
 
 -- it is of a run of these rules
 pub record IsFilter (rules : List Fast) (filter : Filter) : Type 0 where

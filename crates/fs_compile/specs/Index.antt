@@ -1,13 +1,9 @@
 -- What the index of a family's rules stands for.
-use Rattle.std.specs.Prelude.{◌≡◌, ℕ, List, map}
-use Rattle.std.specs.List.{AllByRecursion, AllZip}
+use Rattle.std.specs.{Prelude.{◌≡◌, ℕ, List, map}, List.{AllByRecursion, AllZip}}
 use Rattle.fs_base.specs.declared.prefix.Family.{Family}
 use Rattle.fs_rules.specs.Lent.{Listed}
-use Rattle.fs_buckets.specs.declared.Buckets.{Buckets}
-use Rattle.fs_ranges.specs.declared.Fast.{Fast}
-use Rattle.fs_ranges.specs.Fast.{StandsFor}
-use Rattle.fs_buckets.specs.Destinations.{spans_of, IsOfFamily}
-use Rattle.fs_buckets.specs.Housed.{AreHoused}
+use Rattle.fs_buckets.specs.{declared.Buckets.{Buckets}, Destinations.{spans_of, IsOfFamily}, Housed.{AreHoused}}
+use Rattle.fs_ranges.specs.{declared.Fast.{Fast}, Fast.{StandsFor}}
 
 -- the buckets of the rules' destinations, and the rules in order with their actions
 pub record Indexed : Type 0 where

@@ -1,13 +1,9 @@
 -- What a compiled matcher stands for, and the walk that is taken with it (RFC 8955 sections 5.1 and 7.3).
 use Rattle.std.specs.Prelude.{ℕ, ◌≡◌, ◌+◌, Option, Some, None, List, [], ◌∷◌, drop, get_or, if◌then◌else◌, map}
-use Rattle.fs_base.specs.declared.prefix.Family.{Family}
-use Rattle.fs_base.specs.declared.prefix.Family.TheVariants.{V4, V6}
+use Rattle.fs_base.specs.declared.prefix.Family.{Family, TheVariants.{V4, V6}}
 use Rattle.fs_packet.specs.Fields.{Viewed}
-use Rattle.fs_rules.specs.Table.{Held, admitted}
-use Rattle.fs_rules.specs.Lent.{Listed, listed}
-use Rattle.fs_rules.specs.Walk.{first_from, goes_on, walk_from}
-use Rattle.fs_compile.specs.declared.compiled.Compiled.{Compiled}
-use Rattle.fs_compile.specs.Index.{IsIndexOf}
+use Rattle.fs_rules.specs.{Table.{Held, admitted}, Lent.{Listed, listed}, Walk.{first_from, goes_on, walk_from}}
+use Rattle.fs_compile.specs.{declared.compiled.Compiled.{Compiled}, Index.{IsIndexOf}}
 
 -- the admitted rules of each family in order
 abbrev pub admitted_in : Held → Family → List Listed

@@ -1,9 +1,6 @@
 -- Rules of one destination put anew among others.
-use Rattle.std.specs.Prelude.{ℕ, ◌++◌, Option, List, filter}
-use Rattle.std.specs.List.{AllByRecursion}
-use Rattle.std.specs.Ordering.{is_gt, is_lt}
-use Rattle.fs_base.specs.declared.prefix.Family.{Family}
-use Rattle.fs_base.specs.declared.prefix.Family.TheVariants.{V4, V6}
+use Rattle.std.specs.{Prelude.{ℕ, ◌++◌, Option, List, filter}, List.{AllByRecursion}, Ordering.{is_gt, is_lt}}
+use Rattle.fs_base.specs.declared.prefix.Family.{Family, TheVariants.{V4, V6}}
 use Rattle.fs_rules.specs.Lent.{Listed}
 use Rattle.fs_buckets.specs.Destinations.{IsOfFamily, span_of, place_by}
 

@@ -1,11 +1,7 @@
 -- Which rules a search for a packet may test: those whose destination covers the packet's, and those that have none.
-use Rattle.std.specs.Prelude.{ℕ, ◌==◌, ◌+◌, Bool, true, Option, Some, None, List, drop}
-use Rattle.std.specs.List.{count_by}
-use Rattle.fs_base.specs.declared.prefix.Family.{Family}
-use Rattle.fs_base.specs.declared.config.Address.{Address}
-use Rattle.fs_base.specs.Bits.{width_of, cleared}
-use Rattle.fs_nlri.specs.Parts.{Ruled}
-use Rattle.fs_nlri.specs.Rule.{destination_of}
+use Rattle.std.specs.{Prelude.{ℕ, ◌==◌, ◌+◌, Bool, true, Option, Some, None, List, drop}, List.{count_by}}
+use Rattle.fs_base.specs.{declared.{prefix.Family.{Family}, config.Address.{Address}}, Bits.{width_of, cleared}}
+use Rattle.fs_nlri.specs.{Parts.{Ruled}, Rule.{destination_of}}
 use Rattle.fs_packet.specs.Fields.{Viewed}
 use Rattle.fs_rules.specs.Lent.{Listed}
 use Rattle.fs_buckets.specs.Addresses.{number_of}

@@ -1,15 +1,8 @@
 -- The search for an address through buckets.
-use Rattle.std.specs.Prelude.{◌≡◌, ℕ, ◌+◌, ◌-◌, ◌<◌, ◌≤◌, Bool, true, false, Option, Some, None, MatchOption, option_map, List, length, take, get_or, map}
-use Rattle.std.specs.List.{count_by}
-use Rattle.fs_buckets.specs.declared.Buckets.{Buckets}
-use Rattle.fs_ranges.specs.declared.Fast.{Fast}
-use Rattle.fs_buckets.specs.declared.Node.{Node}
-use Rattle.fs_compile.specs.declared.search.Hit.{Hit}
-use Rattle.fs_compile.specs.declared.search.Cursor.{Cursor}
-use Rattle.fs_buckets.specs.Addresses.{numbers_in, nodes_in}
-use Rattle.fs_buckets.specs.Buckets.{node_at}
-use Rattle.fs_ranges.specs.Facts.{Facts}
-use Rattle.fs_ranges.specs.Fast.{facts_hold}
+use Rattle.std.specs.{Prelude.{◌≡◌, ℕ, ◌+◌, ◌-◌, ◌<◌, ◌≤◌, Bool, true, false, Option, Some, None, MatchOption, option_map, List, length, take, get_or, map}, List.{count_by}}
+use Rattle.fs_buckets.specs.{declared.{Buckets.{Buckets}, Node.{Node}}, Addresses.{numbers_in, nodes_in}, Buckets.{node_at}}
+use Rattle.fs_ranges.specs.{declared.Fast.{Fast}, Facts.{Facts}, Fast.{facts_hold}}
+use Rattle.fs_compile.specs.declared.search.{Hit.{Hit}, Cursor.{Cursor}}
 
 abbrev pub hits : Facts → List Fast → List Bool
 hits facts rules = map (facts_hold facts) rules

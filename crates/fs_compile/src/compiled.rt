@@ -1,23 +1,16 @@
 //! The admitted rules of a table, compiled.
 
-ghost use Rattle.std.specs.Prelude.{◌≡◌, ◌≤◌, ◌+◌, IfOk, List, OnOk, length};
-ghost use Rattle.std.specs.List.{AllByRecursion};
+ghost use Rattle.std.specs.{Prelude.{◌≡◌, ◌≤◌, ◌+◌, IfOk, List, OnOk, length}, List.{AllByRecursion}};
 ghost use Rattle.fs_base.specs.declared.prefix.Family.{Family};
-ghost use Rattle.fs_rules.specs.Changes.{Covers};
-ghost use Rattle.fs_rules.specs.Lent.{Listed, all_admitted};
-ghost use Rattle.fs_rules.specs.Table.{Held};
-ghost use Rattle.fs_compile.specs.Index.{IsIndexOf, actions_of};
+ghost use Rattle.fs_rules.specs.{Changes.{Covers}, Lent.{Listed, all_admitted}, Table.{Held}};
+ghost use Rattle.fs_compile.specs.{Index.{IsIndexOf, actions_of}, Mending.{AreOwn, put_in, replaced}, Matcher.{StandsForLists, WalksByNext, admitted_in, next_from}, Matches.{AreMatchesOf}, Reach.{reaching}};
 ghost use Rattle.fs_buckets.specs.Destinations.{IsOfFamily, spans_of, AreTo, target_of};
-ghost use Rattle.fs_compile.specs.Mending.{AreOwn, put_in, replaced};
-ghost use Rattle.fs_compile.specs.Matcher.{StandsForLists, WalksByNext, admitted_in, next_from};
-ghost use Rattle.fs_compile.specs.Matches.{AreMatchesOf};
-ghost use Rattle.fs_compile.specs.Reach.{reaching};
 
 use crate::index::Index;
 use crate::matches::Matches;
-use fs_base::{Family, Memory, Prefix, Steps};
+use fs_base::{Family, Memory, Steps};
 use fs_packet::View;
-use fs_rules::{Changes, LentRule, SharedActions, Table};
+use fs_rules::{Change, Changes, LentRule, SharedActions, Table};
 use std::alloc::Global;
 use std::sync::ledger::Ledger;
 
@@ -70,31 +63,26 @@ impl Compiled {
         let places = changes.places();
         for place in places {
             let list = table.admitted_to(place.family, place.destination)?;
-            self.replace(alloc, place.family, place.destination, &list)?;
+            self.replace(alloc, *place, &list)?;
         }
         Ok(())
     }
 
     /// Puts the rules of a family's destination, or those without one, in the place of those that were.
-    fn replace(
-        &mut self,
-        alloc: Global,
-        family: Family,
-        destination: Option<Prefix>,
-        list: &[LentRule<'_>],
-    ) -> Result<(), Memory>
-        requires each { AllByRecursion (IsOfFamily family) (all_admitted list.now) }
-        requires there { AreTo (target_of destination) (spans_of (all_admitted list.now)) }
+    fn replace(&mut self, alloc: Global, place: Change, list: &[LentRule<'_>]) -> Result<(), Memory>
+        requires each { AllByRecursion (IsOfFamily place.family) (all_admitted list.now) }
+        requires there { AreTo (target_of place.destination) (spans_of (all_admitted list.now)) }
         requires some { (rules : Family → List Listed) × StandsForLists rules self.old }
         ensures { OnOk result ((rules : Family → List Listed)
             → StandsForLists rules self.old
             → StandsForLists
-            (put_in family (replaced (target_of destination) (all_admitted list.now) (rules family)) rules)
+            (put_in place.family
+            (replaced (target_of place.destination) (all_admitted list.now) (rules place.family)) rules)
             self.new) }
     {
-        match family {
-            Family::V4 => self.v4.replace(alloc, family, destination, list),
-            Family::V6 => self.v6.replace(alloc, family, destination, list),
+        match place.family {
+            Family::V4 => self.v4.replace(alloc, place, list),
+            Family::V6 => self.v6.replace(alloc, place, list),
         }
     }
 

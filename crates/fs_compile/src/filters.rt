@@ -1,9 +1,7 @@
 //! Which rules of a long run a packet may match.
 
-ghost use Rattle.std.specs.Prelude.{◌≡◌, ℕ, ◌+◌, ◌-◌, ◌*◌, ◌^◌, ◌<◌, ◌≤◌, false, true, IfOk, IfSome, List, get_or, length, min};
-ghost use Rattle.std.specs.Int.{bit_at};
-ghost use Rattle.fs_compile.specs.Filters.{AreFilters, AreRows, IsFilter, IsInside, front_of, word_of};
-ghost use Rattle.fs_compile.specs.Search.{Scanned, hits};
+ghost use Rattle.std.specs.{Prelude.{◌≡◌, ℕ, ◌+◌, ◌-◌, ◌*◌, ◌^◌, ◌<◌, ◌≤◌, false, true, IfOk, IfSome, List, get_or, length, min}, Int.{bit_at}};
+ghost use Rattle.fs_compile.specs.{Filters.{AreFilters, AreRows, IsFilter, IsInside, front_of, word_of}, Search.{Scanned, hits}};
 
 use crate::columns::{Column, PortRows, row_of, words_of};
 use fs_base::{Memory, Steps};

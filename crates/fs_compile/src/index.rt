@@ -1,29 +1,19 @@
 //! The rules of a family, compiled, and found by the destination of a packet.
 
-ghost use Rattle.std.specs.Prelude.{◌≡◌, ◌≤◌, ◌+◌, ◌<◌, ◌^◌, ℕ, true, IfOk, IfSome, OnOk, List, is_some, length};
-ghost use Rattle.std.specs.List.{All, AllByRecursion, splice};
+ghost use Rattle.std.specs.{Prelude.{◌≡◌, ◌≤◌, ◌+◌, ◌<◌, ◌^◌, true, IfOk, IfSome, OnOk, List, is_some, length}, List.{All, AllByRecursion, splice}};
 ghost use Rattle.fs_base.specs.declared.prefix.Family.{Family};
 ghost use Rattle.fs_packet.specs.Fields.{Viewed};
 ghost use Rattle.fs_rules.specs.Lent.{Listed, all_admitted};
-ghost use Rattle.fs_buckets.specs.Addresses.{number_of};
-ghost use Rattle.fs_ranges.specs.Facts.{AreFacts};
-ghost use Rattle.fs_compile.specs.Filters.{AreFilters, IsFilter};
-ghost use Rattle.fs_ranges.specs.declared.Fast.{Fast};
-ghost use Rattle.fs_buckets.specs.Housed.{AreSound};
-ghost use Rattle.fs_compile.specs.Index.{IsIndexOf, StandForEach, actions_of};
-ghost use Rattle.fs_buckets.specs.Destinations.{AreTo, IsOfFamily, IsStretch, spans_of, target_of};
-ghost use Rattle.fs_compile.specs.Mending.{replaced};
-ghost use Rattle.fs_compile.specs.Matcher.{next_from};
-ghost use Rattle.fs_compile.specs.Reach.{reaching_behind, reaching_from};
-ghost use Rattle.fs_buckets.specs.Runs.{AreNesting};
-ghost use Rattle.fs_compile.specs.Search.{Starts, behind_hit, hit_number};
+ghost use Rattle.fs_buckets.specs.{Addresses.{number_of}, Housed.{AreSound}, Destinations.{AreTo, IsOfFamily, IsStretch, spans_of, target_of}, Runs.{AreNesting}};
+ghost use Rattle.fs_ranges.specs.{Facts.{AreFacts}, declared.Fast.{Fast}};
+ghost use Rattle.fs_compile.specs.{Filters.{AreFilters, IsFilter}, Index.{IsIndexOf, StandForEach, actions_of}, Mending.{replaced}, Matcher.{next_from}, Reach.{reaching_behind, reaching_from}, Search.{Starts, behind_hit, hit_number}};
 
 use crate::filters::{FEW_RULES, Filter, Filters};
 use crate::search::{Cursor, Hit, climb, place_behind, place_from};
 use fs_base::{Address, Family, Memory, Prefix, Steps};
 use fs_buckets::{Buckets, buckets_of, mended, put_between};
 use fs_ranges::{Facts, Fast};
-use fs_rules::{LentRule, SharedActions};
+use fs_rules::{Change, LentRule, SharedActions};
 use std::alloc::Global;
 use std::marker::Model;
 use std::mem::replace;
@@ -43,8 +33,7 @@ pub struct Index {
 
 impl Model for Index {
     ghost use Rattle.std.specs.Prelude.{◌<◌, ◌^◌, length};
-    ghost use Rattle.fs_compile.specs.Filters.{AreFilters};
-    ghost use Rattle.fs_compile.specs.Index.{Indexed};
+    ghost use Rattle.fs_compile.specs.{Filters.{AreFilters}, Index.{Indexed}};
     ghost use Rattle.fs_buckets.specs.Housed.{AreSound};
 
     ghost Value = { Indexed };
@@ -84,44 +73,37 @@ impl Index {
     pub(crate) fn replace(
         &mut self,
         alloc: Global,
-        family: Family,
-        destination: Option<Prefix>,
+        place: Change,
         list: &[LentRule<'_>],
     ) -> Result<(), Memory>
-        requires each { AllByRecursion (IsOfFamily family) (all_admitted list.now) }
-        requires there { AreTo (target_of destination) (spans_of (all_admitted list.now)) }
-        requires some { (rules : List Listed) × IsIndexOf family rules self.old }
+        requires each { AllByRecursion (IsOfFamily place.family) (all_admitted list.now) }
+        requires there { AreTo (target_of place.destination) (spans_of (all_admitted list.now)) }
+        requires some { (rules : List Listed) × IsIndexOf place.family rules self.old }
         ensures { OnOk result ((rules : List Listed)
-            → IsIndexOf family rules self.old
-            → IsIndexOf family (replaced (target_of destination) (all_admitted list.now) rules) self.new) }
+            → IsIndexOf place.family rules self.old
+            → IsIndexOf place.family (replaced (target_of place.destination) (all_admitted list.now) rules) self.new) }
     {
         let none = Vec::new(alloc);
-        let index = replace(self, Index::of(alloc, family, &none)?);
-        *self = index.replaced(alloc, family, destination, list)?;
+        let index = replace(self, Index::of(alloc, place.family, &none)?);
+        *self = index.replaced(alloc, place, list)?;
         Ok(())
     }
 
     /// The index with the rules of the destination, or those without one, anew.
-    fn replaced(
-        self,
-        alloc: Global,
-        family: Family,
-        destination: Option<Prefix>,
-        list: &[LentRule<'_>],
-    ) -> Result<Index, Memory>
-        requires each { AllByRecursion (IsOfFamily family) (all_admitted list.now) }
-        requires there { AreTo (target_of destination) (spans_of (all_admitted list.now)) }
-        requires some { (rules : List Listed) × IsIndexOf family rules self }
+    fn replaced(self, alloc: Global, place: Change, list: &[LentRule<'_>]) -> Result<Index, Memory>
+        requires each { AllByRecursion (IsOfFamily place.family) (all_admitted list.now) }
+        requires there { AreTo (target_of place.destination) (spans_of (all_admitted list.now)) }
+        requires some { (rules : List Listed) × IsIndexOf place.family rules self }
         ensures { IfOk result (λ index.
             (rules : List Listed)
-            → IsIndexOf family rules self
-            → IsIndexOf family (replaced (target_of destination) (all_admitted list.now) rules) index) }
+            → IsIndexOf place.family rules self
+            → IsIndexOf place.family (replaced (target_of place.destination) (all_admitted list.now) rules) index) }
     {
-        let (from, to) = self.stretch(destination);
+        let (from, to) = self.stretch(place.destination);
         if list.len() > MOST - (self.rules.len() - (to - from)) {
             return Err(Memory);
         }
-        self.put_stretch(alloc, family, destination, from, to, list)
+        self.put_stretch(alloc, place, from, to, list)
     }
 
     /// The numbers from which on and before which the rules of the destination stand, or those without one.
@@ -142,33 +124,33 @@ impl Index {
     fn put_stretch(
         self,
         alloc: Global,
-        family: Family,
-        destination: Option<Prefix>,
+        place: Change,
         from: usize,
         to: usize,
         list: &[LentRule<'_>],
     ) -> Result<Index, Memory>
-        requires each { AllByRecursion (IsOfFamily family) (all_admitted list.now) }
-        requires there { AreTo (target_of destination) (spans_of (all_admitted list.now)) }
+        requires each { AllByRecursion (IsOfFamily place.family) (all_admitted list.now) }
+        requires there { AreTo (target_of place.destination) (spans_of (all_admitted list.now)) }
         requires bounds { (from ≤ to) × (to ≤ length self.rules) }
         requires shared { to ≤ length self.actions }
-        requires homes { is_some destination ≡ true → to ≤ length self.buckets.homes.items }
+        requires homes { is_some place.destination ≡ true → to ≤ length self.buckets.homes.items }
         requires few { from + length list.now + length self.rules < 2 ^ 32 + to }
         requires some { (rules : List Listed)
-            × IsIndexOf family rules self
-            × IsStretch (spans_of rules) (target_of destination) from to }
+            × IsIndexOf place.family rules self
+            × IsStretch (spans_of rules) (target_of place.destination) from to }
         ensures { IfOk result (λ index.
             (rules : List Listed)
-            → IsIndexOf family rules self
-            → IsStretch (spans_of rules) (target_of destination) from to
-            → IsIndexOf family (splice rules from to (all_admitted list.now)) index) }
+            → IsIndexOf place.family rules self
+            → IsStretch (spans_of rules) (target_of place.destination) from to
+            → IsIndexOf place.family (splice rules from to (all_admitted list.now)) index) }
     {
+        let old = self.buckets;
         let mut rules = self.rules;
         let mut actions = self.actions;
         put_between(&mut actions, from, to, shared_actions(alloc, list)?)?;
         put_between(&mut rules, from, to, compiled_rules(alloc, list)?)?;
         let filters = mended_filters(alloc, self.filters, &rules, from, to, list.len())?;
-        let buckets = mended(alloc, family, self.buckets, destination, from, to, list)?;
+        let buckets = mended(alloc, place.family, old, place.destination, from, to, list)?;
         Ok(Index {
             buckets,
             rules,
@@ -220,7 +202,7 @@ impl Index {
         steps: &mut Steps<L>,
     ) -> Option<Hit>
         requires starts { Starts self.now.buckets start }
-        requires address { start.address ≡ number_of facts.now.destination }
+        requires address { start.address ≡ number_of facts.now.view.destination }
         ensures found { (view : Viewed) (rules : List Listed)
             → AreFacts view facts.now
             → IsIndexOf view.family rules self.now

@@ -4,10 +4,8 @@ ghost use Rattle.std.specs.Prelude.{◌≡◌, ◌≤◌, ◌+◌, ◌<◌, IfSo
 ghost use Rattle.fs_packet.specs.Fields.{Viewed};
 ghost use Rattle.fs_rules.specs.Lent.{Listed};
 ghost use Rattle.fs_ranges.specs.Facts.{AreFacts};
-ghost use Rattle.fs_compile.specs.Matcher.{next_from};
-ghost use Rattle.fs_compile.specs.Matches.{AreMatchesOf, behind};
+ghost use Rattle.fs_compile.specs.{Matcher.{next_from}, Matches.{AreMatchesOf, behind}, Reach.{reaching, reaching_behind, reaching_from}};
 ghost use Rattle.fs_buckets.specs.Addresses.{number_of};
-ghost use Rattle.fs_compile.specs.Reach.{reaching, reaching_behind, reaching_from};
 
 use crate::index::Index;
 use crate::search::Cursor;
@@ -28,16 +26,15 @@ pub struct Matches<'a> {
 
 impl<'a> Model for Matches<'a> {
     ghost use Rattle.std.specs.Prelude.{◌≡◌};
-    ghost use Rattle.fs_compile.specs.Matches.{Matching};
+    ghost use Rattle.fs_compile.specs.{Matches.{Matching}, Search.{Starts}};
     ghost use Rattle.fs_buckets.specs.Addresses.{number_of};
-    ghost use Rattle.fs_compile.specs.Search.{Starts};
 
     ghost Value = { Matching };
 
     ghost view = { λ a. record { index = a.index.now; facts = a.facts; from = a.place.from } };
 
     ghost invariant = { λ a.
-        Starts a.index.now.buckets a.place × (a.place.address ≡ number_of a.facts.destination) };
+        Starts a.index.now.buckets a.place × (a.place.address ≡ number_of a.facts.view.destination) };
 }
 
 impl<'a> Matches<'a> {

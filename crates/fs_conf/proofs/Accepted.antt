@@ -1,9 +1,6 @@
 -- What the numbers of an accepted configuration are.
-use Rattle.fs_conf.proofs.Words.{◌≡◌, ℕ, ◌⊎◌, ◌<◌, ◌≤◌, ◌==◌, ◌^◌, nat_le, true, false, not, ◌&&◌, ◌||◌, List, [], ◌∷◌, Option, Some, None, subst, arith, ◌≢◌, codes, pos, negsuc, option_and_then, AllByRecursion, and_parts, leb-true, same_Some, and_then_some, cond_some, map_some, Data, string, integer, float, boolean, datetime, array, table, as_array, as_str, as_table, Items, no_items, item, Members, get_member, Config, Peer, address_of, ipv4_octets_of, ipv4_of, are_peers, as_number, config_keys, config_of_document, config_of_members, hold_time_in, identifier, limit_in, peer_keys, peer_of_data, peer_of_members, peer_of_table, peers_in, peers_of_items, written, document_of, flag_or, keys_among, number_in, number_or, AcceptsNumbers, HasNumbers, HasPeerNumbers}
-use Rattle.std.specs.Int.{w32, from_be_bytes}
-use Rattle.std.proofs.lemmas.Bool.Decides.{nat_tests}
-use Rattle.fs_conf.proofs.DottedText.{ipv4_octets_of_sound}
-use Rattle.fs_conf.proofs.Found.{cond_within}
+use Rattle.fs_conf.proofs.{Words.{◌≡◌, ℕ, ◌⊎◌, ◌<◌, ◌≤◌, ◌==◌, ◌^◌, nat_le, true, false, not, ◌&&◌, ◌||◌, List, [], ◌∷◌, Option, Some, None, subst, arith, ◌≢◌, codes, pos, negsuc, option_and_then, AllByRecursion, and_parts, leb-true, same_Some, and_then_some, cond_some, map_some, Data, string, integer, float, boolean, datetime, array, table, as_array, as_str, as_table, Items, no_items, item, Members, get_member, Config, Peer, address_of, ipv4_octets_of, ipv4_of, are_peers, as_number, config_keys, config_of_document, config_of_members, hold_time_in, identifier, limit_in, peer_keys, peer_of_data, peer_of_members, peer_of_table, peers_in, peers_of_items, written, document_of, flag_or, keys_among, number_in, number_or, AcceptsNumbers, HasNumbers, HasPeerNumbers}, DottedText.{ipv4_octets_of_sound}, Found.{cond_within}}
+use Rattle.std.{specs.Int.{w32, from_be_bytes}, proofs.lemmas.Bool.Decides.{nat_tests}}
 
 -- numbers
 
@@ -76,7 +73,7 @@ members_peer members peer e =
     let number_small = number_within 1 65535 (get_member (codes "number") members) number number_is in
     let as_small = as_within (get_member (codes "as") members) asn asn_is in
     subst HasPeerNumbers (same_Some _ peer e4)
-    (record { number = omega arith; some_number = omega arith; asn = as_small.0; some_as = as_small.1 })
+    (record { number = omega arith; some_number = omega arith; asn = record { small = as_small.0; some = as_small.1 } })
 
 data_peer : (value : Data) (peer : Peer) → peer_of_data value ≡ Some peer → HasPeerNumbers peer
 data_peer value peer e =
@@ -113,13 +110,11 @@ members_numbers members config e =
     let hold_small = hold_within (get_member (codes "hold_time") members) hold hold_is in
     subst HasNumbers (same_Some _ config e6)
     (record {
-      local_as = as_small.0;
-      some_as = as_small.1;
-      local_id = id_small.0;
-      some_id = id_small.1;
-      hold_time = hold_small.0;
-      not_one = hold_small.1;
-      not_two = hold_small.2;
+      own = record {
+        asn = record { small = as_small.0; some = as_small.1 };
+        id = record { small = id_small.0; some = id_small.1 };
+        hold_time = record { small = hold_small.0; not_one = hold_small.1; not_two = hold_small.2 };
+      };
       peers = found_peers (get_member (codes "peer") members) peers peers_are;
     })
 

@@ -1,8 +1,6 @@
 -- The texts of std's grammar of IPv6 without a dot are those whose groups `ipv6_groups_of` gives.
 use Rattle.std.proofs.Common.{take-append-drop, option_and_then, codes, leb-true}
-use Rattle.fs_conf.proofs.Words.{◌≡◌, ℕ, ◌+◌, ◌-◌, ◌<◌, ◌==◌, nat_lt, nat_le, ◌&&◌, Bool, true, false, if◌then◌else◌, List, [], ◌∷◌, ◌++◌, length, take, drop, replicate, Option, Some, None, option_map, decimal, refl, sym, ap, ◌∙◌, arith, inl, inr, append_assoc, append-nil, lt-ltb, ltb-true, le-leb, eqb-true, eq-eqb, lit≤, and_from, and_parts, none-some, same_Some, bytes_eq-Decides, cond_some, and_then_some, map_some, same_parts, digit_value, is_digit, list_all, IsDotted, IsGroup, IsGroupsAfter, IsGroups, IsColonHex, bytes_eq, AllDigits, digits_value, dot, colon, fields_of, each_of, exactly, group_of, groups_of, around_double_colon, ipv6_form_2, ipv6_groups_of}
-use Rattle.fs_conf.proofs.DottedText.{regrouped}
-use Rattle.fs_conf.proofs.Separated.{each_after, joined, joined-fields_of, fields_some, Lacks, Lacks-not_among, Lacks-back, Lacks-front, Lacks-AllDigits, fields_of-end, fields_of-append}
+use Rattle.fs_conf.proofs.{Words.{◌≡◌, ℕ, ◌+◌, ◌-◌, ◌<◌, ◌==◌, nat_lt, nat_le, ◌&&◌, Bool, true, false, if◌then◌else◌, List, [], ◌∷◌, ◌++◌, length, take, drop, replicate, Option, Some, None, option_map, decimal, refl, sym, ap, ◌∙◌, arith, inl, inr, append_assoc, append-nil, lt-ltb, ltb-true, le-leb, eqb-true, eq-eqb, lit≤, and_from, and_parts, none-some, same_Some, bytes_eq-Decides, cond_some, and_then_some, map_some, same_parts, digit_value, is_digit, list_all, IsDotted, IsGroup, IsGroupsAfter, IsGroups, IsColonHex, bytes_eq, AllDigits, digits_value, dot, colon, fields_of, each_of, exactly, group_of, groups_of, around_double_colon, ipv6_form_2, ipv6_groups_of}, DottedText.{regrouped}, Separated.{each_after, joined, joined-fields_of, fields_some, Lacks, Lacks-not_among, Lacks-back, Lacks-front, Lacks-AllDigits, fields_of-end, fields_of-append}}
 
 all_digits : (text : List ℕ) → list_all (λ octet. is_digit octet 16) text ≡ true → AllDigits 16 text
 all_digits [] h = tt

@@ -1,9 +1,6 @@
 -- The dotted texts of std's grammar are those whose octets `ipv4_octets_of` gives.
-use Rattle.fs_conf.proofs.Words.{◌≡◌, ℕ, ◌<◌, ◌==◌, nat_lt, ◌&&◌, List, [], ◌∷◌, ◌++◌, length, get_or, map, Some, decimal, refl, arith, append_assoc, append-nil, lt-ltb, ltb-true, eqb-true, lit≤, and_parts, same_Some, bytes_eq-Decides, cond_some, and_then_some, map_some, IsDotted, bytes_eq, digits_value, dot, fields_of, each_of, decimal_octet, ipv4_octets_of}
-use Rattle.std.proofs.lemmas.Fmt.{decimal_is_IsNumeral}
-use Rattle.std.proofs.NetLemmas.Arrays.{four_items}
-use Rattle.std.specs.Net.Text.{dotted_text}
-use Rattle.fs_conf.proofs.Separated.{joined, joined-fields_of, Lacks, Lacks-AllDigits, fields_of-end, fields_of-append}
+use Rattle.fs_conf.proofs.{Words.{◌≡◌, ℕ, ◌<◌, ◌==◌, nat_lt, ◌&&◌, List, [], ◌∷◌, ◌++◌, length, get_or, map, Some, decimal, refl, arith, append_assoc, append-nil, lt-ltb, ltb-true, eqb-true, lit≤, and_parts, same_Some, bytes_eq-Decides, cond_some, and_then_some, map_some, IsDotted, bytes_eq, digits_value, dot, fields_of, each_of, decimal_octet, ipv4_octets_of}, Separated.{joined, joined-fields_of, Lacks, Lacks-AllDigits, fields_of-end, fields_of-append}}
+use Rattle.std.{proofs.{lemmas.Fmt.{decimal_is_IsNumeral}, NetLemmas.Arrays.{four_items}}, specs.Net.Text.{dotted_text}}
 
 decimal_octet-decimal : (n : ℕ) → n < 256 → decimal_octet (decimal n) ≡ Some n
 decimal_octet-decimal n small =

@@ -1,18 +1,8 @@
 -- Actions as communities: the octets of actions are read as these, and what is read are actions.
-use Rattle.fs_conf.proofs.Words.{◌≡◌, ℕ, zero, suc, ◌*◌, ◌/◌, ◌<◌, ◌≤◌, Bool, true, false, cond, ◌&&◌, List, [], ◌∷◌, length, drop, bit_and, Option, Some, None, refl, sym, ap, ◌∙◌, subst, arith, filter_map, is_some, AllByRecursion, concat, list_all, length-take-le, octets_drop, octets_take, IsOctets, communities_joined, each_length, read_back, whole_joined, AreActions, are_listed, listed_actions}
-use Rattle.std.specs.Simd.{first_chunks}
-use Rattle.std.specs.Int.Bits.{and_self}
-use Rattle.std.proofs.lemmas.Bool.{lt-ltb}
-use Rattle.std.proofs.lemmas.List.{length-drop}
-use Rattle.std.proofs.lemmas.Nat.{and_assoc, and_le_l}
-use Rattle.fs_actions.proofs.Insertion.{each_with}
-use Rattle.fs_actions.proofs.Listed.{are_listed as are_the_listed}
-use Rattle.fs_actions.specs.Actions.{actions_of, are_communities, communities, with_action, with_actions}
-use Rattle.fs_actions.specs.Community.{IsAction, cleared, kind_of, listed, normal_form}
-use Rattle.fs_text.proofs.Found.{IsEight, each, eight, masked, normal_at}
-use Rattle.fs_text.proofs.Greatest.{octets_eight}
-use Rattle.fs_text.proofs.Led.{no_actions}
-use Rattle.fs_conf.proofs.Sought.{all_filter}
+use Rattle.fs_conf.proofs.{Words.{◌≡◌, ℕ, zero, suc, ◌*◌, ◌/◌, ◌<◌, ◌≤◌, Bool, true, false, cond, ◌&&◌, List, [], ◌∷◌, length, drop, bit_and, Option, Some, None, refl, sym, ap, ◌∙◌, subst, arith, filter_map, is_some, AllByRecursion, concat, list_all, length-take-le, octets_drop, octets_take, IsOctets, communities_joined, each_length, read_back, whole_joined, AreActions, are_listed, listed_actions}, Sought.{all_filter}}
+use Rattle.std.{specs.{Simd.{first_chunks}, Int.Bits.{and_self}}, proofs.lemmas.{Bool.{lt-ltb}, List.{length-drop}, Nat.{and_assoc, and_le_l}}}
+use Rattle.fs_actions.{proofs.{Insertion.{each_with}, Listed.{are_listed as are_the_listed}}, specs.{Actions.{actions_of, are_communities, communities, with_action, with_actions}, Community.{IsAction, cleared, kind_of, listed, normal_form}}}
+use Rattle.fs_text.proofs.{Found.{IsEight, each, eight, masked, normal_at}, Greatest.{octets_eight}, Led.{no_actions}}
 
 -- what is written is read back
 

@@ -1,8 +1,6 @@
 -- Octets that are exactly one frame.
 use Rattle.fs_conf.proofs.Words.{◌≡◌, ℕ, ◌≤◌, List, [], ◌∷◌, ◌++◌, Option, Some, None, Result, Ok, Err, length, take, drop, refl, ap, sym, ◌∙◌, subst, arith, append-nil, length-drop, option_and_then, take-append-drop, take_all, Family, IsOctets, Reason, Ruled, IsFrame, IsFieldOutcome, IsTheOutcome, rules_of, if_ok, only, rule_of}
-use Rattle.fs_nlri.specs.Fault.{IsFrameBad}
-use Rattle.fs_nlri.specs.Laws.{NoFrameGoesOn}
-use Rattle.fs_nlri.proofs.OneOutcome.{one_field_outcome}
+use Rattle.fs_nlri.{specs.{Fault.{IsFrameBad}, Laws.{NoFrameGoesOn}}, proofs.OneOutcome.{one_field_outcome}}
 
 abbrev Found : Type 0
 Found = Result (List Ruled) (Reason × ℕ)

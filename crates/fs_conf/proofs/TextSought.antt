@@ -1,19 +1,9 @@
 -- What a text says in a rules file, found among all rules and actions that octets can say.
-use Rattle.fs_conf.proofs.Words.{◌≡◌, ℕ, ◌+◌, ◌*◌, ◌≤◌, true, false, List, [], ◌∷◌, ◌++◌, map, length, Option, Some, None, Result, Ok, Err, refl, sym, ap, ◌∙◌, subst, arith, append-nil, option_and_then, AllByRecursion, concat, bytes_eq, length-append, take_all, bytes_eq-Decides, each_append, each_mapped, each_weaker, octets_of_each, IsOctets, Family, Reason, IsFieldOutcome, Ruled, IsRule, canonical_frame, IsFrame, IsTheOutcome, rules_of, AreActions, ReadsAs, Sent, actions_among, if_ok, listed_actions, only, rule_of, rules_among, sent_of_text, sents_among, has_text, octet_lists, sent, each_length}
+use Rattle.fs_conf.{proofs.{Words.{◌≡◌, ℕ, ◌+◌, ◌*◌, ◌≤◌, true, false, List, [], ◌∷◌, ◌++◌, map, length, Option, Some, None, Result, Ok, Err, refl, sym, ap, ◌∙◌, subst, arith, append-nil, option_and_then, AllByRecursion, concat, bytes_eq, length-append, take_all, bytes_eq-Decides, each_append, each_mapped, each_weaker, octets_of_each, IsOctets, Family, Reason, IsFieldOutcome, Ruled, IsRule, canonical_frame, IsFrame, IsTheOutcome, rules_of, AreActions, ReadsAs, Sent, actions_among, if_ok, listed_actions, only, rule_of, rules_among, sent_of_text, sents_among, has_text, octet_lists, sent, each_length}, CanonicalFrame.{frame_short}, Found.{found_in}, ListedActions.{listed_are, listed_back}, OneRule.{one_frame}, Sought.{AreBelow, IsIn, all_filter, all_flat, all_lists, in_filter, in_flat, in_left, in_lists, in_map, in_right, none_in}}, specs.WordedLaw.{IsTextOf, SaysItsOwn}}
 use Rattle.fs_base.specs.declared.prefix.Family.TheVariants.{V4, V6}
 use Rattle.fs_nlri.proofs.Again.{canonical_is_frame, frame_is_rule}
-use Rattle.fs_text.specs.Laws.{EachHasOnePair}
-use Rattle.fs_text.specs.declared.fault.TextFault.{TextFault}
-use Rattle.fs_text.specs.declared.fault.TextFault.TheVariants.{Bad, TooLong, Memory}
-use Rattle.fs_text.specs.Printed.{action_words, component_words, family_word, spaced, text_of, then_words}
-use Rattle.fs_text.proofs.Spaces.{join_spaced}
-use Rattle.fs_conf.specs.WordedLaw.{IsTextOf, SaysItsOwn}
+use Rattle.fs_text.{specs.{Laws.{EachHasOnePair}, declared.fault.TextFault.{TextFault, TheVariants.{Bad, TooLong, Memory}}, Printed.{action_words, component_words, family_word, spaced, text_of, then_words}}, proofs.Spaces.{join_spaced}}
 use Rattle.fs_attrs.proofs.RuleOctets.{frame_are}
-use Rattle.fs_conf.proofs.CanonicalFrame.{frame_short}
-use Rattle.fs_conf.proofs.Found.{found_in}
-use Rattle.fs_conf.proofs.ListedActions.{listed_are, listed_back}
-use Rattle.fs_conf.proofs.OneRule.{one_frame}
-use Rattle.fs_conf.proofs.Sought.{AreBelow, IsIn, all_filter, all_flat, all_lists, in_filter, in_flat, in_left, in_lists, in_map, in_right, none_in}
 
 -- the octets of a frame say a rule, and those of each rule say it
 
@@ -140,14 +130,20 @@ says_its_own law one text given = (text_found law text given, λ is. by is (sent
 
 -- what is answered of a text that is that of no rule and actions
 
-pub nothing_found : SaysItsOwn → (text : List ℕ) → ((other : Sent) → IsTextOf text other → ⊥) → sent_of_text text ≡ None
+nothing_found : SaysItsOwn → (text : List ℕ) → ((other : Sent) → IsTextOf text other → ⊥) → sent_of_text text ≡ None
 nothing_found law text none = by (sent_of_text text) refl
   where
     by : (found : Option Sent) → sent_of_text text ≡ found → found ≡ None
     by None e = refl
     by (Some other) e = absurd (none other ((law text other).0 e))
 
-pub never_read : (fault : TextFault) (rule : Ruled) (actions : List (List ℕ)) → (fault ≡ Memory → ⊥) → ReadsAs rule actions (Err fault) → ⊥
+never_read : (fault : TextFault) (rule : Ruled) (actions : List (List ℕ)) → (fault ≡ Memory → ⊥) → ReadsAs rule actions (Err fault) → ⊥
 never_read Memory rule actions other reads = other refl
 never_read (Bad place) rule actions other reads = reads
 never_read TooLong rule actions other reads = reads
+
+-- what is answered of a text of nothing, but for want of memory
+pub unread : SaysItsOwn → (text : List ℕ) (fault : TextFault) → (fault ≡ Memory → ⊥)
+    → ((rule : Ruled) (actions : List (List ℕ)) → IsRule rule → AreActions actions → text ≡ text_of rule actions → ReadsAs rule actions (Err fault)) → sent_of_text text ≡ None
+unread law text fault other exact =
+    nothing_found law text (λ sent is. never_read fault sent.rule sent.actions other (exact sent.rule sent.actions is.rule is.actions is.text_is))

@@ -1,14 +1,6 @@
 -- The texts of addresses: dotted IPv4, and the forms 1 and 2 of IPv6 (RFC 4291, section 2.2).
-use Rattle.std.specs.Prelude.{ℕ, ◌+◌, ◌-◌, ◌==◌, nat_lt, nat_le, ◌&&◌, if◌then◌else◌, List, [], ◌∷◌, ◌++◌, length, take, drop, replicate, codes, Option, Some, None, option_map, option_and_then}
-use Rattle.std.specs.Char.{is_digit}
-use Rattle.std.specs.Fmt.{decimal}
-use Rattle.std.specs.Int.{w32, w128, from_be_bytes}
-use Rattle.std.specs.List.{list_all, list_any}
-use Rattle.std.specs.Net.Addr.{octets_of}
-use Rattle.std.specs.Str.{bytes_eq}
-use Rattle.std.specs.Str.Parse.{digits_value}
-use Rattle.fs_base.specs.declared.config.Address.{Address}
-use Rattle.fs_base.specs.declared.config.Address.TheVariants.{V4, V6}
+use Rattle.std.specs.{Prelude.{ℕ, ◌+◌, ◌-◌, ◌==◌, nat_lt, nat_le, ◌&&◌, if◌then◌else◌, List, [], ◌∷◌, ◌++◌, length, take, drop, replicate, codes, Option, Some, None, option_map, option_and_then}, Char.{is_digit}, Fmt.{decimal}, Int.{w32, w128, from_be_bytes}, List.{list_all, list_any}, Net.Addr.{octets_of}, Str.{bytes_eq, Parse.{digits_value}}}
+use Rattle.fs_base.specs.declared.config.Address.{Address, TheVariants.{V4, V6}}
 
 -- the code of a full stop, and of a colon
 abbrev pub dot : ℕ

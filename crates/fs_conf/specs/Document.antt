@@ -1,8 +1,6 @@
 -- A document of TOML in UTF-8, as the tree of its table.
-use Rattle.std.specs.Prelude.{ℕ, if◌then◌else◌, List, [], ◌∷◌, Option, Some, None, option_map, option_and_then}
-use Rattle.std.specs.Str.{is_utf8}
-use Rattle.toml.specs.Data.{Data, Items, no_items, item, Members}
-use Rattle.toml.specs.Parse.{parse_document}
+use Rattle.std.specs.{Prelude.{ℕ, if◌then◌else◌, List, [], ◌∷◌, Option, Some, None, option_map, option_and_then}, Str.{is_utf8}}
+use Rattle.toml.specs.{Data.{Data, Items, no_items, item, Members}, Parse.{parse_document}}
 
 abbrev pub document_of : List ℕ → Option Members
 document_of octets = if is_utf8 octets then parse_document octets else None

@@ -1,8 +1,7 @@
 -- What stands at the keys of a TOML table.
 use Rattle.std.specs.Prelude.{ℕ, pos, nat_le, Bool, true, ◌&&◌, if◌then◌else◌, List, Option, Some, None}
 use denote.Ref.{Bor}
-use Rattle.std.specs.List.{list_any}
-use Rattle.std.specs.Str.{bytes_eq}
+use Rattle.std.specs.{List.{list_any}, Str.{bytes_eq}}
 use Rattle.toml.specs.Data.{Data, integer, boolean, Members, no_members, member}
 
 -- an integer from low to high

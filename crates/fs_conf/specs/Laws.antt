@@ -1,32 +1,18 @@
 -- What the values are that accepted files write.
-use Rattle.std.specs.Prelude.{◌≡◌, ◌≢◌, ℕ, ◌^◌, ◌<◌, true, List, Some}
-use Rattle.std.specs.List.{AllByRecursion}
-use Rattle.fs_base.specs.declared.config.Config.{Config}
-use Rattle.fs_base.specs.declared.config.Peer.{Peer}
-use Rattle.fs_speaker.specs.declared.Sending.{Sending}
-use Rattle.fs_speaker.specs.Laws.{AreSendable, IsSent}
-use Rattle.fs_speaker.specs.Sending.{is_short, sender_of}
-use Rattle.fs_speaker.specs.Transition.{terms_of}
-use Rattle.fs_conf.specs.Config.{config_of}
-use Rattle.fs_conf.specs.Rules.{rules_of}
+use Rattle.std.specs.{Prelude.{◌≡◌, ℕ, ◌^◌, ◌<◌, true, List, Some}, List.{AllByRecursion}}
+use Rattle.fs_base.specs.declared.config.{Config.{Config}, Peer.{Peer}}
+use Rattle.fs_speaker.specs.{declared.Sending.{Sending}, Laws.{AreSendable, IsSent}, Numbers.{HasOwnNumbers, IsFourOctet}, Sending.{is_short, sender_of}, Transition.{terms_of}}
+use Rattle.fs_conf.specs.{Config.{config_of}, Rules.{rules_of}}
 
 -- a peer's number has two octets, its AS number four, and neither is 0
 pub record HasPeerNumbers (peer : Peer) : Type 0 where
   pub number : peer.number < 2 ^ 16
   pub some_number : 0 < peer.number
-  pub asn : peer.asn < 2 ^ 32
-  pub some_as : 0 < peer.asn
+  pub asn : IsFourOctet peer.asn
 
--- The AS number and the identifier have four octets and aren't 0, and the hold time has two and is neither one second
--- nor two (RFC 4271, section 4.2); and each peer has such numbers.
+-- the configuration's own and each peer's
 pub record HasNumbers (config : Config) : Type 0 where
-  pub local_as : config.local_as < 2 ^ 32
-  pub some_as : 0 < config.local_as
-  pub local_id : config.local_id < 2 ^ 32
-  pub some_id : 0 < config.local_id
-  pub hold_time : config.hold_time < 2 ^ 16
-  pub not_one : config.hold_time ≢ 1
-  pub not_two : config.hold_time ≢ 2
+  pub own : HasOwnNumbers config
   pub peers : AllByRecursion HasPeerNumbers config.peers
 
 abbrev pub AcceptsNumbers : Type 0

@@ -1,21 +1,11 @@
 -- The rules file: a TOML document with these keys and no others.
-use Rattle.std.specs.Prelude.{ℕ, Bool, true, not, ◌&&◌, ◌||◌, ◌≡◌, if◌then◌else◌, List, [], ◌∷◌, codes, Option, Some, None, option_and_then}
-use Rattle.std.specs.BTreeSet.{BTreeSet}
-use Rattle.std.specs.List.{list_any}
-use Rattle.std.specs.Ordering.{is_eq}
+use Rattle.std.specs.{Prelude.{ℕ, Bool, true, not, ◌&&◌, ◌||◌, ◌≡◌, if◌then◌else◌, List, [], ◌∷◌, codes, Option, Some, None, option_and_then}, BTreeSet.{BTreeSet}, List.{list_any}, Ordering.{is_eq}}
 use Rattle.toml.specs.Data.{Data, as_array, Members, get_member}
 use Rattle.fs_base.specs.declared.config.Config.{Config}
 use Rattle.fs_nlri.specs.Parts.{Ruled}
-use Rattle.fs_order.specs.Comparison.{rule_cmp}
-use Rattle.fs_order.specs.declared.ranked.Ranked.{Ranked}
-use Rattle.fs_speaker.specs.Sending.{is_sending, sender_of}
-use Rattle.fs_speaker.specs.declared.Sending.{Sending}
-use Rattle.fs_speaker.specs.declared.Sent.{Sent}
-use Rattle.fs_conf.specs.Address.{ipv4_of}
-use Rattle.fs_conf.specs.Config.{as_number, kept_if, written}
-use Rattle.fs_conf.specs.Document.{document_of, each_item}
-use Rattle.fs_conf.specs.Fields.{keys_among}
-use Rattle.fs_conf.specs.Sent.{sent_of_data}
+use Rattle.fs_order.specs.{Comparison.{rule_cmp}, declared.ranked.Ranked.{Ranked}}
+use Rattle.fs_speaker.specs.{Sending.{is_sending, sender_of}, declared.{Sending.{Sending}, Sent.{Sent}}}
+use Rattle.fs_conf.specs.{Address.{ipv4_of}, Config.{as_number, kept_if, written}, Document.{document_of, each_item}, Fields.{keys_among}, Sent.{sent_of_data}}
 
 infixl 10 ◌>>=◌
 abbrev ◌>>=◌ : {A B : Type 0} → Option A → (A → Option B) → Option B

@@ -1,19 +1,13 @@
 -- A rule of the rules file: a table with the keys of its octets, or with the one key of its text, and no others.
-use Rattle.std.specs.Prelude.{ℕ, ◌*◌, ◌&&◌, Bool, if◌then◌else◌, List, [], ◌∷◌, ◌++◌, codes, filter_map, find, length, Option, Some, None, option_and_then, is_some, Result, Ok, Err}
-use Rattle.std.specs.List.{list_all}
-use Rattle.std.specs.Str.{bytes_eq}
+use Rattle.std.specs.{Prelude.{ℕ, ◌*◌, ◌&&◌, Bool, if◌then◌else◌, List, [], ◌∷◌, ◌++◌, codes, filter_map, find, length, Option, Some, None, option_and_then, is_some, Result, Ok, Err}, List.{list_all}, Str.{bytes_eq}}
 use Rattle.hex.specs.Hex.{decode_of}
 use Rattle.toml.specs.Data.{Data, as_str, as_table, Members, get_member}
-use Rattle.fs_base.specs.declared.prefix.Family.{Family}
-use Rattle.fs_base.specs.declared.prefix.Family.TheVariants.{V4, V6}
+use Rattle.fs_base.specs.declared.prefix.Family.{Family, TheVariants.{V4, V6}}
 use Rattle.fs_nlri.specs.Parts.{Ruled}
-use Rattle.fs_actions.specs.Actions.{actions_of, are_communities, communities}
-use Rattle.fs_actions.specs.Community.{normal_form}
+use Rattle.fs_actions.specs.{Actions.{actions_of, are_communities, communities}, Community.{normal_form}}
 use Rattle.fs_attrs.specs.Rules.{rules_of}
 use Rattle.fs_speaker.specs.declared.Sent.{Sent}
-use Rattle.fs_conf.specs.Config.{written}
-use Rattle.fs_conf.specs.Fields.{keys_among}
-use Rattle.fs_conf.specs.Worded.{has_text, octet_lists, with_each}
+use Rattle.fs_conf.specs.{Config.{written}, Fields.{keys_among}, Worded.{has_text, octet_lists, with_each}}
 
 infixl 10 ◌>>=◌
 abbrev ◌>>=◌ : {A B : Type 0} → Option A → (A → Option B) → Option B

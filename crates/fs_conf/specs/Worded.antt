@@ -1,8 +1,6 @@
 -- Rules in words: a text says the rule and the actions whose text it is. They are sought among all that octets can say,
 -- so that nothing is said here of how a text is read; the law in `WordedLaw` says the same without the search.
-use Rattle.std.specs.Prelude.{ℕ, zero, suc, Bool, List, [], ◌∷◌, map}
-use Rattle.std.specs.List.{flat_map, range_with_len}
-use Rattle.std.specs.Str.{bytes_eq}
+use Rattle.std.specs.{Prelude.{ℕ, zero, suc, Bool, List, [], ◌∷◌, map}, List.{flat_map, range_with_len}, Str.{bytes_eq}}
 use Rattle.fs_nlri.specs.Parts.{Ruled}
 use Rattle.fs_speaker.specs.declared.Sent.{Sent}
 use Rattle.fs_text.specs.Printed.{text_of}

@@ -1,9 +1,8 @@
 -- What a text says in a rules file.
 use Rattle.std.specs.Prelude.{◌≡◌, ◌↔◌, ℕ, List, Some}
 use Rattle.fs_nlri.specs.Rule.{IsRule}
-use Rattle.fs_text.specs.Text.{AreActions}
+use Rattle.fs_text.specs.{Text.{AreActions}, Printed.{text_of}}
 use Rattle.fs_speaker.specs.declared.Sent.{Sent}
-use Rattle.fs_text.specs.Printed.{text_of}
 use Rattle.fs_conf.specs.Sent.{sent_of_text}
 
 -- the rule is one, the actions are in normal form, by rising octets and each once, and the text is theirs

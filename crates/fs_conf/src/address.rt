@@ -1,7 +1,6 @@
 //! The texts of addresses: dotted IPv4, and IPv6 in the forms 1 and 2 of RFC 4291 section 2.2.
 
-ghost use Rattle.std.specs.Prelude.{◌≡◌, ◌==◌, false};
-ghost use Rattle.std.specs.List.{list_any};
+ghost use Rattle.std.specs.{Prelude.{◌≡◌, ◌==◌, false}, List.{list_any}};
 ghost use Rattle.fs_conf.specs.Address.{dot, ipv4_of, ipv6_of, address_of};
 
 use fs_base::Address;

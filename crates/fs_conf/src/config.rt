@@ -1,14 +1,13 @@
 //! The configuration file.
 
-ghost use Rattle.std.specs.Prelude.{◌≡◌, ◌==◌, Some, None, IfOk, IsErrOf};
-ghost use Rattle.std.specs.List.{list_any};
-ghost use Rattle.toml.specs.Data.{get_member};
-ghost use Rattle.toml.specs.View.{view, items_view, table_view};
-ghost use Rattle.fs_conf.specs.Config.{hold_time_in, limit_in, peer_of_data, peers_of_items, peers_in, are_distinct, identifier, config_of, config_of_document};
+ghost use Rattle.std.specs.{Prelude.{◌≡◌, ◌==◌, Some, None, IfOk, IsErrOf}, List.{list_any}};
+ghost use Rattle.toml.specs.{Data.{get_member}, View.{view, table_view}};
+ghost use Rattle.fs_conf.specs.Config.{hold_time_in, limit_in, peer_of_data, peers_in, are_distinct, identifier, config_of, config_of_document};
 
 use crate::address::{read_address, read_ipv4};
+use crate::array::{OfItem, each_item};
 use crate::document::read_document;
-use crate::fields::{array_at, flag_at, has_only, keep, number_at, number_or, text_at, value_at};
+use crate::fields::{array_at, flag_at, has_only, number_at, number_or, text_at, value_at};
 use fs_base::{Config, Memory, Peer, Peers};
 use std::alloc::Global;
 use toml::{Table, Value};
@@ -64,19 +63,17 @@ fn limit_at(table: &Table, key: &str) -> Option<Option<u32>>
     }
 }
 
-// A peer for each item.
-fn read_peers(alloc: Global, items: &[Value]) -> Result<Vec<Peer>, ConfFault>
-    ensures ok { IfOk result (λ peers. peers_of_items (items_view items.now) ≡ Some peers.items) }
-    ensures refused { IsErrOf result ConfFault.Refused → peers_of_items (items_view items.now) ≡ None }
-{
-    let mut peers = Vec::new(alloc);
-    for item in items {
-        let Some(peer) = read_peer(item) else {
-            return Err(ConfFault::Refused);
-        };
-        keep(&mut peers, peer)?;
+impl OfItem for Peer {
+    ghost use Rattle.fs_conf.specs.Config.{peer_of_data};
+
+    ghost says = { peer_of_data };
+
+    fn of_item(_alloc: Global, item: &Value) -> Result<Peer, ConfFault> {
+        match read_peer(item) {
+            Some(peer) => Ok(peer),
+            None => Err(ConfFault::Refused),
+        }
     }
-    Ok(peers)
 }
 
 // Whether a peer has this number.
@@ -128,7 +125,7 @@ fn peers_at(alloc: Global, table: &Table, key: &str) -> Result<Peers, ConfFault>
     let Some(items) = array_at(table, key) else {
         return Err(ConfFault::Refused);
     };
-    let peers = read_peers(alloc, items)?;
+    let peers = each_item::<Peer>(alloc, items)?;
     if 1 <= peers.len() && peers.len() <= PEER_LIMIT && have_distinct_numbers(&peers) {
         Ok(Peers::new(peers))
     } else {

@@ -2,6 +2,7 @@
 #![tactic(auto)]
 
 mod address;
+mod array;
 mod config;
 mod document;
 mod fields;

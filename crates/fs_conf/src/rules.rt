@@ -1,19 +1,14 @@
 //! The rules file.
 
 ghost use Rattle.std.specs.Prelude.{◌≡◌, Some, None, IfOk, IsErrOf};
-ghost use Rattle.toml.specs.Data.{get_member};
-ghost use Rattle.toml.specs.View.{view, items_view, table_view};
-ghost use Rattle.fs_conf.specs.Address.{ipv4_of};
-ghost use Rattle.fs_conf.specs.Config.{written};
-ghost use Rattle.fs_conf.specs.Document.{each_item};
-ghost use Rattle.fs_conf.specs.Rules.{number_of, as_path_in, are_single, rules_in, sendable, sending_of_members, sending_of_document, rules_of, Sees};
-ghost use Rattle.fs_conf.specs.Sent.{sent_of_data};
+ghost use Rattle.toml.specs.{Data.{get_member}, View.{view, table_view}};
+ghost use Rattle.fs_conf.specs.{Address.{ipv4_of}, Config.{written}, Rules.{as_path_in, are_single, rules_in, sendable, sending_of_members, sending_of_document, rules_of, Sees}};
 
 use crate::address::read_ipv4;
+use crate::array::{OfItem, each_item};
 use crate::config::ConfFault;
 use crate::document::read_document;
-use crate::fields::{array_at, has_only, keep, text_at, value_at};
-use crate::sent::read_sent;
+use crate::fields::{array_at, has_only, text_at, value_at};
 use fs_base::{Config, Memory, Numbers};
 use fs_order::Ranked;
 use fs_speaker::{Sending, Sent, SentList, sender};
@@ -21,31 +16,20 @@ use std::alloc::Global;
 use std::collections::BTreeSet;
 use toml::{Table, Value};
 
-fn number_of(value: &Value) -> Option<u32>
-    ensures { result ≡ number_of (view value.now) }
-{
-    match value {
-        Value::Integer(n) => match u32::try_from(*n) {
-            Ok(n) if 1 <= n => Some(n),
-            _ => None,
-        },
-        _ => None,
-    }
-}
+impl OfItem for u32 {
+    ghost use Rattle.fs_conf.specs.Rules.{number_of};
 
-/// An AS number for each item.
-fn numbers_of(alloc: Global, items: &[Value]) -> Result<Vec<u32>, ConfFault>
-    ensures ok { IfOk result (λ numbers. each_item number_of (items_view items.now) ≡ Some numbers.items) }
-    ensures refused { IsErrOf result ConfFault.Refused → each_item number_of (items_view items.now) ≡ None }
-{
-    let mut numbers = Vec::new(alloc);
-    for item in items {
-        let Some(number) = number_of(item) else {
-            return Err(ConfFault::Refused);
-        };
-        keep(&mut numbers, number)?;
+    ghost says = { number_of };
+
+    fn of_item(_alloc: Global, item: &Value) -> Result<u32, ConfFault> {
+        match item {
+            Value::Integer(n) => match u32::try_from(*n) {
+                Ok(n) if 1 <= n => Ok(n),
+                _ => Err(ConfFault::Refused),
+            },
+            _ => Err(ConfFault::Refused),
+        }
     }
-    Ok(numbers)
 }
 
 fn as_path_at(alloc: Global, table: &Table, key: &str) -> Result<Numbers, ConfFault>
@@ -56,20 +40,7 @@ fn as_path_at(alloc: Global, table: &Table, key: &str) -> Result<Numbers, ConfFa
     let Some(items) = array_at(table, key) else {
         return Err(ConfFault::Refused);
     };
-    Ok(Numbers::new(numbers_of(alloc, items)?))
-}
-
-/// A rule for each item.
-fn sents_of(alloc: Global, items: &[Value]) -> Result<Vec<Sent>, ConfFault>
-    ensures ok { IfOk result (λ rules. each_item sent_of_data (items_view items.now) ≡ Some rules.items) }
-    ensures refused { IsErrOf result ConfFault.Refused → each_item sent_of_data (items_view items.now) ≡ None }
-{
-    let mut rules = Vec::new(alloc);
-    for item in items {
-        let sent = read_sent(alloc, item)?;
-        keep(&mut rules, sent)?;
-    }
-    Ok(rules)
+    Ok(Numbers::new(each_item::<u32>(alloc, items)?))
 }
 
 /// Whether no two are one rule.
@@ -100,7 +71,7 @@ fn rules_of(alloc: Global, value: &Value) -> Result<SentList, ConfFault>
     let Some(items) = value.as_array() else {
         return Err(ConfFault::Refused);
     };
-    let rules = sents_of(alloc, items)?;
+    let rules = each_item::<Sent>(alloc, items)?;
     if are_single(alloc, &rules)? {
         Ok(SentList::new(rules))
     } else {

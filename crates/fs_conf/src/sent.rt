@@ -1,13 +1,11 @@
 //! A rule of the rules file.
 
-ghost use Rattle.std.specs.Prelude.{◌≡◌, Some, None, IfOk, IsErrOf};
-ghost use Rattle.std.specs.List.{list_all};
-ghost use Rattle.toml.specs.Data.{get_member};
-ghost use Rattle.toml.specs.View.{view, table_view};
+ghost use Rattle.std.specs.{Prelude.{◌≡◌, Some, None, IfOk, IsErrOf}, List.{list_all}};
+ghost use Rattle.toml.specs.{Data.{get_member}, View.{view, table_view}};
 ghost use Rattle.fs_actions.specs.Actions.{communities};
-ghost use Rattle.fs_conf.specs.Config.{written};
-ghost use Rattle.fs_conf.specs.Sent.{family_of, octets_of, rule_of, rule_written, are_listed, listed_actions, actions_written, actions_in, sent_of_members, sent_of_data, sent_of_text};
+ghost use Rattle.fs_conf.specs.{Config.{written}, Sent.{family_of, octets_of, rule_of, rule_written, are_listed, listed_actions, actions_written, actions_in, sent_of_members, sent_of_text}};
 
+use crate::array::OfItem;
 use crate::config::ConfFault;
 use crate::fields::{has_only, text_at, value_at};
 use crate::worded::sent_of_text;
@@ -164,21 +162,24 @@ fn worded_at(alloc: Global, table: &Table, key: &str) -> Result<Sent, ConfFault>
     sent_of_text(alloc, text)
 }
 
-/// The rule of one item of `[[rule]]`: either `family` (`v4` or `v6`), `nlri` (exactly one frame in hexadecimal) and
-/// `actions` (extended communities in hexadecimal, each of them an action; none where the key is missing), or `text`
-/// alone (the rule and its actions in words).
-pub(crate) fn read_sent(alloc: Global, value: &Value) -> Result<Sent, ConfFault>
-    ensures ok { IfOk result (λ sent. sent_of_data (view value.now) ≡ Some sent) }
-    ensures refused { IsErrOf result ConfFault.Refused → sent_of_data (view value.now) ≡ None }
-{
-    let Some(table) = value.as_table() else {
-        return Err(ConfFault::Refused);
-    };
-    if has_only(table, &["family", "nlri", "actions"]) {
-        return sent_in(alloc, table);
+impl OfItem for Sent {
+    ghost use Rattle.fs_conf.specs.Sent.{sent_of_data};
+
+    ghost says = { sent_of_data };
+
+    /// The rule of one item of `[[rule]]`: either `family` (`v4` or `v6`), `nlri` (exactly one frame in hexadecimal)
+    /// and `actions` (extended communities in hexadecimal, each of them an action; none where the key is missing), or
+    /// `text` alone (the rule and its actions in words).
+    fn of_item(alloc: Global, item: &Value) -> Result<Sent, ConfFault> {
+        let Some(table) = item.as_table() else {
+            return Err(ConfFault::Refused);
+        };
+        if has_only(table, &["family", "nlri", "actions"]) {
+            return sent_in(alloc, table);
+        }
+        if has_only(table, &["text"]) {
+            return worded_at(alloc, table, "text");
+        }
+        Err(ConfFault::Refused)
     }
-    if has_only(table, &["text"]) {
-        return worded_at(alloc, table, "text");
-    }
-    Err(ConfFault::Refused)
 }

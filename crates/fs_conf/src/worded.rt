@@ -1,8 +1,7 @@
 //! A rule of the rules file in words.
 
 ghost use Rattle.std.specs.Prelude.{◌≡◌, Some, None, IfOk, IsErrOf};
-ghost use Rattle.fs_conf.specs.Sent.{sent_of_text};
-ghost use Rattle.fs_conf.specs.WordedLaw.{SaysItsOwn};
+ghost use Rattle.fs_conf.specs.{Sent.{sent_of_text}, WordedLaw.{SaysItsOwn}};
 
 use crate::config::ConfFault;
 use fs_attrs::rules_are_the_outcome;

@@ -1,5 +1,5 @@
 -- The first update behind which a peer holds more than it may, and the session that it cuts.
-use Rattle.fs_desk.proofs.Words.{◌≡◌, ℕ, List, [], ◌∷◌, ◌++◌, map, map-id, find, Bool, true, false, Option, Some, None, if◌then◌else◌, refl, ap, sym, ◌∙◌, map-append, find-append, option_or, Update, Last, closed, routes_left, is_over, fronts, first_over, too_many, bounded}
+use Rattle.fs_desk.proofs.Words.{◌≡◌, ℕ, List, [], ◌∷◌, ◌++◌, map, map-id, find, Bool, true, false, Option, Some, None, if◌then◌else◌, ap, sym, ◌∙◌, map-append, find-append, option_or, Update, Last, closed, routes_left, is_over, fronts, first_over, too_many, bounded}
 use Rattle.fs_rules.proofs.Chosen.{map-map}
 
 fronts-append : {A : Type 0} (xs ys : List A) → fronts (xs ++ ys) ≡ fronts xs ++ map (λ front. xs ++ front) (fronts ys)

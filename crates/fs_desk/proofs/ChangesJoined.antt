@@ -1,8 +1,6 @@
 -- Changes of the table one after the other, up to that of an update.
-use Rattle.fs_desk.proofs.Words.{◌≡◌, ◌==◌, ◌<◌, ◌+◌, ℕ, List, [], ◌∷◌, ◌++◌, Bool, true, false, ◌||◌, Option, Some, None, Result, Ok, Err, OnOk, if◌then◌else◌, option_map, length, take, map, get_or, refl, ap, sym, subst, ◌∙◌, append_assoc, append-nil, is_some, ◌⊎◌, inl, inr, list_any, option_to_list, take_more, map-append, list_any-append, or_none, Path, Prefix, Ruled, shown, Held, Shown, Update, unicast_in, flows_in, given_prefixes, unicast_at, flow_at, last_such, Given, is_prefix, is_rule, given_with, Changes, same, taken_of, given_at, rules_taken, rules_given, given_or, told, told_of}
+use Rattle.fs_desk.proofs.{Words.{◌≡◌, ◌==◌, ◌<◌, ◌+◌, ℕ, List, [], ◌∷◌, ◌++◌, Bool, true, false, ◌||◌, Option, Some, None, Result, Ok, Err, OnOk, if◌then◌else◌, option_map, length, take, map, get_or, refl, ap, sym, subst, ◌∙◌, append_assoc, append-nil, is_some, ◌⊎◌, inl, inr, list_any, option_to_list, take_more, map-append, list_any-append, or_none, Path, Prefix, Ruled, shown, Held, Shown, Update, unicast_in, flows_in, given_prefixes, unicast_at, flow_at, last_such, Given, is_prefix, is_rule, given_with, Changes, same, taken_of, given_at, rules_taken, rules_given, given_or, told, told_of}, Life.{any-more}, Updates.{last-more, later_of}}
 use Rattle.std.proofs.lemmas.Option.{none-some}
-use Rattle.fs_desk.proofs.Life.{any-more}
-use Rattle.fs_desk.proofs.Updates.{last-more, later_of}
 
 pub on_ok : {T E P Q : Type 0} (result : Result T E) → (P → Q) → OnOk result P → OnOk result Q
 on_ok (Ok t) f p = f p

@@ -1,6 +1,5 @@
 -- What a session is still to come to with a piece, message by message.
-use Rattle.fs_desk.proofs.Words.{◌≡◌, ◌==◌, ℕ, max, List, [], ◌++◌, drop, length, true, Bool, Option, Some, None, refl, ap, sym, ◌∙◌, append_assoc, append-nil, subst, arith, nat_tests, nil_from_length, Config, Peer, pending, Update, Held, Closed, Times, Phase, Handed, with_taken, runs_by, Step, waits, takes, stops, Live, Does, reply_of, step_with, receiver, at_moment, taken_in, Machine, runs_takes, Comes, MessageComes, TakesUpdate, comes_to}
-use Rattle.fs_desk.proofs.Follows.{all_gone}
+use Rattle.fs_desk.proofs.{Words.{◌≡◌, ◌==◌, ℕ, max, List, [], ◌++◌, drop, length, true, Bool, Option, Some, None, refl, ap, sym, ◌∙◌, append_assoc, append-nil, subst, arith, nat_tests, nil_from_length, Config, Peer, pending, Update, Held, Closed, Times, Phase, Handed, with_taken, runs_by, Step, waits, takes, stops, Live, Does, reply_of, step_with, receiver, at_moment, taken_in, Machine, runs_takes, Comes, MessageComes, TakesUpdate, comes_to}, Follows.{all_gone}}
 
 -- the greatest moment so far moves nothing
 pub at_greatest : (now : Times) → at_moment now.greatest now ≡ now

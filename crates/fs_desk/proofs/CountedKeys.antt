@@ -1,7 +1,6 @@
 -- Keys that are mentioned and left, each counted once, are as many as the entries of a peer.
-use Rattle.std.proofs.Common.{Less, Ordering}
+use Rattle.std.{proofs.Common.{Less, Ordering}, specs.Set.{distinct_count}}
 use Rattle.fs_desk.proofs.Words.{◌≡◌, inl, inr, Bool, true, false, true≢false, ◌&&◌, ◌||◌, cond, List, [], ◌∷◌, length, map, filter, flat_map, refl, sym, ap, ap₂, ◌∙◌, length-map, list_any-append, sorted_head, sorted_tail, length-from_keys, IsEquivalence, list_any, AllByRecursion, IsDistinct, IsStrictlySortedBy, and_both, and_first, and_second, or_either, or_first, or_second, same_tests, any_filter, each_weaker}
-use Rattle.std.specs.Set.{distinct_count}
 
 -- whether some element passes, in other words
 pub any_on : {A : Type 0} (p q : A → Bool) (xs : List A) → ((x : A) → p x ≡ q x) → list_any p xs ≡ list_any q xs

@@ -1,6 +1,5 @@
 -- A session that is fed octet by octet and the session of all octets that the peer sent.
-use Rattle.fs_desk.proofs.Words.{◌≡◌, ℕ, List, [], ◌∷◌, ◌++◌, length, drop, Option, Some, None, true, refl, ap, sym, ◌∙◌, append_assoc, append-nil, subst, arith, drop_all, Config, Peer, pending, Update, Closed, Phase, Step, waits, takes, stops, fresh, at_start, Last, still, closed, with_update, session_from, Live, live, step_of, Does, step_with, bounded, bounded_from, first_over, is_over, routes_left, too_many, with_updates, Follows, IsOver, AreWithin, session_takes, session_stops, session_waits}
-use Rattle.fs_desk.proofs.Bounding.{next_passes, over_stays, bounded_within, bounded_over}
+use Rattle.fs_desk.proofs.{Words.{◌≡◌, ℕ, List, [], ◌∷◌, ◌++◌, length, drop, Option, Some, None, true, refl, ap, sym, ◌∙◌, append_assoc, append-nil, subst, arith, drop_all, Config, Peer, pending, Update, Closed, Phase, Step, waits, takes, stops, fresh, at_start, Last, still, closed, with_update, session_from, Live, live, step_of, Does, step_with, bounded, bounded_from, first_over, is_over, routes_left, too_many, with_updates, Follows, IsOver, AreWithin, session_takes, session_stops, session_waits}, Bounding.{next_passes, over_stays, bounded_within, bounded_over}}
 
 -- an update that a call answered, as a list
 abbrev as_list : Option Update → List Update

@@ -1,7 +1,5 @@
 -- What a piece makes of the session that a desk keeps of a peer.
-use Rattle.fs_desk.proofs.Words.{◌≡◌, ◌==◌, ℕ, List, [], ◌∷◌, ◌++◌, Option, Some, None, ap, sym, ◌∙◌, subst, append-nil, nat_cmp, set_value, is_at, peer_of, Config, Peer, eq_itself, if_true, pending, Noted, Held, Closed, Times, Handed, Point, handed, hand, runs_by, waits, Live, step_of, receiver, at_moment, runs_waits, Item, received, Desked, HandsPeer, IsHanded, PeerIs, Played, session_at, life, Comes, IsFed, PieceComes, TakesPiece, comes_to, point_of}
-use Rattle.fs_desk.proofs.Coming.{at_greatest}
-use Rattle.fs_desk.proofs.Played.{desk_fed, desk_of, session_value}
+use Rattle.fs_desk.proofs.{Words.{◌≡◌, ◌==◌, ℕ, List, [], ◌∷◌, ◌++◌, Option, Some, None, ap, sym, ◌∙◌, subst, append-nil, nat_cmp, set_value, is_at, peer_of, Config, Peer, eq_itself, if_true, pending, Noted, Held, Closed, Times, Handed, Point, handed, hand, runs_by, waits, Live, step_of, receiver, at_moment, runs_waits, Item, received, Desked, HandsPeer, IsHanded, PeerIs, Played, session_at, life, Comes, IsFed, PieceComes, TakesPiece, comes_to, point_of}, Coming.{at_greatest}, Played.{desk_fed, desk_of, session_value}}
 
 -- in the octets that wait of an open session no message stands whole
 abbrev Waits : Live → Type 0
@@ -53,7 +51,7 @@ one_session : (found session : Live) (o : Option Live) → o ≡ Some found → 
 one_session found session o e f = ap (λ (x : Option Live). elim x [ None ↦ found | Some l ↦ l ]) (sym e ∙ f)
 
 pub desk_handed : (noted noted' : Noted) (n : ℕ) (piece replies replies' : List ℕ) (session session' : Live) (own : Config) (table table' : Held) (sessions sessions' : List (ℕ × Live)) (old : Desked)
-    → old ≡ desk_of own table noted sessions → session_at n sessions ≡ Some session → TakesPiece n session session' table table' piece → PieceComes session session' piece replies replies'
+    → old ≡ desk_of own table noted sessions → session_at n sessions ≡ Some session → TakesPiece n session session' table table' piece replies replies' → PieceComes session session' piece replies replies'
     → sessions' ≡ set_value (is_at (nat_cmp n)) sessions session' → HandsPeer n old (desk_of own table' noted' sessions') piece replies replies'
 desk_handed noted noted' n piece replies replies' session session' own table table' sessions sessions' old e there takes comes s config items found found' p here here' alive =
     let first : found ≡ session = one_session found session (session_at n sessions) (ap (λ (d : Desked). session_at n d.sessions) (sym e) ∙ here) there in
@@ -62,7 +60,7 @@ desk_handed noted noted' n piece replies replies' session session' own table tab
     let after : session'.closed ≡ None = ap (λ (l : Live). l.closed) (sym last) ∙ alive in
     let both = comes after in
     let whole : Played config (items ++ received n piece ∷ []) (desk_of own table' noted' sessions') =
-    desk_fed {noted = noted} {noted' = noted'} config items n piece session session' own table table' sessions sessions' old e there takes s p in
+    desk_fed {noted = noted} {noted' = noted'} config items n piece replies replies' session session' own table table' sessions sessions' old e there takes s p in
     subst (λ (l : Live). IsHanded l found' piece replies replies') (sym first)
     (subst (λ (l : Live). IsHanded session l piece replies replies') (sym last)
     (is_handed session session' piece replies replies' both.0 both.1 after (open_waits config (items ++ received n piece ∷ []) n session' (desk_of own table' noted' sessions') now_there after whole)))

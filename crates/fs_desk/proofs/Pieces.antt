@@ -1,12 +1,6 @@
 -- One session and the table, through a piece of the peer's octets.
-use Rattle.fs_desk.proofs.Words.{◌≡◌, inl, inr, ℕ, List, [], ◌∷◌, ◌++◌, drop, flat_map, not, Bool, Option, Some, None, refl, ap, sym, ◌∙◌, subst, append-nil, is_some, true, false, true≢false, AllByRecursion, Config, Peer, IsPrefix, Update, gives_prefixes, false_of_not, true_of_not, each_append, some_there, Held, held_count, Closed, Fault, Notified, NoFamily, Memory, Step, stops, CloseIs, Live, Does, step_with, Changes, nothing, told, told_of, IsListed, is_over, routes_left, too_many, bounded_replies_from, wants_memory, Follows, AreWithin, TakesUpdate, IsFed, HasReplied, IsLeft, Spares, IsUp, HasTaken, MessageTaken, TakesMessage, HasRepliedMore}
+use Rattle.fs_desk.proofs.{Words.{◌≡◌, inl, inr, ℕ, List, [], ◌∷◌, ◌++◌, drop, flat_map, not, Bool, Option, Some, None, refl, ap, sym, ◌∙◌, subst, append-nil, is_some, true, false, true≢false, AllByRecursion, Config, Peer, IsPrefix, Update, gives_prefixes, false_of_not, true_of_not, each_append, some_there, Held, held_count, Closed, Fault, Notified, NoFamily, Memory, Step, stops, CloseIs, Live, Does, step_with, Changes, nothing, told, told_of, IsListed, is_over, routes_left, too_many, bounded_replies_from, wants_memory, Follows, AreWithin, TakesUpdate, IsFed, HasReplied, IsLeft, Spares, IsUp, HasTaken, MessageTaken, TakesMessage, HasRepliedMore, close_is}, Bounding.{next_within}, Follows.{follows_piece, follows_fed, follows_closed, follows_ceased, over_more}, Replying.{replied_exactly, replied_over}, RoutesLeft.{counted_left}, TableChanges.{lost_to}, Updates.{left_more, left_nothing, spares_others, spares_none, spares_then}}
 use Rattle.fs_rules.proofs.Apart.{each_front, each_back}
-use Rattle.fs_desk.proofs.Bounding.{next_within}
-use Rattle.fs_desk.proofs.Follows.{follows_piece, follows_fed, follows_closed, follows_ceased, over_more}
-use Rattle.fs_desk.proofs.Replying.{replied_exactly, replied_over}
-use Rattle.fs_desk.proofs.RoutesLeft.{counted_left}
-use Rattle.fs_desk.proofs.TableChanges.{lost_to}
-use Rattle.fs_desk.proofs.Updates.{left_more, left_nothing, spares_others, spares_none, spares_then}
 
 -- a message without an update was taken
 pub fed_none : (peer : ℕ) (old new : Live) (table : Held) (piece : List ℕ) (count : ℕ)
@@ -38,13 +32,18 @@ held_left peer updates update old new table table' replies replies' open_ t whos
     ∙ ap (λ (n : ℕ). not (is_over whose.max_routes n))
     (counted_left peer (updates ++ update ∷ []) t.applied (t.changes.listed l) (left_more peer updates update table t.applied k t.changes l) (prefixes_more updates update w.prefixes t.prefixes))
 
+-- what a message does with which this update was found
+pub found_does : {A : Type 0} (old mid : Live) (piece : List ℕ) (count : ℕ) (found : Option Update) (update : Update) → found ≡ Some update
+    → (old.closed ≡ None → Does (step_with old piece) old mid piece count found × A) → old.closed ≡ None → Does (step_with old piece) old mid piece count (Some update) × A
+found_does old mid piece count found update is exact h = (subst (λ (u : Option Update). Does (step_with old piece) old mid piece count u) is (exact h).0, (exact h).1)
+
 -- a message with an update was taken, and the table has it
-pub fed_update : (peer : ℕ) (old mid new : Live) (table table' : Held) (replies replies' piece : List ℕ) (count : ℕ) (update : Update) (open_ : Bool) → open_ ≡ true
-    → (old.closed ≡ None → Does (step_with old piece) old mid piece count (Some update)) → mid.closed ≡ None → mid.config ≡ old.config → mid.peer ≡ old.peer
+pub fed_update : {A : Type 0} (peer : ℕ) (old mid new : Live) (table table' : Held) (replies replies' piece : List ℕ) (count : ℕ) (update : Update) (open_ : Bool) → open_ ≡ true
+    → (found : Option Update) → found ≡ Some update → (old.closed ≡ None → Does (step_with old piece) old mid piece count found × A) → mid.closed ≡ None → mid.config ≡ old.config → mid.peer ≡ old.peer
     → TakesUpdate peer update mid new table table' replies replies' open_
     → TakesMessage peer old new table table' piece (Some count)
-fed_update peer old mid new table table' replies replies' piece count update open_ goes did alive c p t = λ config whose octets updates f w l k.
-    let follows : Follows config whose octets (drop count piece) mid (updates ++ update ∷ []) = follows_fed config whose octets piece old mid updates count (Some update) f alive c p (did f.alive) in
+fed_update peer old mid new table table' replies replies' piece count update open_ goes found is exact alive c p t = λ config whose octets updates f w l k.
+    let follows : Follows config whose octets (drop count piece) mid (updates ++ update ∷ []) = follows_fed config whose octets piece old mid updates count (Some update) f alive c p (found_does old mid piece count found update is exact f.alive).0 in
     let small : is_over whose.max_routes (routes_left (updates ++ update ∷ [])) ≡ false =
     false_of_not (is_over whose.max_routes (routes_left (updates ++ update ∷ []))) (sym (held_left peer updates update mid new table table' replies replies' open_ t whose w l k (p ∙ f.peer_is)) ∙ goes) in
     record {
@@ -56,12 +55,12 @@ fed_update peer old mid new table table' replies replies' piece count update ope
     }
 
 -- a message with an update was taken that passes the limit: the session is closed, and the table has nothing of the peer
-pub fed_ceased : (peer : ℕ) (old mid new : Live) (table table' : Held) (replies replies' piece : List ℕ) (count : ℕ) (update : Update) (open_ : Bool) → open_ ≡ false
-    → (old.closed ≡ None → Does (step_with old piece) old mid piece count (Some update)) → mid.closed ≡ None → mid.config ≡ old.config → mid.peer ≡ old.peer
+pub fed_ceased : {A : Type 0} (peer : ℕ) (old mid new : Live) (table table' : Held) (replies replies' piece : List ℕ) (count : ℕ) (update : Update) (open_ : Bool) → open_ ≡ false
+    → (found : Option Update) → found ≡ Some update → (old.closed ≡ None → Does (step_with old piece) old mid piece count found × A) → mid.closed ≡ None → mid.config ≡ old.config → mid.peer ≡ old.peer
     → TakesUpdate peer update mid new table table' replies replies' open_
     → TakesMessage peer old new table table' piece None
-fed_ceased peer old mid new table table' replies replies' piece count update open_ ends did alive c p t = λ config whose octets updates f w l k.
-    let follows : Follows config whose octets (drop count piece) mid (updates ++ update ∷ []) = follows_fed config whose octets piece old mid updates count (Some update) f alive c p (did f.alive) in
+fed_ceased peer old mid new table table' replies replies' piece count update open_ ends found is exact alive c p t = λ config whose octets updates f w l k.
+    let follows : Follows config whose octets (drop count piece) mid (updates ++ update ∷ []) = follows_fed config whose octets piece old mid updates count (Some update) f alive c p (found_does old mid piece count found update is exact f.alive).0 in
     let over : is_over whose.max_routes (routes_left (updates ++ update ∷ [])) ≡ true =
     true_of_not (is_over whose.max_routes (routes_left (updates ++ update ∷ []))) (sym (held_left peer updates update mid new table table' replies replies' open_ t whose w l k (p ∙ f.peer_is)) ∙ ends) in
     let gone : Changes peer nothing nothing t.applied table' = lost_to peer t.applied table' (t.ceases ends).1 in
@@ -72,12 +71,6 @@ fed_ceased peer old mid new table table' replies replies' piece count update ope
       left = left_nothing peer t.applied table' gone (t.changes.listed l);
       spares = spares_then peer table t.applied table' (spares_others peer (told update) (told_of update) table t.applied t.changes l) (spares_others peer nothing nothing t.applied table' gone (t.changes.listed l));
     })
-
-pub close_is : (step : Step) (why : Closed) → (why ≡ Memory → ⊥) → CloseIs step why → step ≡ stops why
-close_is step (Fault code subcode) n h = h
-close_is step (Notified code subcode) n h = h
-close_is step NoFamily n h = h
-close_is step Memory n h = absurd (n refl)
 
 -- the session was closed, and the table has nothing of the peer
 pub fed_closed : (peer : ℕ) (old new : Live) (table table' : Held) (piece : List ℕ) (why : Closed)

@@ -1,9 +1,5 @@
 -- The desk behind one more item of the tape.
-use Rattle.fs_desk.proofs.Words.{◌≡◌, ◌==◌, ℕ, List, [], ◌∷◌, ◌++◌, Bool, true, false, cond, Option, Some, None, if◌then◌else◌, option_map, refl, ap, sym, ◌∙◌, subst, append-nil, arith, unwrap_or, IsSome, nat_tests, nat_cmp, is_eq, IsTotalOrder, nat_cmp_total, eq_by_cmp_equiv, IsStrictlySortedBy, remove_entry, set_value, keys_of, insert_entry, is_at, lookup-remove_entry, lookup-set_value, keys-set_value, IsDistinct-from_sorted, peer_of, Config, Peer, eq_itself, equal_of_eq, equal_of_is_eq, is_eq_of_nats, if_true, if_false, Noted, Held, fresh, Live, live, begins, Item, came_up, received, was_lost, bounds_life, begins_life, sent_in, life, Changes, nothing, IsListed, bounded_replies_from, IsLeft, Spares, IsUp, TakesPiece, RepliesPiece, Desked, session_at, PeerIs, Played, Replied, lookup-insert_entry, sorted-insert_entry, sorted-remove_entry}
-use Rattle.fs_desk.proofs.Life.{life-bound, life-more}
-use Rattle.fs_desk.proofs.Follows.{follows_none, within_none}
-use Rattle.fs_desk.proofs.Replying.{replied_none}
-use Rattle.fs_desk.proofs.Updates.{left_nothing, left_spared, spares_others}
+use Rattle.fs_desk.proofs.{Words.{◌≡◌, ◌==◌, ℕ, List, [], ◌∷◌, ◌++◌, Bool, true, false, cond, Option, Some, None, if◌then◌else◌, option_map, refl, ap, sym, ◌∙◌, subst, append-nil, arith, unwrap_or, IsSome, nat_tests, nat_cmp, is_eq, IsTotalOrder, nat_cmp_total, eq_by_cmp_equiv, IsStrictlySortedBy, remove_entry, set_value, keys_of, insert_entry, is_at, lookup-remove_entry, lookup-set_value, keys-set_value, IsDistinct-from_sorted, peer_of, Config, Peer, eq_itself, equal_of_eq, equal_of_is_eq, is_eq_of_nats, if_true, if_false, Noted, Held, fresh, Live, live, begins, Item, came_up, received, was_lost, bounds_life, begins_life, sent_in, life, Changes, nothing, IsListed, bounded_replies_from, IsLeft, Spares, IsUp, TakesPiece, Desked, session_at, PeerIs, Played, Replied, lookup-insert_entry, sorted-insert_entry, sorted-remove_entry}, Life.{life-bound, life-more}, Follows.{follows_none, within_none}, Replying.{replied_none}, Updates.{left_nothing, left_spared, spares_others}}
 
 same_swapped : (m n : ℕ) (b : Bool) → (m == n) ≡ b → (n == m) ≡ b
 same_swapped m n b h = grind (arith, nat_tests, h)
@@ -126,12 +122,12 @@ received_life n items piece =
     ∙ ap (λ (z : List ℕ). option_map (λ octets. octets ++ z) (life n items)) (if_true (n == n) piece [] (eq_itself n))
 
 -- the session of a peer that is up took a piece
-pub played_octets : (config : Config) (items : List Item) (n : ℕ) (piece : List ℕ) (session session' : Live) (old new : Desked)
-    → session_at n old.sessions ≡ Some session → TakesPiece n session session' old.held new.held piece
+pub played_octets : (config : Config) (items : List Item) (n : ℕ) (piece before now : List ℕ) (session session' : Live) (old new : Desked)
+    → session_at n old.sessions ≡ Some session → TakesPiece n session session' old.held new.held piece before now
     → new.config ≡ old.config → ((m : ℕ) → session_at m new.sessions ≡ (if m == n then Some session' else session_at m old.sessions))
     → IsStrictlySortedBy nat_cmp (keys_of new.sessions)
     → Played config items old → Played config (items ++ received n piece ∷ []) new
-played_octets config items n piece session session' old new there takes c s sorted p =
+played_octets config items n piece before now session session' old new there takes c s sorted p =
     by (peer_of n config.peers) (life n items) refl refl (subst (λ (x : Option Live). PeerIs config (peer_of n config.peers) (life n items) x n old.held) there (p.each n))
   where
     by : (q : Option Peer) (l : Option (List ℕ)) → peer_of n config.peers ≡ q → life n items ≡ l → PeerIs config q l (Some session) n old.held
@@ -149,20 +145,20 @@ played_octets config items n piece session session' old new there takes c s sort
         (subst (λ (x : Option Peer). PeerIs config x (Some (octets ++ piece)) (Some session') n new.held) (sym f) took.0)) in
         record {
           config_is = c ∙ p.config_is;
-          held_is = took.1.config_is ∙ p.held_is;
-          listed = took.1.listed;
+          held_is = took.1.0.config_is ∙ p.held_is;
+          listed = took.1.0.listed;
           sessions = sorted;
           each = each_peer (λ m. PeerIs config (peer_of m config.peers) (life m (items ++ received n piece ∷ [])) (session_at m new.sessions) m new.held) n at
               (λ m e. peer_spared config (peer_of m config.peers) (life m items) (life m (items ++ received n piece ∷ [])) (session_at m old.sessions) (session_at m new.sessions) n m old.held new.held
               (life_other m items (received n piece) refl refl (if_false (n == m) piece [] (same_swapped m n false e)))
-              (s m ∙ if_false (m == n) _ _ e) took.1 e (p.each m));
+              (s m ∙ if_false (m == n) _ _ e) took.1.0 e (p.each m));
         }
 
 -- the session of a peer that is up replied to a piece
-pub played_replied : (config : Config) (items : List Item) (n : ℕ) (piece before now : List ℕ) (session : Live) (desk : Desked)
-    → session_at n desk.sessions ≡ Some session → RepliesPiece n session desk.held piece before now → Played config items desk
+pub played_replied : (config : Config) (items : List Item) (n : ℕ) (piece before now : List ℕ) (session session' : Live) (desk : Desked) (table' : Held)
+    → session_at n desk.sessions ≡ Some session → TakesPiece n session session' desk.held table' piece before now → Played config items desk
     → Replied config n (life n items) piece before now
-played_replied config items n piece before now session desk there replies p =
+played_replied config items n piece before now session session' desk table' there takes p =
     by (peer_of n config.peers) (life n items) refl (subst (λ (x : Option Live). PeerIs config (peer_of n config.peers) (life n items) x n desk.held) there (p.each n))
   where
     of : List ℕ → Option Peer → List ℕ
@@ -173,7 +169,7 @@ played_replied config items n piece before now session desk there replies p =
     by (Some peer) None f k = absurd k
     by None (Some octets) f k = absurd k
     by (Some peer) (Some octets) f k =
-        let r = replies config peer octets p.listed k in
+        let r = (takes config peer octets p.listed k).1.1 in
         (r.0, r.1, ap (of (octets ++ piece)) f ∙ r.2 ∙ ap (λ (z : List ℕ). z ++ r.0) (sym (ap (of octets) f)))
 
 no_life : (config : Config) (peer : Option Peer) (l : Option (List ℕ)) (n : ℕ) (held : Held) → PeerIs config peer l None n held → l ≡ None
@@ -233,15 +229,15 @@ desk_lost {noted} {noted'} config items n own table table' sessions sessions' ol
     played_lost config items n (record { config = own; held = table; changes = noted; sessions = sessions }) (record { config = own; held = table'; changes = noted'; sessions = sessions' }) t refl s
     (subst (λ (d : Desked). Played config items d) e p)
 
-pub desk_octets : {noted noted' : Noted} (config : Config) (items : List Item) (n : ℕ) (piece : List ℕ) (session session' : Live) (own : Config) (table table' : Held) (sessions sessions' : List (ℕ × Live)) (old : Desked)
+pub desk_octets : {noted noted' : Noted} (config : Config) (items : List Item) (n : ℕ) (piece before now : List ℕ) (session session' : Live) (own : Config) (table table' : Held) (sessions sessions' : List (ℕ × Live)) (old : Desked)
     → old ≡ record { config = own; held = table; changes = noted; sessions = sessions }
-    → session_at n sessions ≡ Some session → TakesPiece n session session' table table' piece
+    → session_at n sessions ≡ Some session → TakesPiece n session session' table table' piece before now
     → ((m : ℕ) → session_at m sessions' ≡ (if m == n then Some session' else session_at m sessions))
     → (IsStrictlySortedBy nat_cmp (keys_of sessions) → IsStrictlySortedBy nat_cmp (keys_of sessions'))
     → Played config items old → Played config (items ++ received n piece ∷ []) (record { config = own; held = table'; changes = noted'; sessions = sessions' })
-desk_octets {noted} {noted'} config items n piece session session' own table table' sessions sessions' old e there takes s sorted p =
+desk_octets {noted} {noted'} config items n piece before now session session' own table table' sessions sessions' old e there takes s sorted p =
     let q : Played config items (record { config = own; held = table; changes = noted; sessions = sessions }) = subst (λ (d : Desked). Played config items d) e p in
-    played_octets config items n piece session session' (record { config = own; held = table; changes = noted; sessions = sessions }) (record { config = own; held = table'; changes = noted'; sessions = sessions' }) there takes refl s (sorted q.sessions) q
+    played_octets config items n piece before now session session' (record { config = own; held = table; changes = noted; sessions = sessions }) (record { config = own; held = table'; changes = noted'; sessions = sessions' }) there takes refl s (sorted q.sessions) q
 
 pub desk_skipped : {noted : Noted} (config : Config) (items : List Item) (n : ℕ) (piece : List ℕ) (own : Config) (table : Held) (sessions sessions' : List (ℕ × Live)) (old : Desked)
     → old ≡ record { config = own; held = table; changes = noted; sessions = sessions } → session_at n sessions ≡ None → sessions' ≡ sessions
@@ -301,22 +297,22 @@ pub sorted_value : (n : ℕ) (session' : Live) (sessions sessions' : List (ℕ �
 sorted_value n session' sessions sessions' s sorted =
     subst (λ (ks : List ℕ). IsStrictlySortedBy nat_cmp ks) (sym (ap keys_of s ∙ keys-set_value (is_at (nat_cmp n)) sessions session')) sorted
 
-pub desk_fed : {noted noted' : Noted} (config : Config) (items : List Item) (n : ℕ) (piece : List ℕ) (session session' : Live) (own : Config) (table table' : Held) (sessions sessions' : List (ℕ × Live)) (old : Desked)
+pub desk_fed : {noted noted' : Noted} (config : Config) (items : List Item) (n : ℕ) (piece before now : List ℕ) (session session' : Live) (own : Config) (table table' : Held) (sessions sessions' : List (ℕ × Live)) (old : Desked)
     → old ≡ record { config = own; held = table; changes = noted; sessions = sessions }
-    → session_at n sessions ≡ Some session → TakesPiece n session session' table table' piece
+    → session_at n sessions ≡ Some session → TakesPiece n session session' table table' piece before now
     → sessions' ≡ set_value (is_at (nat_cmp n)) sessions session'
     → Played config items old → Played config (items ++ received n piece ∷ []) (record { config = own; held = table'; changes = noted'; sessions = sessions' })
-desk_fed {noted} {noted'} config items n piece session session' own table table' sessions sessions' old e there takes s p =
-    desk_octets {noted = noted} {noted' = noted'} config items n piece session session' own table table' sessions sessions' old e there takes
+desk_fed {noted} {noted'} config items n piece before now session session' own table table' sessions sessions' old e there takes s p =
+    desk_octets {noted = noted} {noted' = noted'} config items n piece before now session session' own table table' sessions sessions' old e there takes
     (λ m. session_value m n session session' sessions sessions' there s)
     (sorted_value n session' sessions sessions' s)
     p
 
-pub desk_replied : {noted : Noted} (config : Config) (items : List Item) (n : ℕ) (piece before now : List ℕ) (session : Live) (own : Config) (table : Held) (sessions : List (ℕ × Live)) (old : Desked)
-    → old ≡ record { config = own; held = table; changes = noted; sessions = sessions } → session_at n sessions ≡ Some session → RepliesPiece n session table piece before now
+pub desk_replied : {noted : Noted} (config : Config) (items : List Item) (n : ℕ) (piece before now : List ℕ) (session session' : Live) (own : Config) (table table' : Held) (sessions : List (ℕ × Live)) (old : Desked)
+    → old ≡ record { config = own; held = table; changes = noted; sessions = sessions } → session_at n sessions ≡ Some session → TakesPiece n session session' table table' piece before now
     → Played config items old → Replied config n (life n items) piece before now
-desk_replied {noted} config items n piece before now session own table sessions old e there replies p =
-    played_replied config items n piece before now session (record { config = own; held = table; changes = noted; sessions = sessions }) there replies
+desk_replied {noted} config items n piece before now session session' own table table' sessions old e there takes p =
+    played_replied config items n piece before now session session' (record { config = own; held = table; changes = noted; sessions = sessions }) table' there takes
     (subst (λ (d : Desked). Played config items d) e p)
 
 pub desk_silent : {noted : Noted} (config : Config) (items : List Item) (n : ℕ) (piece before : List ℕ) (own : Config) (table : Held) (sessions : List (ℕ × Live)) (old : Desked)

@@ -1,8 +1,5 @@
 -- What is appended to the replies, through a piece of the peer's octets.
-use Rattle.fs_desk.proofs.Words.{◌≡◌, ◌==◌, ℕ, List, [], ◌∷◌, ◌++◌, length, drop, Bool, false, Option, Some, None, IfSome, Result, Err, refl, sym, ap, ◌∙◌, append_assoc, append-nil, subst, is_some, true, arith, nat_tests, nil_from_length, Config, Peer, Update, Held, Closed, Memory, CloseIs, reply_at, Live, Does, reply_of, step_with, true_of_not, some_there, IsListed, is_over, routes_left, too_many, bounded_replies_from, Follows, AreWithin, TakesUpdate, IsLeft, IsFed, IsReplying, HasReplied, IsUp, RepliesTo, Extends, IsReplyingMore, HasRepliedMore, RepliesMessage}
-use Rattle.fs_desk.proofs.Follows.{follows_fed}
-use Rattle.fs_desk.proofs.Pieces.{close_is, held_left}
-use Rattle.fs_desk.proofs.Replying.{replying_piece, replying_fed, fed_established, replying_closed, replying_ceased, replied_all}
+use Rattle.fs_desk.proofs.{Words.{◌≡◌, ◌==◌, ℕ, List, [], ◌∷◌, ◌++◌, length, drop, Bool, false, Option, Some, None, IfSome, Result, Err, refl, sym, ap, ◌∙◌, append_assoc, append-nil, subst, is_some, true, arith, nat_tests, nil_from_length, Config, Peer, Update, Held, Closed, Memory, CloseIs, reply_at, Live, Does, reply_of, step_with, true_of_not, some_there, IsListed, is_over, routes_left, too_many, bounded_replies_from, Follows, AreWithin, TakesUpdate, IsLeft, IsFed, IsReplying, HasReplied, IsUp, RepliesTo, Extends, IsReplyingMore, HasRepliedMore, RepliesMessage, close_is}, Follows.{follows_fed}, Pieces.{held_left}, Replying.{replying_piece, replying_fed, fed_established, replying_closed, replying_ceased, replied_all}}
 
 -- one message of a piece was taken
 pub replies_taken : (peer : ℕ) (old new : Live) (table : Held) (replies replies' piece : List ℕ) (count : ℕ) (update : Option Update)

@@ -1,9 +1,6 @@
 -- What a session replies when it is fed octet by octet, and all that is replied to the octets that the peer sent.
-use Rattle.fs_desk.proofs.Words.{◌≡◌, ℕ, List, [], ◌∷◌, ◌++◌, true, drop, Option, Some, None, ap, sym, ◌∙◌, append_assoc, append-nil, subst, Config, Peer, pending, Update, Established, Closed, Phase, Step, waits, takes, stops, fresh, reply_to, reply_at, at_start, Last, session_from, Live, live, step_of, Does, reply_of, step_with, session_waits, first_over, is_over, routes_left, too_many, bounded_replies_from, replies_to_limit, Follows, AreWithin, IsFed, said_in, IsReplying, HasReplied}
-use Rattle.fs_speaker.specs.Replies.{replies_from}
-use Rattle.fs_speaker.proofs.ReplySteps.{replies_takes, replies_stops, replies_waits}
-use Rattle.fs_desk.proofs.Follows.{nothing_waits, all_gone, closed_small, follows_over, follows_small}
-use Rattle.fs_desk.proofs.Saying.{takes_says, takes_update}
+use Rattle.fs_desk.proofs.{Words.{◌≡◌, ℕ, List, [], ◌∷◌, ◌++◌, true, drop, Option, Some, None, ap, sym, ◌∙◌, append_assoc, append-nil, subst, Config, Peer, pending, Update, Established, Closed, Phase, Step, waits, takes, stops, fresh, reply_to, reply_at, at_start, Last, session_from, Live, live, step_of, Does, reply_of, step_with, session_waits, first_over, is_over, routes_left, too_many, bounded_replies_from, replies_to_limit, Follows, AreWithin, IsFed, said_in, IsReplying, HasReplied}, Follows.{nothing_waits, all_gone, closed_small, follows_over, follows_small}, Saying.{takes_says, takes_update}}
+use Rattle.fs_speaker.{specs.Replies.{replies_from}, proofs.ReplySteps.{replies_takes, replies_stops, replies_waits}}
 
 -- a session that doesn't pass its limit is replied to as without it, and one that passes it up to that update
 pub replies_within : (config : Config) (peer : Peer) (octets : List ℕ) → first_over peer.max_routes (session_from config peer at_start octets).0 ≡ None

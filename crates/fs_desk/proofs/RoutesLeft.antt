@@ -1,10 +1,7 @@
 -- A peer that holds what its updates leave holds as many routes as they leave.
 use Rattle.std.proofs.Common.{Less, is_eq}
-use Rattle.fs_desk.proofs.Words.{◌≡◌, ◌==◌, ℕ, ◌+◌, Bool, true, false, true≢false, ◌&&◌, ◌||◌, cond, if◌then◌else◌, is_some, List, [], ◌∷◌, map, filter, find, flat_map, Option, Some, None, option_map, option_and_then, refl, sym, ap, ap₂, ◌∙◌, subst, arith, nat_tests, is_at, IsEquivalence, eq_by_cmp_equiv, list_any, AllByRecursion, is_some-lookup, and_first, and_second, and_both, or_first, or_second, same_tests, each, afi_of, Path, eq_itself, equal_of_eq, Ruled, shown, rule_total, place_cmp, Route, Place, IsPrefix, Shown, Update, gives_prefixes, gives_rules, FlowRoute, Held, is_key, held_count, IsListed, flow_key, flow_key_cmp, given_of, routes_left, IsLeft, last_such, same_prefix, gives_at, tells_of, path_left, is_rule, rule_given, tells_of_rule, given_with, flow_left, Given}
+use Rattle.fs_desk.proofs.{Words.{◌≡◌, ◌==◌, ℕ, ◌+◌, Bool, true, false, true≢false, ◌&&◌, ◌||◌, cond, if◌then◌else◌, is_some, List, [], ◌∷◌, map, filter, find, flat_map, Option, Some, None, option_map, option_and_then, refl, sym, ap, ap₂, ◌∙◌, subst, arith, nat_tests, is_at, IsEquivalence, eq_by_cmp_equiv, list_any, AllByRecursion, is_some-lookup, and_first, and_second, and_both, or_first, or_second, same_tests, each, afi_of, Path, eq_itself, equal_of_eq, Ruled, shown, rule_total, place_cmp, Route, Place, IsPrefix, Shown, Update, gives_prefixes, gives_rules, FlowRoute, Held, is_key, held_count, IsListed, flow_key, flow_key_cmp, given_of, routes_left, IsLeft, last_such, same_prefix, gives_at, tells_of, path_left, is_rule, rule_given, tells_of_rule, given_with, flow_left, Given}, ChangesJoined.{last_there}, CountedKeys.{any_on, any_flat, any_map, any_own, distinct_own, counted_own}, Keys.{and_swapped, place_same, key_same}}
 use Rattle.fs_base.proofs.Covers.{same_family}
-use Rattle.fs_desk.proofs.ChangesJoined.{last_there}
-use Rattle.fs_desk.proofs.CountedKeys.{any_on, any_flat, any_map, any_own, distinct_own, counted_own}
-use Rattle.fs_desk.proofs.Keys.{and_swapped, place_same, key_same}
 
 -- What is left was given by some update.
 last_in : {A : Type 0} (test f : A → Bool) (xs : List A) → (elim (last_such test xs) as (λ _. Bool) [ None ↦ false | Some x ↦ f x ]) ≡ true → list_any f xs ≡ true

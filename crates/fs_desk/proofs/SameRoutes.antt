@@ -1,11 +1,7 @@
 -- Tapes that leave the same routes leave one list of held routes.
-use Rattle.fs_desk.proofs.Words.{◌≡◌, ℕ, List, [], ◌∷◌, Bool, true, false, cond, Some, option_map, refl, ap, sym, ◌∙◌, subst, map, find, Equal, is_eq, nat_cmp, IsStrictlySortedBy, keys_of, prefix_cmp, Config, Path, Prefix, Ruled, rule_cmp, place_cmp, Route, Place, place_total, FlowRoute, Held, Item, Leaves, flow_key, flow_key_cmp, given_of, unicast_at, flow_at, Given}
+use Rattle.fs_desk.{proofs.{Words.{◌≡◌, ℕ, List, [], ◌∷◌, Bool, true, false, cond, Some, option_map, refl, ap, sym, ◌∙◌, subst, map, find, Equal, is_eq, nat_cmp, IsStrictlySortedBy, keys_of, prefix_cmp, Config, Path, Prefix, Ruled, rule_cmp, place_cmp, Route, Place, place_total, FlowRoute, Held, Item, Leaves, flow_key, flow_key_cmp, given_of, unicast_at, flow_at, Given}, KeyedSame.{value_at, one_list}, Keys.{flow_key_total}}, specs.Laws.{LeaveSame}}
 use Rattle.fs_base.proofs.SamePrefix.{same_from_cmp}
-use Rattle.fs_order.proofs.Same.{first_equal, second_equal}
-use Rattle.fs_order.proofs.Pairs.{equal_numbers}
-use Rattle.fs_desk.specs.Laws.{LeaveSame}
-use Rattle.fs_desk.proofs.KeyedSame.{value_at, one_list}
-use Rattle.fs_desk.proofs.Keys.{flow_key_total}
+use Rattle.fs_order.proofs.{Same.{first_equal, second_equal}, Pairs.{equal_numbers}}
 
 abbrev placed : Prefix → ℕ → Place
 placed prefix peer = record { prefix = prefix; peer = peer }

@@ -1,13 +1,8 @@
 -- What an open session has said tells its state: it has answered the OPEN once it has taken it, and nothing else.
 use Rattle.fs_desk.proofs.Words.{◌≡◌, ◌==◌, ℕ, List, ◌++◌, Bool, true, false, if◌then◌else◌, Option, Some, None, Result, Ok, Err, refl, sym, append-nil, subst, Config, Peer, Update, WaitOpen, WaitKeep, Established, Closed, Phase, phase, taken, not_taken, notified, opened, updates, transition_at, transition_by, Step, waits, takes, stops, step_at, rest_step, reply_to, receiver, reads_update, step_of, said_in}
-use Rattle.fs_message.specs.declared.fault.MessageFault.{MessageFault}
-use Rattle.fs_message.specs.declared.open_.Open.{Open}
-use Rattle.fs_message.specs.Notice.{notice_of}
-use Rattle.fs_message.specs.Open.{open_of}
-use Rattle.fs_message.specs.Stream.{Message, first_message, wrong_at}
+use Rattle.fs_message.specs.{declared.{fault.MessageFault.{MessageFault}, open_.Open.{Open}}, Notice.{notice_of}, Open.{open_of}, Stream.{Message, first_message, wrong_at}}
 use Rattle.fs_attrs.specs.declared.update.UpdateFault.{UpdateFault}
-use Rattle.fs_speaker.specs.declared.State.{State}
-use Rattle.fs_speaker.specs.declared.State.TheVariants.{Closed as IsClosed}
+use Rattle.fs_speaker.specs.declared.State.{State, TheVariants.{Closed as IsClosed}}
 
 module _ (config : Config) (peer : Peer) (state : State) where
   -- behind a message that was taken: what was said before and the answer to it; an update leads to Established

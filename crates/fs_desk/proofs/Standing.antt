@@ -1,9 +1,6 @@
 -- How it stands with a peer: the sessions that a desk keeps beside those of the tape's octets.
-use Rattle.fs_desk.proofs.Words.{◌≡◌, ℕ, List, [], Option, Some, None, refl, ap, sym, ◌∙◌, peer_of, Config, Peer, Update, Held, Closed, Last, still, at_start, Item, life, Desked, session_at, PeerIs, Played, standing_of, standing_at_desk, bounded_from, bounded_session, IsFed, Down, Ended, standing_at, standing_by}
-use Rattle.fs_speaker.specs.Session.{Live as Session}
-use Rattle.fs_speaker.specs.declared.Standing.{Standing}
-use Rattle.fs_speaker.specs.declared.Standing.TheVariants.{Live as LiveIn}
-use Rattle.fs_desk.proofs.Follows.{follows_session, over_session}
+use Rattle.fs_desk.proofs.{Words.{◌≡◌, ℕ, List, [], Option, Some, None, refl, ap, sym, ◌∙◌, peer_of, Config, Peer, Update, Held, Closed, Last, still, at_start, Item, life, Desked, session_at, PeerIs, Played, standing_of, standing_at_desk, bounded_from, bounded_session, IsFed, Down, Ended, standing_at, standing_by}, Follows.{follows_session, over_session}}
+use Rattle.fs_speaker.specs.{Session.{Live as Session}, declared.Standing.{Standing, TheVariants.{Live as LiveIn}}}
 
 -- what a session came to is what the desk keeps of it
 fed_stands : (config : Config) (peer : Peer) (octets : List ℕ) (session : Session) (updates : List Update) (why : Option Closed)

@@ -1,7 +1,5 @@
 -- What each call of the table changes.
-use Rattle.fs_desk.proofs.Words.{◌≡◌, ◌==◌, ℕ, List, [], ◌∷◌, Bool, true, false, not, ◌&&◌, ◌||◌, cond, Option, Some, None, if◌then◌else◌, map, option_map, refl, ap, sym, subst, ◌∙◌, true≢false, arith, nat_tests, Ordering, Less, Equal, Greater, is_eq, ordering_reverse, match_ordering, IsTotalOrder, eq_by_cmp_equiv, IsStrictlySortedBy, remove_entry, keys_of, insert_entry, is_at, lookup-remove_entry, IsDistinct-from_sorted, Path, Prefix, equal_of_is_eq, Ruled, shown, rule_cmp, place_cmp, Route, Place, place_total, FlowRoute, Held, put_route, without_route, without_peer, without_peer_unicast, without_peer_flows, unicast_at, flow_at, flow_key, flow_key_cmp, FlowKey, given_of, is_prefix, is_rule, Changes, same, nothing, taken_of, given_at, rules_taken, rules_given, given_or, lookup-insert_entry, sorted-insert_entry, sorted-remove_entry}
-use Rattle.fs_desk.proofs.KeyedLists.{at_key, put_by, at_key-put_by, at_key-without, at_key-filter, listed-put_by, listed-filter}
-use Rattle.fs_desk.proofs.Keys.{flow_key_total, place_same, key_same}
+use Rattle.fs_desk.proofs.{Words.{◌≡◌, ◌==◌, ℕ, List, [], ◌∷◌, Bool, true, false, not, ◌&&◌, ◌||◌, cond, Option, Some, None, if◌then◌else◌, map, option_map, refl, ap, sym, subst, ◌∙◌, true≢false, arith, nat_tests, Ordering, Less, Equal, Greater, is_eq, ordering_reverse, match_ordering, IsTotalOrder, eq_by_cmp_equiv, IsStrictlySortedBy, remove_entry, keys_of, insert_entry, is_at, lookup-remove_entry, IsDistinct-from_sorted, Path, Prefix, equal_of_is_eq, Ruled, shown, rule_cmp, place_cmp, Route, Place, place_total, FlowRoute, Held, put_route, without_route, without_peer, without_peer_unicast, without_peer_flows, unicast_at, flow_at, flow_key, flow_key_cmp, FlowKey, given_of, is_prefix, is_rule, Changes, same, nothing, taken_of, given_at, rules_taken, rules_given, given_or, lookup-insert_entry, sorted-insert_entry, sorted-remove_entry}, KeyedLists.{at_key, put_by, at_key-put_by, at_key-without, at_key-filter, listed-put_by, listed-filter}, Keys.{flow_key_total, place_same, key_same}}
 
 reverse_eq : (r : Ordering) → is_eq (ordering_reverse r) ≡ is_eq r
 reverse_eq Less = refl

@@ -1,11 +1,7 @@
 -- The clock at a peer: what was played still stands, unless its session closes by it.
-use Rattle.fs_desk.proofs.Words.{◌≡◌, ◌≢◌, ℕ, ◌==◌, List, [], Option, Some, None, if◌then◌else◌, refl, ap, sym, ◌∙◌, subst, nat_cmp, set_value, is_at, peer_of, Config, Peer, eq_itself, if_true, if_false, Update, Noted, Held, Closed, Fault, Ended, Times, Last, Live, at_start, still, standing_by, at_moment, tick_at, Item, Desked, ExpiresSo, HasHoldTime, session_at, PeerIs, Played, TicksPeer, standing_at_desk, life, bounded_from, bounded_replies_from, HasReplied, IsFed, IsUp}
+use Rattle.fs_desk.{proofs.{Words.{◌≡◌, ◌≢◌, ℕ, ◌==◌, List, [], Option, Some, None, if◌then◌else◌, refl, ap, sym, ◌∙◌, subst, nat_cmp, set_value, is_at, peer_of, Config, Peer, eq_itself, if_true, if_false, Update, Noted, Held, Closed, Fault, Ended, Times, Last, Live, at_start, still, standing_by, at_moment, tick_at, Item, Desked, ExpiresSo, HasHoldTime, session_at, PeerIs, Played, TicksPeer, standing_at_desk, life, bounded_from, bounded_replies_from, HasReplied, IsFed, IsUp}, Follows.{follows_session}, Played.{desk_of, session_value, sorted_value, each_peer}}, specs.HoldTimer.{TickMakes, TicksIn, TicksSession, with_times}}
 use Rattle.fs_speaker.specs.declared.Standing.TheVariants.{Live as LiveIn}
-use Rattle.fs_session.specs.declared.times.Tick.{Tick}
-use Rattle.fs_session.specs.declared.times.Tick.TheVariants.{Quiet, Keeps, Expires}
-use Rattle.fs_desk.specs.HoldTimer.{TickMakes, TicksIn, TicksSession, with_times}
-use Rattle.fs_desk.proofs.Follows.{follows_session}
-use Rattle.fs_desk.proofs.Played.{desk_of, session_value, sorted_value, each_peer}
+use Rattle.fs_session.specs.declared.times.Tick.{Tick, TheVariants.{Quiet, Keeps, Expires}}
 
 -- moments say nothing of what a session was fed with
 fed_timed : (config : Config) (peer : Peer) (octets : List ℕ) (session : Live) (times : Times) (why : Option Closed) (updates : List Update)
@@ -175,40 +171,35 @@ expires_timed hold now h zero_is = quiet (subst (λ (n : ℕ). tick_at n now ≡
     quiet : Quiet ≡ Expires → ⊥
     quiet e = cc
 
-pub desk_expires : (noted noted' : Noted) (n moment : ℕ) (session session' : Live) (own : Config) (table table' : Held) (sessions sessions' : List (ℕ × Live)) (old : Desked) (replies replies' : List ℕ)
-    → old ≡ desk_of own table noted sessions → session_at n sessions ≡ Some session → TicksSession n moment session session' table table' replies replies'
-    → sessions' ≡ set_value (is_at (nat_cmp n)) sessions session' → ExpiresSo n old (desk_of own table' noted' sessions')
-desk_expires noted noted' n moment session session' own table table' sessions sessions' old replies replies' e there ticks s other = by session.closed refl ticks
+-- Where the clock closes a session, the hold time has expired.
+pub ticks_expire : (n moment : ℕ) (old new : Desked) (replies replies' : List ℕ) → TicksPeer n moment old new replies replies' → ExpiresSo n old new
+ticks_expire n moment old new replies replies' ticks other = by_session (session_at n old.sessions) refl ticks
   where
-    now_stands : standing_at_desk (desk_of own table' noted' sessions') n ≡ standing_by (Some session')
-    now_stands = ap standing_by (session_value n n session session' sessions sessions' there s ∙ if_true (n == n) _ _ (eq_itself n))
+    Answer : Type 0
+    Answer = (standing_at_desk new n ≡ Ended (Fault 4 0)) × ((config : Config) (items : List Item) → Played config items old → HasHoldTime config items n)
 
-    did_stand : standing_at_desk old n ≡ standing_by (Some session)
-    did_stand = ap (λ (d : Desked). standing_at_desk d n) e ∙ ap standing_by there
+    by_session : (found : Option Live) → session_at n old.sessions ≡ found → TicksFor found n moment old new replies replies' → Answer
+    by_session None e k = absurd (other (ap (λ (d : Desked). standing_at_desk d n) k.0))
+    by_session (Some session) there k = by session.closed refl k.1.0
+      where
+        session' : Live
+        session' = k.0
 
-    same : standing_by (Some session') ≡ standing_by (Some session) → ⊥
-    same h = other (now_stands ∙ h ∙ sym did_stand)
+        now_stands : standing_at_desk new n ≡ standing_by (Some session')
+        now_stands = ap standing_by (k.1.1 n ∙ if_true (n == n) _ _ (eq_itself n))
 
-    found : (config : Config) (items : List Item) → session.closed ≡ None → session.phase.hold ≢ 0 → Played config items old → HasHoldTime config items n
-    found config items alive timed p =
-        has_hold_time config items n session old (ap (λ (d : Desked). session_at n d.sessions) e ∙ there) alive timed p
+        same : standing_by (Some session') ≡ standing_by (Some session) → ⊥
+        same h = other (now_stands ∙ h ∙ sym (ap standing_by there))
 
-    makes : (tick : Tick) → tick_at session.phase.hold (at_moment moment session.times) ≡ tick → session.closed ≡ None
-        → TickMakes tick n (at_moment moment session.times) session session' table table' replies replies'
-        → (standing_at_desk (desk_of own table' noted' sessions') n ≡ Ended (Fault 4 0)) × ((config : Config) (items : List Item) → Played config items old → HasHoldTime config items n)
-    makes Quiet h alive k = absurd (same (ap (λ (l : Live). standing_by (Some l)) k.0))
-    makes Keeps h alive k = absurd (same (ap (λ (l : Live). standing_by (Some l)) k.0))
-    makes Expires h alive k = (
-      now_stands ∙ ap (λ (c : Option Closed). elim c [ Some w ↦ Ended w | None ↦ LiveIn session'.phase.state ]) k.0,
-      λ config items p. found config items alive (expires_timed session.phase.hold (at_moment moment session.times) h) p,
-    )
+        makes : (tick : Tick) → tick_at session.phase.hold (at_moment moment session.times) ≡ tick → session.closed ≡ None
+            → TickMakes tick n (at_moment moment session.times) session session' old.held new.held replies replies' → Answer
+        makes Quiet h alive m = absurd (same (ap (λ (l : Live). standing_by (Some l)) m.0))
+        makes Keeps h alive m = absurd (same (ap (λ (l : Live). standing_by (Some l)) m.0))
+        makes Expires h alive m = (
+          now_stands ∙ ap (λ (c : Option Closed). elim c [ Some w ↦ Ended w | None ↦ LiveIn session'.phase.state ]) m.0,
+          λ config items p. has_hold_time config items n session old there alive (expires_timed session.phase.hold (at_moment moment session.times) h) p,
+        )
 
-    by : (c : Option Closed) → session.closed ≡ c → TicksIn c n moment session session' table table' replies replies'
-        → (standing_at_desk (desk_of own table' noted' sessions') n ≡ Ended (Fault 4 0)) × ((config : Config) (items : List Item) → Played config items old → HasHoldTime config items n)
-    by (Some why) h k = absurd (same (ap (λ (l : Live). standing_by (Some l)) k.0))
-    by None h k = makes (tick_at session.phase.hold (at_moment moment session.times)) refl h k
-
-pub desk_keeps_standing : {noted : Noted} (n : ℕ) (own : Config) (table : Held) (sessions sessions' : List (ℕ × Live)) (old : Desked) → old ≡ desk_of own table noted sessions → sessions' ≡ sessions
-    → ExpiresSo n old (desk_of own table noted sessions')
-desk_keeps_standing {noted} n own table sessions sessions' old e s other =
-    absurd (other (ap (λ (z : List (ℕ × Live)). standing_at_desk (desk_of own table noted z) n) s ∙ sym (ap (λ (d : Desked). standing_at_desk d n) e)))
+        by : (c : Option Closed) → session.closed ≡ c → TicksIn c n moment session session' old.held new.held replies replies' → Answer
+        by (Some why) h m = absurd (same (ap (λ (l : Live). standing_by (Some l)) m.0))
+        by None h m = makes (tick_at session.phase.hold (at_moment moment session.times)) refl h m

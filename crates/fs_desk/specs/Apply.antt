@@ -1,17 +1,11 @@
 -- How a change of the table touches what one peer holds, and nothing else; and the change that an update makes.
-use Rattle.std.specs.Prelude.{◌≡◌, ◌==◌, ℕ, List, Option, Some, None, if◌then◌else◌}
-use Rattle.std.specs.List.{list_any}
-use Rattle.fs_base.specs.declared.path.Path.{Path}
-use Rattle.fs_base.specs.declared.prefix.Prefix.{Prefix}
-use Rattle.fs_nlri.specs.Parts.{Ruled}
-use Rattle.fs_nlri.specs.Rule.{shown}
+use Rattle.std.specs.{Prelude.{◌≡◌, ◌==◌, ℕ, List, Option, Some, None, if◌then◌else◌}, List.{list_any}}
+use Rattle.fs_base.specs.declared.{path.Path.{Path}, prefix.Prefix.{Prefix}}
+use Rattle.fs_nlri.specs.{Parts.{Ruled}, Rule.{shown}}
 use Rattle.fs_unicast.specs.declared.unicast.Place.{Place}
-use Rattle.fs_attrs.specs.Prefixes.{Shown}
-use Rattle.fs_attrs.specs.declared.update.Update.{Update}
-use Rattle.fs_attrs.specs.Update.{takes_prefixes, takes_rules}
+use Rattle.fs_attrs.specs.{Prefixes.{Shown}, declared.update.Update.{Update}, Update.{takes_prefixes, takes_rules}}
 use Rattle.fs_rules.specs.Table.{Held}
-use Rattle.fs_desk.specs.Leaves.{IsListed, unicast_at, flow_at}
-use Rattle.fs_desk.specs.Updates.{last_such, is_prefix, gives_at, is_rule, Given, rule_given, given_with}
+use Rattle.fs_desk.specs.{Leaves.{IsListed, unicast_at, flow_at}, Updates.{last_such, is_prefix, gives_at, is_rule, Given, rule_given, given_with}}
 
 -- what a change makes of what is held at a prefix, and of a rule
 abbrev pub PrefixChange : Type 0

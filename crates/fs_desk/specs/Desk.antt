@@ -1,28 +1,11 @@
 -- What the desk keeps, and what the items that were played make of it.
-use Rattle.std.specs.Prelude.{◌≡◌, ◌≢◌, ◌==◌, if◌then◌else◌, ℕ, List, [], ◌∷◌, ◌++◌, Option, Some, None}
-use Rattle.std.specs.Ordering.{nat_cmp}
-use Rattle.std.specs.List.Sorted.{IsStrictlySortedBy}
-use Rattle.std.specs.Map.{lookup, keys_of}
-use Rattle.std.specs.BTreeMap.{is_at}
-use Rattle.fs_base.specs.Config.{peer_of}
-use Rattle.fs_base.specs.declared.config.Config.{Config}
-use Rattle.fs_base.specs.declared.config.Peer.{Peer}
-use Rattle.fs_rules.specs.Changes.{Covers, Noted}
-use Rattle.fs_rules.specs.Table.{Held}
-use Rattle.fs_speaker.specs.declared.Standing.{Standing}
-use Rattle.fs_speaker.specs.declared.Standing.TheVariants.{Down, Ended}
-use Rattle.fs_speaker.specs.declared.Closed.TheVariants.{Fault}
+use Rattle.std.specs.{Prelude.{◌≡◌, ◌≢◌, ◌==◌, if◌then◌else◌, ℕ, List, [], ◌∷◌, ◌++◌, Option, Some, None}, Ordering.{nat_cmp}, List.Sorted.{IsStrictlySortedBy}, Map.{lookup, keys_of}, BTreeMap.{is_at}}
+use Rattle.fs_base.specs.{Config.{peer_of}, declared.config.{Config.{Config}, Peer.{Peer}}}
+use Rattle.fs_rules.specs.{Changes.{Covers, Noted}, Table.{Held}}
+use Rattle.fs_speaker.specs.{declared.{Standing.{Standing, TheVariants.{Down, Ended}}, Closed.TheVariants.{Fault}}, Handed.{hand}, Session.{Live, still}, Side.{receiver}, State.{standing_at, standing_by}}
 use Rattle.fs_session.specs.declared.transition.Phase.{Phase}
-use Rattle.fs_speaker.specs.Handed.{hand}
-use Rattle.fs_speaker.specs.Session.{Live, still}
-use Rattle.fs_speaker.specs.Side.{receiver}
-use Rattle.fs_speaker.specs.State.{standing_at, standing_by}
 use Rattle.fs_tape.specs.Tape.{Item}
-use Rattle.fs_desk.specs.Life.{life}
-use Rattle.fs_desk.specs.Leaves.{IsListed}
-use Rattle.fs_desk.specs.Limit.{bounded_session, bounded_replies}
-use Rattle.fs_desk.specs.Receive.{IsLeft, IsUp, point_of}
-use Rattle.fs_desk.specs.HoldTimer.{TicksSession}
+use Rattle.fs_desk.specs.{Life.{life}, Leaves.{IsListed}, Limit.{bounded_session, bounded_replies}, Receive.{IsLeft, IsUp, point_of}, HoldTimer.{TicksSession}}
 
 -- the configuration, the routes held, where the admitted rules may have changed, and the sessions of the peers that are
 -- up

@@ -2,14 +2,8 @@
 use Rattle.std.specs.Prelude.{◌≡◌, ℕ, List, [], ◌++◌, Option, Some, None}
 use Rattle.fs_message.specs.Write.{message_text}
 use Rattle.fs_rules.specs.Table.{Held, without_peer}
-use Rattle.fs_speaker.specs.declared.Closed.{Closed}
-use Rattle.fs_speaker.specs.declared.Closed.TheVariants.{Fault}
-use Rattle.fs_session.specs.declared.times.Tick.{Tick}
-use Rattle.fs_session.specs.declared.times.Tick.TheVariants.{Quiet, Keeps, Expires}
-use Rattle.fs_session.specs.declared.times.Times.{Times}
-use Rattle.fs_speaker.specs.Session.{Live}
-use Rattle.fs_speaker.specs.Side.{notice_text}
-use Rattle.fs_speaker.specs.Times.{at_moment, written_now, tick_at}
+use Rattle.fs_speaker.specs.{declared.Closed.{Closed, TheVariants.{Fault}}, Session.{Live}, Side.{notice_text}, Times.{at_moment, written_now, tick_at}}
+use Rattle.fs_session.specs.declared.times.{Tick.{Tick, TheVariants.{Quiet, Keeps, Expires}}, Times.{Times}}
 
 -- the same session with other moments
 abbrev pub with_times : Times → Live → Live

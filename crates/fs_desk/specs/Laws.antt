@@ -4,8 +4,7 @@ use Rattle.fs_base.specs.declared.config.Config.{Config}
 use Rattle.fs_nlri.specs.Parts.{Ruled}
 use Rattle.fs_unicast.specs.declared.unicast.Place.{Place}
 use Rattle.fs_tape.specs.Tape.{Item}
-use Rattle.fs_desk.specs.Leaves.{updates_of}
-use Rattle.fs_desk.specs.Updates.{unicast_left, flow_left}
+use Rattle.fs_desk.specs.{Leaves.{updates_of}, Updates.{unicast_left, flow_left}}
 
 -- at each key of each peer both tapes leave the same
 pub record LeaveSame (config : Config) (items other : List Item) : Type 0 where

@@ -1,24 +1,15 @@
 -- The routes that a tape leaves held.
-use Rattle.std.specs.Prelude.{◌≡◌, ℕ, List, [], find, map, Option, Some, None, option_map}
-use Rattle.std.specs.Ordering.{nat_cmp, ordering_then}
-use Rattle.std.specs.declared.cmp.Ordering.{Ordering}
-use Rattle.std.specs.List.Sorted.{IsStrictlySortedBy}
-use Rattle.std.specs.Map.{lookup, keys_of}
-use Rattle.std.specs.BTreeMap.{is_at}
-use Rattle.fs_base.specs.declared.config.Config.{Config}
-use Rattle.fs_base.specs.declared.path.Path.{Path}
+use Rattle.std.specs.{Prelude.{◌≡◌, ℕ, List, [], find, map, Option, Some, None, option_map}, Ordering.{nat_cmp, ordering_then}, declared.cmp.Ordering.{Ordering}, List.Sorted.{IsStrictlySortedBy}, Map.{lookup, keys_of}, BTreeMap.{is_at}}
+use Rattle.fs_base.specs.declared.{config.Config.{Config}, path.Path.{Path}}
 use Rattle.fs_nlri.specs.Parts.{Ruled}
 use Rattle.fs_order.specs.Comparison.{rule_cmp}
-use Rattle.fs_unicast.specs.Unicast.{place_cmp, Route}
-use Rattle.fs_unicast.specs.declared.unicast.Place.{Place}
+use Rattle.fs_unicast.specs.{Unicast.{place_cmp, Route}, declared.unicast.Place.{Place}}
 use Rattle.fs_attrs.specs.declared.update.Update.{Update}
 use Rattle.fs_validate.specs.declared.route.FlowRoute.{FlowRoute}
 use Rattle.fs_rules.specs.Table.{Held, is_key}
 use Rattle.fs_speaker.specs.Session.{Last, still, closed}
 use Rattle.fs_tape.specs.Tape.{Item}
-use Rattle.fs_desk.specs.Life.{life}
-use Rattle.fs_desk.specs.Limit.{bounded_session}
-use Rattle.fs_desk.specs.Updates.{Given, unicast_left, flow_left}
+use Rattle.fs_desk.specs.{Life.{life}, Limit.{bounded_session}, Updates.{Given, unicast_left, flow_left}}
 
 -- of a session that has closed no update counts
 abbrev pub counted : List Update × Last → List Update

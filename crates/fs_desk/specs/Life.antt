@@ -1,6 +1,5 @@
 -- What a tape says of one peer.
-use Rattle.std.specs.Prelude.{◌==◌, ℕ, List, [], ◌∷◌, Bool, false, Option, Some, None, if◌then◌else◌}
-use Rattle.std.specs.List.{list_any, flat_map}
+use Rattle.std.specs.{Prelude.{◌==◌, ℕ, List, [], ◌∷◌, Bool, false, Option, Some, None, if◌then◌else◌}, List.{list_any, flat_map}}
 use Rattle.fs_tape.specs.Tape.{Item, came_up, received, was_lost}
 
 -- the peer came up or was lost

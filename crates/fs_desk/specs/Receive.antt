@@ -1,28 +1,13 @@
 -- What a piece of a peer's octets does to its session, to the replies and to the table.
-use Rattle.std.specs.Prelude.{◌≡◌, ◌==◌, ◌⊎◌, ℕ, List, [], ◌++◌, drop, flat_map, Bool, not, true, false, Option, Some, None}
-use Rattle.std.specs.List.{AllByRecursion}
-use Rattle.fs_base.specs.declared.config.Config.{Config}
-use Rattle.fs_base.specs.declared.config.Peer.{Peer}
+use Rattle.std.specs.{Prelude.{◌≡◌, ◌==◌, ◌⊎◌, ℕ, List, [], ◌++◌, drop, flat_map, Bool, not, true, false, Option, Some, None}, List.{AllByRecursion}}
+use Rattle.fs_base.specs.declared.config.{Config.{Config}, Peer.{Peer}}
 use Rattle.fs_nlri.specs.Parts.{Ruled}
 use Rattle.fs_unicast.specs.declared.unicast.Place.{Place}
 use Rattle.fs_message.specs.Deframer.{pending}
-use Rattle.fs_attrs.specs.declared.update.Update.{Update}
-use Rattle.fs_attrs.specs.Lists.{IsPrefix}
-use Rattle.fs_attrs.specs.Update.{gives_prefixes}
+use Rattle.fs_attrs.specs.{declared.update.Update.{Update}, Lists.{IsPrefix}, Update.{gives_prefixes}}
 use Rattle.fs_rules.specs.Table.{Held, held_count, without_peer}
-use Rattle.fs_speaker.specs.declared.State.{State}
-use Rattle.fs_speaker.specs.declared.State.TheVariants.{WaitOpen}
-use Rattle.fs_speaker.specs.declared.Closed.{Closed}
-use Rattle.fs_speaker.specs.declared.Closed.TheVariants.{Fault, Notified, NoFamily, Memory}
-use Rattle.fs_speaker.specs.Handed.{Handed, Point, point, runs_by}
-use Rattle.fs_speaker.specs.Line.{waits}
-use Rattle.fs_speaker.specs.Session.{at_start, Last, closed, session_from, Live, step_of}
-use Rattle.fs_speaker.specs.Replies.{replies_from}
-use Rattle.fs_speaker.specs.Side.{receiver, reply_to, reply_at}
-use Rattle.fs_desk.specs.Apply.{Applies}
-use Rattle.fs_desk.specs.Leaves.{IsListed, unicast_at, flow_at}
-use Rattle.fs_desk.specs.Limit.{first_over, is_over, too_many, bounded_from, bounded_replies_from}
-use Rattle.fs_desk.specs.Updates.{unicast_left, flow_left}
+use Rattle.fs_speaker.specs.{declared.{State.{State, TheVariants.{WaitOpen}}, Closed.{Closed, TheVariants.{Fault, Notified, NoFamily, Memory}}}, Handed.{Handed, Point, point, runs_by}, Line.{waits}, Session.{at_start, Last, closed, session_from, Live, step_of}, Replies.{replies_from}, Side.{receiver, reply_to, reply_at}}
+use Rattle.fs_desk.specs.{Apply.{Applies}, Leaves.{IsListed, unicast_at, flow_at}, Limit.{first_over, is_over, too_many, bounded_from, bounded_replies_from}, Updates.{unicast_left, flow_left}}
 
 -- a session that was closed for want of memory, and not by the peer's octets
 abbrev pub wants_memory : Closed → Bool
@@ -115,24 +100,19 @@ pub record HasTaken (config : Config) (whose : Peer) (peer : ℕ) (octets rest :
   pub left : IsLeft peer updates now
   pub spares : Spares peer table now
 
--- A piece, to whatever the peer sent before: the session has been fed with both, the peer holds what they leave, and
--- other peers what they held.
-abbrev pub TakesPiece : ℕ → Live → Live → Held → Held → List ℕ → Type 0
-TakesPiece peer old new table table' piece =
-    (config : Config) (whose : Peer) (octets : List ℕ) → IsListed table → IsUp config whose peer octets old table
-    → IsUp config whose peer (octets ++ piece) new table' × Spares peer table table'
-
 -- a piece behind these octets adds to the replies what is replied to all of them beyond what is replied to those before
 abbrev pub RepliesTo : Config → Peer → List ℕ → List ℕ → List ℕ → List ℕ → Type 0
 RepliesTo config whose octets piece before now =
     (more : List ℕ) × (now ≡ before ++ more)
     × (bounded_replies_from config whose (octets ++ piece) ≡ bounded_replies_from config whose octets ++ more)
 
--- so to whatever the peer sent before
-abbrev pub RepliesPiece : ℕ → Live → Held → List ℕ → List ℕ → List ℕ → Type 0
-RepliesPiece peer session table piece before now =
-    (config : Config) (whose : Peer) (octets : List ℕ) → IsListed table → IsUp config whose peer octets session table
-    → RepliesTo config whose octets piece before now
+-- A piece, to whatever the peer sent before: the session has been fed with both, the peer holds what they leave, and
+-- other peers what they held.
+abbrev pub TakesPiece : ℕ → Live → Live → Held → Held → (piece before now : List ℕ) → Type 0
+TakesPiece peer old new table table' piece before now =
+    (config : Config) (whose : Peer) (octets : List ℕ) → IsListed table → IsUp config whose peer octets old table
+    → IsUp config whose peer (octets ++ piece) new table'
+    × (Spares peer table table' × RepliesTo config whose octets piece before now)
 
 -- what was replied before still stands
 abbrev pub Extends : List ℕ → List ℕ → Type 0

@@ -1,16 +1,9 @@
 -- What the updates of a peer leave it holding at one key.
-use Rattle.std.specs.Prelude.{◌==◌, ◌&&◌, ◌||◌, ℕ, List, [], ◌∷◌, Bool, Option, Some, None, if◌then◌else◌, is_some, option_map, option_and_then}
-use Rattle.std.specs.List.{list_any}
-use Rattle.std.specs.Ordering.{is_eq}
-use Rattle.fs_base.specs.Bits.{afi_of}
-use Rattle.fs_base.specs.declared.path.Path.{Path}
-use Rattle.fs_base.specs.declared.prefix.Prefix.{Prefix}
-use Rattle.fs_nlri.specs.Parts.{Ruled}
-use Rattle.fs_nlri.specs.Rule.{shown}
+use Rattle.std.specs.{Prelude.{◌==◌, ◌&&◌, ◌||◌, ℕ, List, [], ◌∷◌, Bool, Option, Some, None, if◌then◌else◌, is_some, option_map, option_and_then}, List.{list_any}, Ordering.{is_eq}}
+use Rattle.fs_base.specs.{Bits.{afi_of}, declared.{path.Path.{Path}, prefix.Prefix.{Prefix}}}
+use Rattle.fs_nlri.specs.{Parts.{Ruled}, Rule.{shown}}
 use Rattle.fs_order.specs.Comparison.{rule_cmp}
-use Rattle.fs_attrs.specs.Prefixes.{Shown}
-use Rattle.fs_attrs.specs.declared.update.Update.{Update}
-use Rattle.fs_attrs.specs.Update.{takes_prefixes, gives_prefixes, takes_rules, gives_rules}
+use Rattle.fs_attrs.specs.{Prefixes.{Shown}, declared.update.Update.{Update}, Update.{takes_prefixes, gives_prefixes, takes_rules, gives_rules}}
 
 -- the last element that passes the test
 abbrev pub last_such : {A : Type 0} → (A → Bool) → List A → Option A

@@ -1,6 +1,5 @@
 -- The table, and where the rules that it admits may have changed.
-use Rattle.fs_rules.specs.Changes.{Covers, Noted}
-use Rattle.fs_rules.specs.Table.{Held}
+use Rattle.fs_rules.specs.{Changes.{Covers, Noted}, Table.{Held}}
 
 pub record Watched : Type 0 where
   pub held : Held

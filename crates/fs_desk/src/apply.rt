@@ -1,12 +1,9 @@
 //! What an update of a peer does to the table.
 
-ghost use Rattle.std.specs.Prelude.{◌≡◌, ◌++◌, None, map, OnOk, if◌then◌else◌};
-ghost use Rattle.std.specs.List.{AllByRecursion};
+ghost use Rattle.std.specs.{Prelude.{◌≡◌, ◌++◌, None, map, OnOk, if◌then◌else◌}, List.{AllByRecursion}};
 ghost use Rattle.fs_nlri.specs.Rule.{shown};
-ghost use Rattle.fs_attrs.specs.Lists.{IsPrefix};
-ghost use Rattle.fs_attrs.specs.Update.{unicast_in, flows_in, gives_prefixes};
-ghost use Rattle.fs_desk.specs.Apply.{Applies, Announces, Changes, Withdraws, same, taken_of, given_at, rules_taken, rules_given};
-ghost use Rattle.fs_desk.specs.Watched.{Tells};
+ghost use Rattle.fs_attrs.specs.{Lists.{IsPrefix}, Update.{unicast_in, flows_in, gives_prefixes}};
+ghost use Rattle.fs_desk.specs.{Apply.{Applies, Announces, Changes, Withdraws, same, taken_of, given_at, rules_taken, rules_given}, Watched.{Tells}};
 
 use crate::watched::WatchedTable;
 use fs_actions::Actions;
@@ -29,21 +26,16 @@ pub fn apply<L: Ledger>(
     ensures prefixes { OnOk result (AllByRecursion IsPrefix (gives_prefixes update)) }
     ensures told { OnOk result (Tells table.old table.new) }
 {
-    let Update {
-        classic_out,
-        unreach,
-        reach,
-        classic_in,
-        path,
-        actions,
-        as_withdraw,
-    } = update;
-    withdraw(table, peer, &classic_out, unreach, steps);
-    let Some(path) = path_given(path, as_withdraw) else {
-        withdraw(table, peer, &classic_in, reach, steps);
+    withdraw(table, peer, update.classic_out, update.unreach, steps);
+    let Some(path) = path_given(update.path, update.as_withdraw) else {
+        withdraw(table, peer, update.classic_in, update.reach, steps);
         return Ok(());
     };
-    give(table, peer, &classic_in, reach, path, actions, steps)
+    let given = Given {
+        path,
+        actions: update.actions,
+    };
+    give(table, peer, update.classic_in, update.reach, given, steps)
 }
 
 /// The path of the routes that an update gives. It gives none where its routes are to be treated as withdrawn.
@@ -56,16 +48,16 @@ fn path_given(path: Option<Path>, as_withdraw: bool) -> Option<Path>
 fn withdraw<L: Ledger>(
     table: &mut WatchedTable<'_>,
     peer: u16,
-    prefixes: &PrefixList,
+    prefixes: PrefixList,
     routes: Option<Routes>,
     steps: &mut Steps<L>,
 )
-    ensures changes { Withdraws peer (prefixes.now ++ unicast_in routes) (flows_in routes)
+    ensures changes { Withdraws peer (prefixes ++ unicast_in routes) (flows_in routes)
         table.old.held table.new.held }
-    ensures prefixes { AllByRecursion IsPrefix (prefixes.now ++ unicast_in routes) }
+    ensures prefixes { AllByRecursion IsPrefix (prefixes ++ unicast_in routes) }
     ensures told { Tells table.old table.new }
 {
-    withdraw_prefixes(table, peer, prefixes, steps);
+    withdraw_prefixes(table, peer, &prefixes, steps);
     withdraw_routes(table, peer, routes, steps);
 }
 
@@ -86,44 +78,34 @@ fn withdraw_routes<L: Ledger>(
     }
 }
 
+/// What an update gives with its routes.
+#[derive(Drop)]
+struct Given {
+    path: Path,
+    actions: Actions,
+}
+
 /// Gives the peer these prefixes, and behind them the routes, if there are any.
 fn give<L: Ledger>(
     table: &mut WatchedTable<'_>,
     peer: u16,
-    prefixes: &PrefixList,
+    prefixes: PrefixList,
     routes: Option<Routes>,
-    path: Path,
-    actions: Actions,
+    given: Given,
     steps: &mut Steps<L>,
 ) -> Result<(), Memory>
-    ensures changes { OnOk result (Announces peer (prefixes.now ++ unicast_in routes) (flows_in routes) path actions
-        table.old.held table.new.held) }
-    ensures prefixes { OnOk result (AllByRecursion IsPrefix (prefixes.now ++ unicast_in routes)) }
+    ensures changes { OnOk result (Announces peer (prefixes ++ unicast_in routes) (flows_in routes)
+        given.path given.actions table.old.held table.new.held) }
+    ensures prefixes { OnOk result (AllByRecursion IsPrefix (prefixes ++ unicast_in routes)) }
     ensures told { OnOk result (Tells table.old table.new) }
 {
     let Some(routes) = routes else {
-        return give_prefixes(table, peer, prefixes, path, steps);
+        return give_prefixes(table, peer, &prefixes, given.path, steps);
     };
-    give_copies_of_path(table, peer, prefixes, &path, steps)?;
-    give_routes(table, peer, routes, path, actions, steps)
-}
-
-fn give_routes<L: Ledger>(
-    table: &mut WatchedTable<'_>,
-    peer: u16,
-    routes: Routes,
-    path: Path,
-    actions: Actions,
-    steps: &mut Steps<L>,
-) -> Result<(), Memory>
-    ensures changes { OnOk result (Announces peer (unicast_in (Some routes)) (flows_in (Some routes)) path actions
-        table.old.held table.new.held) }
-    ensures prefixes { OnOk result (AllByRecursion IsPrefix (unicast_in (Some routes))) }
-    ensures told { OnOk result (Tells table.old table.new) }
-{
+    give_copies_of_path(table, peer, &prefixes, &given.path, steps)?;
     match routes {
-        Routes::Unicast(_, prefixes) => give_prefixes(table, peer, &prefixes, path, steps),
-        Routes::Flow(_, rules) => give_rules(table, peer, rules, path, actions, steps),
+        Routes::Unicast(_, more) => give_prefixes(table, peer, &more, given.path, steps),
+        Routes::Flow(_, rules) => give_rules(table, peer, rules, given, steps),
     }
 }
 
@@ -224,19 +206,18 @@ fn give_rules<L: Ledger>(
     table: &mut WatchedTable<'_>,
     peer: u16,
     rules: RuleList,
-    path: Path,
-    actions: Actions,
+    given: Given,
     steps: &mut Steps<L>,
 ) -> Result<(), Memory>
     ensures changes { OnOk result
-        (Changes peer same (rules_given rules path actions) table.old.held table.new.held) }
+        (Changes peer same (rules_given rules given.path given.actions) table.old.held table.new.held) }
     ensures told { OnOk result (Tells table.old table.new) }
 {
     let mut front = rules.into_vec();
     let last = front.pop();
-    give_copies(table, peer, front, &path, &actions, steps)?;
+    give_copies(table, peer, front, &given, steps)?;
     match last {
-        Some(rule) => table.put_flow(peer, rule, path, actions, steps),
+        Some(rule) => table.put_flow(peer, rule, given.path, given.actions, steps),
         None => Ok(()),
     }
 }
@@ -246,16 +227,15 @@ fn give_copies<L: Ledger>(
     table: &mut WatchedTable<'_>,
     peer: u16,
     rules: Vec<Rule>,
-    path: &Path,
-    actions: &Actions,
+    given: &Given,
     steps: &mut Steps<L>,
 ) -> Result<(), Memory>
-    ensures changes { OnOk result
-        (Changes peer same (rules_given rules.items path.now actions.now) table.old.held table.new.held) }
+    ensures changes { OnOk result (Changes peer same (rules_given rules.items given.now.path given.now.actions)
+        table.old.held table.new.held) }
     ensures told { OnOk result (Tells table.old table.new) }
 {
     for rule in rules {
-        table.put_flow(peer, rule, path.copy()?, actions.copy()?, steps)?;
+        table.put_flow(peer, rule, given.path.copy()?, given.actions.copy()?, steps)?;
     }
     Ok(())
 }

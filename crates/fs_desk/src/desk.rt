@@ -36,11 +36,9 @@ impl<'a> Model for Desk<'a> {
 }
 
 impl<'a> Desk<'a> {
-    ghost use Rattle.fs_base.specs.declared.config.Config.{Config};
-    ghost use Rattle.fs_base.specs.Config.{peer_of};
+    ghost use Rattle.fs_base.specs.{declared.config.Config.{Config}, Config.{peer_of}};
     ghost use Rattle.fs_tape.specs.Tape.{Item, came_up, received, was_lost};
-    ghost use Rattle.fs_desk.specs.Desk.{ExpiresSo, HandsPeer, Notes, Played, Plays, RepliesBehind, StaysPlayed, TicksPeer, session_at, standing_at_desk, standing_of};
-    ghost use Rattle.fs_desk.specs.Leaves.{Leaves};
+    ghost use Rattle.fs_desk.specs.{Desk.{ExpiresSo, HandsPeer, Notes, Played, Plays, RepliesBehind, StaysPlayed, TicksPeer, session_at, standing_at_desk, standing_of}, Leaves.{Leaves}};
     ghost use Rattle.fs_rules.specs.Table.{held_count};
     ghost use Rattle.fs_speaker.specs.Session.{begins};
 
@@ -99,18 +97,18 @@ impl<'a> Desk<'a> {
         ensures config { self.new.config ≡ self.old.config }
         ensures told { OnOk result (Notes self.old self.new) }
     {
+        let start = replies.len();
         let Some(session) = self.sessions.get_mut(&peer) else {
             return Ok(());
         };
-        receive::<Brand>(
-            Blank::new(1),
-            session,
-            &mut self.table,
-            peer,
-            piece,
-            replies,
-        )?;
-        Ok(())
+        let table = &mut self.table;
+        match receive::<Brand>(Blank::new(1), session, table, peer, piece, replies) {
+            Ok(()) => Ok(()),
+            Err(memory) => {
+                replies.truncate(start);
+                Err(memory)
+            }
+        }
     }
 
     /// The clock of the session with a peer, at a moment in milliseconds. Where the agreed hold time has passed since
@@ -129,14 +127,8 @@ impl<'a> Desk<'a> {
         let Some(session) = self.sessions.get_mut(&peer) else {
             return Ok(());
         };
-        tick_session::<Brand>(
-            Blank::new(1),
-            session,
-            &mut self.table,
-            peer,
-            moment,
-            replies,
-        )?;
+        let table = &mut self.table;
+        tick_session::<Brand>(Blank::new(1), session, table, peer, moment, replies)?;
         Ok(())
     }
 

@@ -1,8 +1,7 @@
 //! What the clock does to a peer's session, to the replies and to the table.
 
 ghost use Rattle.std.specs.Prelude.{◌≡◌, ◌<◌, OnOk, OnErr};
-ghost use Rattle.fs_desk.specs.HoldTimer.{TicksSession};
-ghost use Rattle.fs_desk.specs.Watched.{Tells};
+ghost use Rattle.fs_desk.specs.{HoldTimer.{TicksSession}, Watched.{Tells}};
 
 use crate::receive::close;
 use crate::watched::WatchedTable;

@@ -4,8 +4,7 @@ ghost use Rattle.std.specs.Prelude.{◌≡◌, List};
 ghost use Rattle.fs_base.specs.declared.config.Config.{Config};
 ghost use Rattle.fs_rules.specs.Table.{Held};
 ghost use Rattle.fs_tape.specs.Tape.{Item};
-ghost use Rattle.fs_desk.specs.Laws.{LeaveSame};
-ghost use Rattle.fs_desk.specs.Leaves.{Leaves};
+ghost use Rattle.fs_desk.specs.{Laws.{LeaveSame}, Leaves.{Leaves}};
 
 /// Tapes that leave the same routes leave one list of held routes, and so print the same lines: the lines take nothing
 /// of a tape but the routes that it leaves held.

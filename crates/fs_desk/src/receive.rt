@@ -2,8 +2,7 @@
 
 ghost use Rattle.std.specs.Prelude.{◌≡◌, ◌≤◌, ◌<◌, true, false, None, IfOk, IfSome, OnOk, OnErr, length};
 ghost use Rattle.fs_rules.specs.Table.{without_peer};
-ghost use Rattle.fs_desk.specs.Receive.{ComesOpen, Extends, PieceComes, RepliesMessage, RepliesPiece, TakesMessage, TakesPiece, TakesUpdate, wants_memory};
-ghost use Rattle.fs_desk.specs.Watched.{Tells};
+ghost use Rattle.fs_desk.specs.{Receive.{ComesOpen, Extends, PieceComes, RepliesMessage, TakesMessage, TakesPiece, TakesUpdate, wants_memory}, Watched.{Tells}};
 
 use crate::apply::apply;
 use crate::limit::is_over;
@@ -14,7 +13,7 @@ use fs_speaker::{Closed, Session};
 use std::sync::ledger::{Blank, Ledger};
 
 /// Feeds the peer's session with the piece, and the table with the updates that come of it. The replies are appended to
-/// `replies`; after `Memory` they are as before.
+/// `replies`; after `Memory` those up to there stay.
 pub fn receive<L: Ledger>(
     blank: Blank,
     session: &mut Session<'_>,
@@ -26,37 +25,8 @@ pub fn receive<L: Ledger>(
     requires name { blank.name ≡ L.name }
     requires parts { blank.parts ≡ L.parts }
     requires some { 0 < L.parts }
-    ensures taken { OnOk result (TakesPiece peer session.old session.new table.old.held table.new.held piece.now) }
-    ensures replied { OnOk result
-        (RepliesPiece peer session.old table.old.held piece.now replies.old.items replies.new.items) }
-    ensures handed { OnOk result
-        (PieceComes session.old session.new piece.now replies.old.items replies.new.items) }
-    ensures told { OnOk result (Tells table.old table.new) }
-    ensures err { OnErr result (replies.new.items ≡ replies.old.items) }
-{
-    let start = replies.len();
-    let received = receive_messages::<L>(blank, session, table, peer, piece, replies);
-    if received.is_err() {
-        replies.truncate(start);
-    }
-    received
-}
-
-/// As `receive`, but the replies up to want of memory stay.
-fn receive_messages<L: Ledger>(
-    blank: Blank,
-    session: &mut Session<'_>,
-    table: &mut WatchedTable<'_>,
-    peer: u16,
-    piece: &[u8],
-    replies: &mut Vec<u8>,
-) -> Result<(), Memory>
-    requires name { blank.name ≡ L.name }
-    requires parts { blank.parts ≡ L.parts }
-    requires some { 0 < L.parts }
-    ensures taken { OnOk result (TakesPiece peer session.old session.new table.old.held table.new.held piece.now) }
-    ensures replied { OnOk result
-        (RepliesPiece peer session.old table.old.held piece.now replies.old.items replies.new.items) }
+    ensures taken { OnOk result (TakesPiece peer session.old session.new table.old.held table.new.held
+        piece.now replies.old.items replies.new.items) }
     ensures handed { OnOk result
         (PieceComes session.old session.new piece.now replies.old.items replies.new.items) }
     ensures told { OnOk result (Tells table.old table.new) }

@@ -1,7 +1,6 @@
 -- Rules of different destinations are in the order of these.
 use Rattle.fs_flows.proofs.Words.{ℕ, zero, suc, drop, take, ◌≡◌, refl, sym, ap, ap₂, ◌∙◌, true, false, true≢false, List, [], ◌∷◌, ◌++◌, Option, Some, None, option_map, Ordering, Less, Equal, Greater, is_eq, nat_cmp, Result, Ok, Err, OnOk, OnErr, IfOk, AllByRecursion, keys_of, ordering_then, ordering_reverse, sorted_head, Family, V4, V6, Prefix, afi_of, prefix_cmp, each_weaker, each_both, each_append, Ruled, IsRule, shown, destination_prefix, destination_shown, rule_cmp, parts_cmp, rule_total, destination_cmp, Kept, RuleBefore, AllBefore, key_cmp, is_key, same_rule, Entry, kept_in, IsTo, ArePlaced, AreInOrder, IsSound}
-use Rattle.fs_order.proofs.First.{destinations_first}
-use Rattle.fs_order.proofs.Same.{same_rules}
+use Rattle.fs_order.proofs.{First.{destinations_first}, Same.{same_rules}}
 
 -- rules without a destination come last
 abbrev pub to_cmp : Option Prefix → Option Prefix → Ordering

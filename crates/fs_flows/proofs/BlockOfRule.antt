@@ -1,8 +1,5 @@
 -- The block in which a rule has its place, found by the rules with which blocks begin; and where a block is cut.
-use Rattle.fs_flows.proofs.Words.{ℕ, zero, suc, ◌≡◌, ◌+◌, ◌<◌, ◌≤◌, refl, sym, ap, subst, ◌∙◌, Bool, true, false, true≢false, not, cond, List, [], ◌∷◌, length, get_or, take, drop, Ordering, Less, Equal, Greater, nat_cmp, arith, AllByRecursion, AllWithin, IsPartitionedBy, tied_itself, is_lt, is_gt, match_ordering, ordering_then, ordering_reverse, each_weaker, false_of_not, Ruled, rule_cmp, rule_total, Kept, key_cmp, AreSorted, routes_of, place_in, flat, RuleBefore, AllBefore, AreCut, is_filled, IsCut, begins_by, begun, block_of}
-use Rattle.fs_flows.proofs.Apart.{each_front, each_back}
-use Rattle.fs_flows.proofs.Cutting.{ahead_of}
-use Rattle.fs_flows.proofs.KeyPlaces.{NotBefore, not_before, least_after}
+use Rattle.fs_flows.proofs.{Words.{ℕ, zero, suc, ◌≡◌, ◌+◌, ◌<◌, ◌≤◌, refl, sym, ap, subst, ◌∙◌, Bool, true, false, true≢false, not, cond, List, [], ◌∷◌, length, get_or, take, drop, Ordering, Less, Equal, Greater, nat_cmp, arith, AllByRecursion, AllWithin, IsPartitionedBy, tied_itself, is_lt, is_gt, match_ordering, ordering_then, ordering_reverse, each_weaker, false_of_not, Ruled, rule_cmp, rule_total, Kept, key_cmp, AreSorted, routes_of, place_in, flat, RuleBefore, AllBefore, AreCut, is_filled, IsCut, begins_by, begun, block_of}, Apart.{each_front, each_back}, Cutting.{ahead_of}, KeyPlaces.{NotBefore, not_before, least_after}}
 
 -- what holds of all routes holds of those of one block
 each_in : (P : Kept → Type 0) (bs : List (List Kept)) (n : ℕ) (d : List Kept) → n < length bs → AllByRecursion P (flat bs) → AllByRecursion P (get_or bs n d)

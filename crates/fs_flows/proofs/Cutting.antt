@@ -1,10 +1,6 @@
 -- Routes in blocks that are cut between rules: where a rule has its place, and what changes of one block do to all.
-use Rattle.fs_flows.proofs.Words.{ℕ, zero, suc, ◌≡◌, ◌+◌, ◌<◌, ◌≤◌, refl, sym, ap, ap₂, subst, ◌∙◌, Bool, true, false, true≢false, not, ◌==◌, cond, List, [], ◌∷◌, ◌++◌, map, filter, length, get_or, set, insert, remove, take, drop, Ordering, Less, Equal, Greater, is_eq, nat_cmp, Result, Ok, Err, OnOk, OnErr, arith, list_any, AllByRecursion, append_assoc, map-append, take-append-drop, is_lt, match_ordering, ordering_then, ordering_reverse, false_of_not, true_of_not, each_weaker, each_both, each_append, filter-append, each_filtered, less_of_is_lt, Ruled, rule_cmp, rule_total, Kept, key_cmp, is_key, put_kept, AreSorted, routes_of, is_other_key, flat, RuleBefore, AllBefore, AreCut, is_filled, AreFilled, IsCut, AreEachSorted, begins_by, begun, block_of, with_block, keep_blocks, cut_list, CanCut}
+use Rattle.fs_flows.proofs.{Words.{ℕ, zero, suc, ◌≡◌, ◌+◌, ◌<◌, ◌≤◌, refl, sym, ap, ap₂, subst, ◌∙◌, Bool, true, false, true≢false, not, ◌==◌, cond, List, [], ◌∷◌, ◌++◌, map, filter, length, get_or, set, insert, remove, take, drop, Ordering, Less, Equal, Greater, is_eq, nat_cmp, Result, Ok, Err, OnOk, OnErr, arith, list_any, AllByRecursion, append_assoc, map-append, take-append-drop, is_lt, match_ordering, ordering_then, ordering_reverse, false_of_not, true_of_not, each_weaker, each_both, each_append, filter-append, each_filtered, less_of_is_lt, Ruled, rule_cmp, rule_total, Kept, key_cmp, is_key, put_kept, AreSorted, routes_of, is_other_key, flat, RuleBefore, AllBefore, AreCut, is_filled, AreFilled, IsCut, AreEachSorted, begins_by, begun, block_of, with_block, keep_blocks, cut_list, CanCut}, Apart.{each_front, each_back, take_each, drop_each}, Changed.{any_back, any_front, each-put, left_back, left_front, routes-put, sorted-put}, PuttingInGroups.{put_left, put_right, sorted_front, sorted_back}, TakingFromGroups.{empty, not_empty}}
 use Rattle.std.specs.List.Retain.{RetainsInTurn}
-use Rattle.fs_flows.proofs.Apart.{each_front, each_back, take_each, drop_each}
-use Rattle.fs_flows.proofs.Changed.{any_back, any_front, each-put, left_back, left_front, routes-put, sorted-put}
-use Rattle.fs_flows.proofs.PuttingInGroups.{put_left, put_right, sorted_front, sorted_back}
-use Rattle.fs_flows.proofs.TakingFromGroups.{empty, not_empty}
 
 -- Of a rule, the routes of earlier rules and those of later ones.
 abbrev pub IsAhead : Ruled → Kept → Type 0

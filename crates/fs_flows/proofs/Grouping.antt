@@ -1,10 +1,5 @@
 -- That routes stay grouped.
-use Rattle.fs_flows.proofs.Words.{ℕ, ◌≡◌, ◌+◌, ◌≤◌, ◌<◌, ◌^◌, refl, sym, ap, subst, ◌∙◌, Bool, List, [], ◌∷◌, filter, map, length, Some, None, Ordering, Less, Equal, Greater, arith, AllByRecursion, length-map, keys_of, match_ordering, ordering_reverse, sorted_head, sorted_tail, Config, Family, Prefix, prefix_cmp, prefix_total, each_weaker, each_filtered, Route, Ruled, IsRule, destination_prefix, is_related, Kept, Noted, put_kept, mended, chosen, is_other_key, HaveRules, Entry, kept_in, IsTo, ArePlaced, AreInOrder, IsSound, IsGrouped, put_entry, keep_at, keep_each, Mends, MendsKept, Moment, chosen_in}
-use Rattle.fs_flows.proofs.PuttingInGroups.{put_entries, put_rest, put_placed, each_entry, length-put}
-use Rattle.fs_flows.proofs.TakingFromGroups.{kept_each, placed_each, placed_at, sorted_at, parts_sorted, taken_kept, taken_rest, length-filter}
-use Rattle.fs_flows.proofs.Mending.{mended_in, marks_kept, mends_placed, mends_ordered, size_related}
-use Rattle.fs_flows.proofs.ChosenParts.{chosen_groups}
-use Rattle.fs_flows.proofs.Changed.{each-put}
+use Rattle.fs_flows.proofs.{Words.{ℕ, ◌≡◌, ◌+◌, ◌≤◌, ◌<◌, ◌^◌, refl, sym, ap, subst, ◌∙◌, Bool, List, [], ◌∷◌, filter, map, length, Some, None, Ordering, Less, Equal, Greater, arith, AllByRecursion, length-map, keys_of, match_ordering, ordering_reverse, sorted_head, sorted_tail, Config, Family, Prefix, prefix_cmp, prefix_total, each_weaker, each_filtered, Route, Ruled, IsRule, destination_prefix, is_related, Kept, Noted, put_kept, mended, chosen, is_other_key, HaveRules, Entry, kept_in, IsTo, ArePlaced, AreInOrder, IsSound, IsGrouped, put_entry, keep_at, keep_each, Mends, MendsKept, Progress, chosen_in}, PuttingInGroups.{put_entries, put_rest, put_placed, each_entry, length-put}, TakingFromGroups.{kept_each, placed_each, placed_at, sorted_at, parts_sorted, taken_kept, taken_rest, length-filter}, Mending.{mended_in, marks_kept, mends_placed, mends_ordered, size_related}, ChosenParts.{chosen_groups}, Changed.{each-put}}
 
 sorted_entry : (p : Prefix) (k : Kept) (es : List Entry) → AreInOrder es → AreInOrder (put_entry p k es)
 sorted_entry p k [] h = parts_sorted p [] tt h
@@ -79,7 +74,7 @@ module _ {es : List Entry} {rest : List Kept} {bound : ℕ} (g : IsGrouped es re
   pub chosen_now : (family f : Family) {now : List Kept} → kept_in es rest ≡ now → AllByRecursion (IsSound f) now → chosen_in family es rest ≡ chosen family now
   chosen_now family f v sound = chosen_groups family f es rest g.ordered g.placed g.bare (subst (AllByRecursion (IsSound f)) (sym v) sound) ∙ ap (chosen family) v
 
-module _ (unicast : List Route) (config : Config) (p : Prefix) {old new : Moment} (rest : List Kept) (bound : ℕ) (g : IsGrouped old.groups rest bound) (m : Mends unicast config (is_related p) old new) where
+module _ (unicast : List Route) (config : Config) (p : Prefix) {old new : Progress} (rest : List Kept) (bound : ℕ) (g : IsGrouped old.groups rest bound) (m : Mends unicast config (is_related p) old new) where
   pub mends_kept : MendsKept p unicast config (kept_in old.groups rest) (kept_in new.groups rest) old.noted new.noted old.steps new.steps
   mends_kept = record {
     kept = ap (λ fs. kept_in fs rest) m.entries ∙ mended_in unicast config p old.groups rest g.placed g.bare;

@@ -1,7 +1,6 @@
 -- Where a key stands in the order.
 use Rattle.std.proofs.Common.{take_all}
-use Rattle.fs_flows.proofs.Words.{ℕ, zero, suc, ◌≡◌, ◌+◌, ◌<◌, ◌≤◌, refl, sym, ap, subst, ◌∙◌, Bool, true, false, true≢false, ◌&&◌, ◌||◌, List, [], ◌∷◌, length, get_or, drop, take, ◌-◌, length-drop, Ordering, Less, Equal, Greater, nat_cmp, arith, AllByRecursion, AllWithin, IsPartitionedBy, match_ordering, ordering_then, ordering_reverse, is_gt, nat_tests, each_of_map, each_weaker, Ruled, FlowRoute, preferred, Kept, key_cmp, is_valid, same_rule, beats, routes_of, AreSorted, place_in}
-use Rattle.fs_flows.proofs.Placing.{pair_total}
+use Rattle.fs_flows.proofs.{Words.{ℕ, zero, suc, ◌≡◌, ◌+◌, ◌<◌, ◌≤◌, refl, sym, ap, subst, ◌∙◌, Bool, true, false, true≢false, ◌&&◌, ◌||◌, List, [], ◌∷◌, length, get_or, drop, take, ◌-◌, length-drop, Ordering, Less, Equal, Greater, nat_cmp, arith, AllByRecursion, AllWithin, IsPartitionedBy, match_ordering, ordering_then, ordering_reverse, is_gt, nat_tests, each_of_map, each_weaker, Ruled, FlowRoute, preferred, Kept, key_cmp, is_valid, same_rule, beats, routes_of, AreSorted, place_in}, Placing.{pair_total}}
 
 abbrev pub is_after : Ruled → ℕ → Kept → Bool
 is_after rule peer k = is_gt (key_cmp rule peer k.route)

@@ -1,8 +1,5 @@
 -- Validating anew the groups whose destination passes a test, and noting those in which a validity changed.
-use Rattle.fs_flows.proofs.Words.{ℕ, zero, suc, ◌≡◌, ◌↔◌, ◌⊎◌, inl, inr, ◌+◌, ◌<◌, ◌≤◌, refl, sym, ap, ap₂, subst, ◌∙◌, Bool, true, false, true≢false, ◌&&◌, ◌||◌, cond, List, [], ◌∷◌, ◌++◌, map, length, take, drop, get_or, Option, Some, None, Less, is_eq, arith, length-map, map-append, take_more, same_Some, AllByRecursion, IsStrictlySortedBy, is_at, keys_of, lookup, set_value, sorted_head, sorted_tail, Config, Prefix, prefix_cmp, false_from, or_false, or_none, same_from_cmp, each_append, each_both, each_mapped, each_of_map, each_weaker, Route, is_related, validity_to, Kept, Noted, StaysNoted, IsNotedAt, is_noted, AreRight, AreRightTo, IsMarked, IsRightAt, retested, retested_to, mended, routes_of, has_related, related_count, Entry, kept_in, IsTo, ArePlaced, AreInOrder, touched, size, Marks, Mends, MendsKept, Moment, moment}
-use Rattle.fs_flows.proofs.Apart.{each_front, each_back}
-use Rattle.fs_flows.proofs.Placing.{related-append}
-use Rattle.fs_flows.proofs.TakingFromGroups.{other_keys}
+use Rattle.fs_flows.proofs.{Words.{set, map_over_more, ℕ, zero, suc, ◌≡◌, ◌↔◌, ◌⊎◌, inl, inr, ◌+◌, ◌<◌, ◌≤◌, refl, sym, ap, ap₂, subst, ◌∙◌, Bool, true, false, true≢false, ◌&&◌, ◌||◌, cond, List, [], ◌∷◌, ◌++◌, map, length, take, drop, get_or, Option, Some, None, Less, is_eq, arith, length-map, map-append, take_more, same_Some, AllByRecursion, IsStrictlySortedBy, is_at, keys_of, lookup, set_value, sorted_head, sorted_tail, Config, Prefix, prefix_cmp, false_from, or_false, or_none, same_from_cmp, each_append, each_both, each_mapped, each_of_map, each_weaker, Route, is_related, validity_to, Kept, Noted, StaysNoted, IsNotedAt, is_noted, AreRight, AreRightTo, IsMarked, IsRightAt, retested, retested_to, mended, routes_of, has_related, related_count, Entry, kept_in, IsTo, ArePlaced, AreInOrder, touched, size, Marks, Mends, MendsKept, Progress, progress}, Apart.{each_front, each_back}, Placing.{get_or_again, related-append}, TakingFromGroups.{other_keys}}
 
 -- a flag is down exactly where one fact holds, and so another
 pub told_as : {P Q : Type 0} (b : Bool) → (P → Q) → (Q → P) → (b ≡ false) ↔ P → (b ≡ false) ↔ Q
@@ -16,7 +13,7 @@ module _ {X : Type 0} (f : X → X) (P : X → Type 0) where
     (λ r. or_none a b (t.1 (each_back P xs (x ∷ []) r).0) ∙ s.1 (each_front P xs (x ∷ []) r)),
   )
 
-  pub told_next : (xs ys : List X) (i : ℕ) (d x : X) (a b : Bool) → i < length xs → ys ≡ map f (take i xs) ++ drop i xs → x ≡ get_or ys i d
+  told_next : (xs ys : List X) (i : ℕ) (d x : X) (a b : Bool) → i < length xs → ys ≡ map f (take i xs) ++ drop i xs → x ≡ get_or ys i d
       → (a ≡ false) ↔ AllByRecursion P (take i xs) → (b ≡ false) ↔ P x → ((a || b) ≡ false) ↔ AllByRecursion P (take (i + 1) xs)
   told_next xs ys i d x a b inside e at s t =
       subst (λ ks. ((a || b) ≡ false) ↔ AllByRecursion P ks) (sym (take_more xs i d inside))
@@ -26,6 +23,15 @@ module _ {X : Type 0} (f : X → X) (P : X → Type 0) where
       same [] n h = absurd (omega arith)
       same (z ∷ zs) zero h = refl
       same (z ∷ zs) (suc n) h = same zs n (omega arith)
+
+  -- the element at one place more
+  pub judged_next : (xs ys : List X) (i : ℕ) (d x : X) (a b : Bool) → i < length xs → i < length ys → ys ≡ map f (take i xs) ++ drop i xs → x ≡ f (get_or ys i d)
+      → (a ≡ false) ↔ AllByRecursion P (take i xs) → (b ≡ false) ↔ P (get_or ys i d)
+      → (set ys i x ≡ map f (take (i + 1) xs) ++ drop (i + 1) xs) × (((a || b) ≡ false) ↔ AllByRecursion P (take (i + 1) xs))
+  judged_next xs ys i d x a b inside there e judged s t = (
+    ap (set ys i) judged ∙ map_over_more f xs ys i (get_or ys i d) inside e (get_or_again ys i d there),
+    told_next xs ys i d (get_or ys i d) a b inside e refl s t,
+  )
 
 abbrev pub Same : (t u : Prefix → Bool) → Entry → Type 0
 Same t u e = t e.0 ≡ u e.0
@@ -50,7 +56,7 @@ module _ (unicast : List Route) (config : Config) where
   IsKnownOf t noted e = t e.0 ≡ true → IsKnown noted e.0 e.1
 
   -- by tests that agree on the keys
-  pub mends_on : (t u : Prefix → Bool) {old new : Moment} → Mends unicast config t old new → AllByRecursion (Same t u) old.groups → Mends unicast config u old new
+  pub mends_on : (t u : Prefix → Bool) {old new : Progress} → Mends unicast config t old new → AllByRecursion (Same t u) old.groups → Mends unicast config u old new
   mends_on t u {old} {new} m h = record {
     entries = m.entries ∙ touched_on t u old.groups h;
     stays = m.stays;
@@ -67,7 +73,7 @@ module _ (unicast : List Route) (config : Config) where
   none_known t noted es h = each_weaker (λ e. t e.0 ≡ false) (IsKnownOf t noted) (λ e f k. absurd (true≢false (sym k ∙ f))) es h
 
   -- where no key passes nothing is done
-  pub mends_none : (t : Prefix → Bool) (now : Moment) → AllByRecursion (λ e. t e.0 ≡ false) now.groups → Mends unicast config t now now
+  pub mends_none : (t : Prefix → Bool) (now : Progress) → AllByRecursion (λ e. t e.0 ≡ false) now.groups → Mends unicast config t now now
   mends_none t now h = record { entries = sym (touched_none t now.groups h); stays = λ rule k. k; marks = none_known t now.noted now.groups h; later = omega arith; steps = omega arith }
 
   key_stays : (t : Prefix → Bool) (e : Entry) → (touched unicast config t e).0 ≡ e.0
@@ -81,11 +87,11 @@ module _ (unicast : List Route) (config : Config) where
   keys_touched t (e ∷ es) = ap₂ (λ x xs. x ∷ xs) (key_stays t e) (keys_touched t es)
 
   -- the keys stay
-  pub mends_keys : (t : Prefix → Bool) {old new : Moment} → Mends unicast config t old new → keys_of new.groups ≡ keys_of old.groups
+  pub mends_keys : (t : Prefix → Bool) {old new : Progress} → Mends unicast config t old new → keys_of new.groups ≡ keys_of old.groups
   mends_keys t {old} {new} m = ap keys_of m.entries ∙ keys_touched t old.groups
 
   -- what is known of the keys behind it was so before
-  pub along_keys : (P : Prefix → Type 0) (t : Prefix → Bool) {old new : Moment} → Mends unicast config t old new → AllByRecursion (λ e. P e.0) new.groups → AllByRecursion (λ e. P e.0) old.groups
+  pub along_keys : (P : Prefix → Type 0) (t : Prefix → Bool) {old new : Progress} → Mends unicast config t old new → AllByRecursion (λ e. P e.0) new.groups → AllByRecursion (λ e. P e.0) old.groups
   along_keys P t {old} {new} m h = each_of_map (λ e. e.0) P old.groups (subst (AllByRecursion P) (mends_keys t m) (each_mapped (λ e. e.0) P new.groups h))
 
   -- one test after another, of which no key passes both
@@ -130,7 +136,7 @@ module _ (unicast : List Route) (config : Config) where
     at true g f k p = f refl
     at false g f k p = k p
 
-  pub mends_both : (t u : Prefix → Bool) {old mid new : Moment} → Mends unicast config t old mid → Mends unicast config u mid new → AllByRecursion (λ e. (t e.0 && u e.0) ≡ false) old.groups
+  pub mends_both : (t u : Prefix → Bool) {old mid new : Progress} → Mends unicast config t old mid → Mends unicast config u mid new → AllByRecursion (λ e. (t e.0 && u e.0) ≡ false) old.groups
       → Mends unicast config (λ q. t q || u q) old new
   mends_both t u {old} {mid} {new} m n h = record {
     entries = n.entries ∙ ap (touches u) m.entries ∙ both_touched t u es h;
@@ -174,22 +180,16 @@ module _ (unicast : List Route) (config : Config) where
     at true t g ih = ((λ k. subst (λ q. IsKnown noted q e.1) (same_from_cmp p e.0 t) (subst (IsKnown noted p) (sym (same_Some e.1 group g)) r)), none_known (is_at (prefix_cmp p)) noted es (others p e es t ordered))
     at false t g ih = ((λ k. absurd (true≢false (sym k ∙ t))), ih g r)
 
-  -- what is done with the group that stands at a key
-  pub record IsRetested (p : Prefix) (group : List Kept) (old new : Moment) : Type 0 where
-    pub there : lookup (is_at (prefix_cmp p)) old.groups ≡ Some group
-    pub written : new.groups ≡ set_value (is_at (prefix_cmp p)) old.groups (map (retested_to unicast config p) group)
-    pub stays : StaysNoted old.noted new.noted
-    pub known : IsNotedAt new.noted p ⊎ AreRightTo unicast config p group
-    pub later : old.steps ≤ new.steps
-    pub steps : new.steps ≤ old.steps + length group
-
-  pub mends_found : (p : Prefix) (group : List Kept) (old new : Moment) → AreInOrder old.groups → IsRetested p group old new → Mends unicast config (is_at (prefix_cmp p)) old new
-  mends_found p group old new ordered r = record {
-    entries = r.written ∙ set_is p old.groups group ordered r.there;
-    stays = r.stays;
-    marks = found_known p old.groups group new.noted ordered r.there r.known;
-    later = r.later;
-    steps = omega (arith, r.steps, size_found p old.groups group r.there);
+  -- the group that stands at a key
+  pub mends_found : (p d : Prefix) (group after : List Kept) (old new : Progress) → AreInOrder old.groups → lookup (is_at (prefix_cmp p)) old.groups ≡ Some group
+      → new.groups ≡ set_value (is_at (prefix_cmp p)) old.groups after → after ≡ map (retested_to unicast config d) group → d ≡ p
+      → StaysNoted old.noted new.noted → IsKnown new.noted d group → old.steps ≤ new.steps → new.steps ≤ old.steps + length group → Mends unicast config (is_at (prefix_cmp p)) old new
+  mends_found p d group after old new ordered there written retested same stays known later steps = record {
+    entries = written ∙ ap (set_value (is_at (prefix_cmp p)) old.groups) (retested ∙ ap (λ q. map (retested_to unicast config q) group) same) ∙ set_is p old.groups group ordered there;
+    stays = stays;
+    marks = found_known p old.groups group new.noted ordered there (subst (λ q. IsKnown new.noted q group) same known);
+    later = later;
+    steps = omega (arith, steps, size_found p old.groups group there);
   }
 
   pub none_found : (p : Prefix) (es : List Entry) → lookup (is_at (prefix_cmp p)) es ≡ None → AllByRecursion (λ e. is_eq (prefix_cmp p e.0) ≡ false) es
@@ -200,10 +200,10 @@ module _ (unicast : List Route) (config : Config) where
     at false t g ih = (t, ih g)
 
   pub mends_missing : (p : Prefix) (old new : List Entry) (noted : Noted) (steps : ℕ) → lookup (is_at (prefix_cmp p)) old ≡ None → new ≡ old
-      → Mends unicast config (is_at (prefix_cmp p)) (moment old noted steps) (moment new noted steps)
-  mends_missing p old new noted steps h e = subst (λ es. Mends unicast config (is_at (prefix_cmp p)) now (moment es noted steps)) (sym e) (mends_none (is_at (prefix_cmp p)) now (none_found p old h)) where
-    now : Moment
-    now = moment old noted steps
+      → Mends unicast config (is_at (prefix_cmp p)) (progress old noted steps) (progress new noted steps)
+  mends_missing p old new noted steps h e = subst (λ es. Mends unicast config (is_at (prefix_cmp p)) now (progress es noted steps)) (sym e) (mends_none (is_at (prefix_cmp p)) now (none_found p old h)) where
+    now : Progress
+    now = progress old noted steps
 
   -- From the entries to all routes.
   mended_all : (p : Prefix) (destination : Option Prefix) (b : Bool) → has_related p destination ≡ b → (ks : List Kept) → AllByRecursion (IsTo destination) ks → map (mended p unicast config) ks ≡ cond b (map (retested unicast config) ks) ks
@@ -246,10 +246,10 @@ module _ (unicast : List Route) (config : Config) where
     at true = mapped e.1 h.0
     at false = h.0
 
-  pub mends_placed : (t : Prefix → Bool) {old new : Moment} → Mends unicast config t old new → ArePlaced old.groups → ArePlaced new.groups
+  pub mends_placed : (t : Prefix → Bool) {old new : Progress} → Mends unicast config t old new → ArePlaced old.groups → ArePlaced new.groups
   mends_placed t {old} m h = subst ArePlaced (sym m.entries) (placed_touched t old.groups h)
 
-  pub mends_ordered : (t : Prefix → Bool) {old new : Moment} → Mends unicast config t old new → AreInOrder old.groups → AreInOrder new.groups
+  pub mends_ordered : (t : Prefix → Bool) {old new : Progress} → Mends unicast config t old new → AreInOrder old.groups → AreInOrder new.groups
   mends_ordered t m h = subst (IsStrictlySortedBy prefix_cmp) (sym (mends_keys t m)) h
 
   -- From the entries to all routes: those without a destination are related to no prefix.

@@ -1,8 +1,6 @@
 -- The places that are noted, and what is told with one more.
-use Rattle.fs_flows.proofs.Words.{◌≡◌, refl, sym, ap, ap₂, subst, ◌∙◌, Bool, true, false, not, ◌&&◌, ◌||◌, cond, List, [], ◌∷◌, ◌++◌, filter, is_eq, ℕ, Option, Some, None, IfSome, option_map, ◌==◌, list_any, afi_of, Family, V4, V6, Prefix, prefix_of, prefix_total, or_first, or_second, each, filter_on, tied_itself, eqb-true, list_any-append, none-some, same_Some, family_itself, Body, V4Body, V6Body, ListBody, Part, Ruled, AreNormal, IsNormalAt, IsRule, destination_body, destination_in, destination_of, destination_prefix, shown, destination_first, destination_shown, destination_cmp, FlowRoute, AdmitsElsewhere, Covers, Noted, StaysNoted, is_noted, is_to, touched_by, Held}
+use Rattle.fs_flows.{proofs.{Words.{◌≡◌, refl, sym, ap, ap₂, subst, ◌∙◌, Bool, true, false, not, ◌&&◌, ◌||◌, cond, List, [], ◌∷◌, ◌++◌, filter, is_eq, ℕ, Option, Some, None, IfSome, option_map, ◌==◌, list_any, afi_of, Family, V4, V6, Prefix, prefix_of, prefix_total, or_first, or_second, each, filter_on, tied_itself, eqb-true, list_any-append, none-some, same_Some, family_itself, Body, V4Body, V6Body, ListBody, Part, Ruled, AreNormal, IsNormalAt, IsRule, destination_body, destination_in, destination_of, destination_prefix, shown, destination_first, destination_shown, destination_cmp, FlowRoute, AdmitsElsewhere, Covers, Noted, StaysNoted, is_noted, is_to, touched_by, Held}, Apart.{to_cmp, to_shown}}, specs.declared.noted.Change.{Change}}
 use Rattle.fs_nlri.specs.Forms.{form_of}
-use Rattle.fs_flows.specs.declared.noted.Change.{Change}
-use Rattle.fs_flows.proofs.Apart.{to_cmp, to_shown}
 
 -- One filter behind the other.
 pub filter_both : {X : Type 0} (p q : X → Bool) (xs : List X) → filter p (filter q xs) ≡ filter (λ x. q x && p x) xs

@@ -1,6 +1,5 @@
 -- A route in its place in the order.
-use Rattle.fs_flows.proofs.Words.{ℕ, zero, suc, ◌≡◌, ◌+◌, ◌<◌, refl, sym, ap, ◌∙◌, Bool, true, false, true≢false, not, ◌||◌, cond, List, [], ◌∷◌, ◌++◌, length, insert, remove, set, get_or, slice_get, Ordering, Less, Equal, Greater, is_eq, nat_cmp, filter, arith, zero-add, match_ordering, ordering_then, Ruled, Kept, key_cmp, is_key, related_count, put_kept, place_in, has_key_at, AreSorted, routes_of, is_other_key, Prefix, get_or_default, list_any, AllByRecursion, IsTotalOrder, on_total, then_total, nat_cmp_total, each_weaker, each_none, each_of_map, none_each, rule_cmp, rule_total}
-use Rattle.fs_flows.proofs.Changed.{all_stay}
+use Rattle.fs_flows.proofs.{Words.{ℕ, zero, suc, ◌≡◌, ◌+◌, ◌<◌, refl, sym, ap, ◌∙◌, Bool, true, false, true≢false, not, ◌||◌, cond, List, [], ◌∷◌, ◌++◌, length, insert, remove, set, get_or, slice_get, Ordering, Less, Equal, Greater, is_eq, nat_cmp, filter, arith, zero-add, match_ordering, ordering_then, Ruled, Kept, key_cmp, is_key, related_count, put_kept, place_in, has_key_at, AreSorted, routes_of, is_other_key, Prefix, get_or_default, list_any, AllByRecursion, IsTotalOrder, on_total, then_total, nat_cmp_total, each_weaker, each_none, each_of_map, none_each, rule_cmp, rule_total}, Changed.{all_stay}}
 
 -- over the element at the place, where it has the key
 pub put_over : (k : Kept) (xs : List Kept) → has_key_at k.route.rule k.route.peer (slice_get xs (place_in k.route.rule k.route.peer xs)) ≡ true → set xs (place_in k.route.rule k.route.peer xs) k ≡ put_kept k xs

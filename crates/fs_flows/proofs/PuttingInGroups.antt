@@ -1,7 +1,5 @@
 -- A route put into the group of its destination stands in its place among all.
-use Rattle.fs_flows.proofs.Words.{suc, ◌≡◌, ◌+◌, ◌≤◌, refl, sym, ap, subst, ◌∙◌, Bool, true, false, cond, List, [], ◌∷◌, ◌++◌, length, Option, Some, None, Ordering, Less, Equal, Greater, is_eq, arith, AllByRecursion, insert_entry, is_at, keys_of, lookup, set_value, match_ordering, ordering_reverse, sorted_head, sorted_tail, same_Some, Family, Prefix, prefix_cmp, prefix_total, each_weaker, same_from_cmp, Kept, key_cmp, put_kept, AreSorted, routes_of, Entry, kept_in, IsTo, ArePlaced, AreInOrder, IsSound, put_entry, HasSortedGroups, RuleBefore}
-use Rattle.fs_flows.proofs.Apart.{key_less, key_greater, each_front, each_back, behind_each, before_behind, to_cmp, earlier}
-use Rattle.fs_flows.proofs.Changed.{each-put}
+use Rattle.fs_flows.proofs.{Words.{suc, ◌≡◌, ◌+◌, ◌≤◌, refl, sym, ap, subst, ◌∙◌, Bool, true, false, cond, List, [], ◌∷◌, ◌++◌, length, Option, Some, None, Ordering, Less, Equal, Greater, is_eq, arith, AllByRecursion, insert_entry, is_at, keys_of, lookup, set_value, match_ordering, ordering_reverse, sorted_head, sorted_tail, same_Some, Family, Prefix, prefix_cmp, prefix_total, each_weaker, same_from_cmp, Kept, key_cmp, put_kept, AreSorted, routes_of, Entry, kept_in, IsTo, ArePlaced, AreInOrder, IsSound, put_entry, HasSortedGroups, RuleBefore}, Apart.{key_less, key_greater, each_front, each_back, behind_each, before_behind, to_cmp, earlier}, Changed.{each-put}}
 
 -- a route before all of the second list goes into the first
 pub put_left : (k : Kept) (xs ys : List Kept) → AllByRecursion (RuleBefore k) ys → put_kept k (xs ++ ys) ≡ put_kept k xs ++ ys

@@ -1,10 +1,9 @@
 -- The walk over the keys that are related to a prefix: first those under it, one after the other, and behind them those
 -- that cover it.
 use Rattle.std.proofs.Common.{is_lt}
-use Rattle.fs_flows.proofs.Words.{ℕ, ◌≡◌, ◌+◌, ◌<◌, ◌≤◌, ◌⊎◌, inl, inr, refl, sym, ap, subst, ◌∙◌, Bool, true, false, true≢false, ◌&&◌, ◌||◌, cond, List, [], ◌∷◌, Option, Some, None, Ordering, Less, Equal, Greater, is_eq, is_le, arith, list_any, AllByRecursion, is_at, range_contains, entries_between, Included, Excluded, Unbounded, keys_of, MatchOption, ordering_reverse, tied_itself, and_both, and_first, and_second, false_from, or_either, or_first, or_second, same_tests, and_true, Prefix, covers, prefix_cmp, prefix_total, covers_fact, covered_before, between_covered, same_family, covers_self, alike_covers, covers_same_length, same_from_cmp, each, each_weaker, filter_first, filter_empty, IsLeast, is_related, Entry, AreInOrder, AreNoShorter, is_before, IsNextAfter, IsNextRelated}
+use Rattle.fs_flows.proofs.{Words.{ℕ, ◌≡◌, ◌+◌, ◌<◌, ◌≤◌, ◌⊎◌, inl, inr, refl, sym, ap, subst, ◌∙◌, Bool, true, false, true≢false, ◌&&◌, ◌||◌, cond, List, [], ◌∷◌, Option, Some, None, Ordering, Less, Equal, Greater, is_eq, is_le, arith, list_any, AllByRecursion, is_at, range_contains, entries_between, Included, Excluded, Unbounded, keys_of, MatchOption, ordering_reverse, tied_itself, and_both, and_first, and_second, false_from, or_either, or_first, or_second, same_tests, and_true, Prefix, covers, prefix_cmp, prefix_total, covers_fact, covered_before, between_covered, same_family, covers_self, alike_covers, covers_same_length, same_from_cmp, each, each_weaker, filter_first, filter_empty, IsLeast, is_related, Entry, AreInOrder, AreNoShorter, is_before, IsNextAfter, IsNextRelated, Config, Route, Mends, Progress}, Mending.{Same, along_keys, mends_both, mends_on}}
 use Rattle.fs_unicast.proofs.Fronts.{upto_upto}
 use Rattle.fs_base.specs.Search.{IsFirst, IsFirstFrom}
-use Rattle.fs_flows.proofs.Mending.{Same}
 
 -- The order of prefixes by its tests.
 le_or_lt : (p q : Prefix) → is_le (prefix_cmp p q) ≡ false → is_lt (prefix_cmp q p) ≡ true
@@ -147,7 +146,7 @@ pub all_done : (p : Prefix) (es : List Entry) → AllByRecursion (Same (done p N
 all_done p es = each (Same (done p None) (is_related p)) (λ e. and_true (is_related p e.0)) es
 
 -- one more
-pub apart_now : (p n : Prefix) (es : List Entry) → AllByRecursion (λ e. (done p (Some n) e.0 && is_at (prefix_cmp n) e.0) ≡ false) es
+apart_now : (p n : Prefix) (es : List Entry) → AllByRecursion (λ e. (done p (Some n) e.0 && is_at (prefix_cmp n) e.0) ≡ false) es
 apart_now p n es = each (λ e. (done p (Some n) e.0 && is_at (prefix_cmp n) e.0) ≡ false) (λ e. false_from (done p (Some n) e.0 && is_at (prefix_cmp n) e.0) (λ h. lt_not_le n e.0 (and_second (is_related p e.0) (is_lt (prefix_cmp e.0 n)) (and_first (done p (Some n) e.0) (is_at (prefix_cmp n) e.0) h)) (eq_le n e.0 (and_second (done p (Some n) e.0) (is_at (prefix_cmp n) e.0) h)))) es
 
 equal_upto : (p q : Prefix) → is_eq (prefix_cmp p q) ≡ true → is_le (prefix_cmp q p) ≡ true
@@ -156,7 +155,7 @@ equal_upto p q h = subst (λ r. is_le (prefix_cmp r p) ≡ true) (same_from_cmp 
 equal_back : (p q : Prefix) → is_eq (prefix_cmp p q) ≡ true → is_eq (prefix_cmp q p) ≡ true
 equal_back p q h = subst (λ r. is_eq (prefix_cmp r p) ≡ true) (same_from_cmp p q h) (ap is_eq (itself p))
 
-pub one_more_done : (p n : Prefix) (next : Option Prefix) (es : List Entry) → is_related p n ≡ true → IsNextRelated es p n next → AllByRecursion (Same (λ q. done p (Some n) q || is_at (prefix_cmp n) q) (done p next)) es
+one_more_done : (p n : Prefix) (next : Option Prefix) (es : List Entry) → is_related p n ≡ true → IsNextRelated es p n next → AllByRecursion (Same (λ q. done p (Some n) q || is_at (prefix_cmp n) q) (done p next)) es
 one_more_done p n next es inside h = each_weaker (λ e. is_related p e.0 ≡ true → is_before next e.0 ≡ is_le (prefix_cmp e.0 n)) (Same (λ q. done p (Some n) q || is_at (prefix_cmp n) q) (done p next)) (λ e f. same_tests (done p (Some n) e.0 || is_at (prefix_cmp n) e.0) (done p next e.0) (there e f) (back e f)) es h.before where
   there : (e : Entry) → (is_related p e.0 ≡ true → is_before next e.0 ≡ is_le (prefix_cmp e.0 n)) → (done p (Some n) e.0 || is_at (prefix_cmp n) e.0) ≡ true → done p next e.0 ≡ true
   there e f g = at (or_either (done p (Some n) e.0) (is_at (prefix_cmp n) e.0) g) where
@@ -173,7 +172,7 @@ one_more_done p n next es inside h = each_weaker (λ e. is_related p e.0 ≡ tru
     at (inr d) = or_second (done p (Some n) e.0) (is_at (prefix_cmp n) e.0) (equal_back e.0 n d)
 
 -- none, where the key isn't related to p
-pub none_between : (p n : Prefix) (next : Option Prefix) (es : List Entry) → is_related p n ≡ false → IsNextRelated es p n next → AllByRecursion (Same (done p (Some n)) (done p next)) es
+none_between : (p n : Prefix) (next : Option Prefix) (es : List Entry) → is_related p n ≡ false → IsNextRelated es p n next → AllByRecursion (Same (done p (Some n)) (done p next)) es
 none_between p n next es apart h = each_weaker (λ e. is_related p e.0 ≡ true → is_before next e.0 ≡ is_le (prefix_cmp e.0 n)) (Same (done p (Some n)) (done p next)) (λ e f. same_tests (done p (Some n) e.0) (done p next e.0) (there e f) (back e f)) es h.before where
   there : (e : Entry) → (is_related p e.0 ≡ true → is_before next e.0 ≡ is_le (prefix_cmp e.0 n)) → done p (Some n) e.0 ≡ true → done p next e.0 ≡ true
   there e f g = and_both (is_related p e.0) (is_before next e.0) related (f related ∙ lt_le e.0 n (and_second (is_related p e.0) (is_lt (prefix_cmp e.0 n)) g)) where
@@ -208,6 +207,18 @@ before_later q n m h k = at (is_lt (prefix_cmp q m)) refl where
   at true e = e
   at false e = absurd (lt_not_le m n k (upto_upto m q n (not_lt_le m q e) h))
 
+-- there is no next key, where none of them is related to p and stands behind n
+none_further : (p n : Prefix) (P : Prefix → Type 0) (es : List Entry) → AllByRecursion (λ e. P e.0) es
+    → ((q : Prefix) → P q → is_related p q ≡ true → is_le (prefix_cmp q n) ≡ false → ⊥) → IsNextRelated es p n None
+none_further p n P es all none = record {
+  there = tt;
+  from = tt;
+  before = each_weaker (λ e. P e.0) (λ e. is_related p e.0 ≡ true → true ≡ is_le (prefix_cmp e.0 n)) (λ e h related. sym (at e h related (is_le (prefix_cmp e.0 n)) refl)) es all;
+} where
+  at : (e : Entry) → P e.0 → is_related p e.0 ≡ true → (b : Bool) → is_le (prefix_cmp e.0 n) ≡ b → is_le (prefix_cmp e.0 n) ≡ true
+  at e h related true f = f
+  at e h related false f = absurd (none e.0 h related f)
+
 module _ (p n : Prefix) (behind : is_le (prefix_cmp p n) ≡ true) where
   -- what is related to p and stands behind n covers both
   both_covered : (q : Prefix) → is_related p q ≡ true → is_lt (prefix_cmp n q) ≡ true → (covers q p ≡ true) × (covers q n ≡ true)
@@ -218,15 +229,8 @@ module _ (p n : Prefix) (behind : is_le (prefix_cmp p n) ≡ true) where
 
   -- without a family in common nothing does
   pub nothing_over : (es : List Entry) → (p.family ≡ n.family → ⊥) → IsNextRelated es p n None
-  nothing_over es apart = record {
-    there = tt;
-    from = tt;
-    before = each (λ e. is_related p e.0 ≡ true → true ≡ is_le (prefix_cmp e.0 n)) (λ e related. sym (at e related (is_le (prefix_cmp e.0 n)) refl)) es;
-  } where
-    at : (e : Entry) → is_related p e.0 ≡ true → (b : Bool) → is_le (prefix_cmp e.0 n) ≡ b → is_le (prefix_cmp e.0 n) ≡ true
-    at e related true f = f
-    at e related false f = let both = both_covered e.0 related (le_or_lt e.0 n f) in
-        absurd (apart (same_family p.family n.family (sym (covers_fact e.0 p both.0).family ∙ (covers_fact e.0 n both.1).family)))
+  nothing_over es apart = none_further p n (λ q. Unit {0}) es (each (λ e. Unit {0}) (λ e. tt) es) (λ q _ related f.
+      let both = both_covered q related (le_or_lt q n f) in apart (same_family p.family n.family (sym (covers_fact q p both.0).family ∙ (covers_fact q n both.1).family)))
 
   module _ (both : Prefix) (over : covers both n ≡ true) (apart : covers n p ≡ false) (up : covers both p ≡ true)
       (longest : (q : Prefix) → covers q p ≡ true → covers q n ≡ true → covers q both ≡ true) where
@@ -236,14 +240,8 @@ module _ (p n : Prefix) (behind : is_le (prefix_cmp p n) ≡ true) where
 
     -- where that is too short nothing does
     pub short_over : (shortest : ℕ) (es : List Entry) → both.length < shortest → AreNoShorter shortest es → IsNextRelated es p n None
-    short_over shortest es short none = record {
-      there = tt;
-      from = tt;
-      before = each_weaker (λ e. shortest ≤ e.0.length) (λ e. is_related p e.0 ≡ true → true ≡ is_le (prefix_cmp e.0 n)) (λ e long related. sym (at e long related (is_le (prefix_cmp e.0 n)) refl)) es (entries_of_keys (λ q. shortest ≤ q.length) es none);
-    } where
-      at : (e : Entry) → shortest ≤ e.0.length → is_related p e.0 ≡ true → (b : Bool) → is_le (prefix_cmp e.0 n) ≡ b → is_le (prefix_cmp e.0 n) ≡ true
-      at e long related true f = f
-      at e long related false f = absurd (let a : e.0.length ≤ both.length = (covers_fact e.0 both (common_covered e.0 related f)).longer in omega (arith, short, long))
+    short_over shortest es short none = none_further p n (λ q. shortest ≤ q.length) es (entries_of_keys (λ q. shortest ≤ q.length) es none)
+        (λ q long related f. let a : q.length ≤ both.length = (covers_fact q both (common_covered q related f)).longer in omega (arith, short, long))
 
     -- and stands from there on
     common_before : (q : Prefix) → is_related p q ≡ true → is_le (prefix_cmp q n) ≡ false → is_le (prefix_cmp both q) ≡ true
@@ -259,14 +257,7 @@ module _ (p n : Prefix) (behind : is_le (prefix_cmp p n) ≡ true) where
         at (inr d) = sym (alike_covers both n p d) ∙ up
 
     pub first_over : (next : Option Prefix) (es : List Entry) → IsFirstFrom (λ e. e.0) es both next → IsNextRelated es p n next
-    first_over None es none = record {
-      there = tt;
-      from = tt;
-      before = each_weaker (λ e. is_le (prefix_cmp both e.0) ≡ false) (λ e. is_related p e.0 ≡ true → true ≡ is_le (prefix_cmp e.0 n)) (λ e out related. sym (at e out related (is_le (prefix_cmp e.0 n)) refl)) es none;
-    } where
-      at : (e : Entry) → is_le (prefix_cmp both e.0) ≡ false → is_related p e.0 ≡ true → (b : Bool) → is_le (prefix_cmp e.0 n) ≡ b → is_le (prefix_cmp e.0 n) ≡ true
-      at e out related true f = f
-      at e out related false f = absurd (true≢false (sym (common_before e.0 related f) ∙ out))
+    first_over None es none = none_further p n (λ q. is_le (prefix_cmp both q) ≡ false) es none (λ q out related f. true≢false (sym (common_before q related f) ∙ out))
     first_over (Some m) es first = record {
       there = first.there;
       from = beyond;
@@ -284,17 +275,11 @@ module _ (p n : Prefix) (behind : is_le (prefix_cmp p n) ≡ true) where
 
 -- Behind a key that covers p, where none is shorter, nothing is related to p.
 pub last_related : (p n : Prefix) (shortest : ℕ) (es : List Entry) → covers n p ≡ true → n.length ≤ shortest → AreNoShorter shortest es → IsNextRelated es p n None
-last_related p n shortest es over short none = record {
-  there = tt;
-  from = tt;
-  before = each_weaker (λ e. shortest ≤ e.0.length) (λ e. is_related p e.0 ≡ true → true ≡ is_le (prefix_cmp e.0 n)) (λ e long related. sym (at e long related (is_le (prefix_cmp e.0 n)) refl)) es (entries_of_keys (λ q. shortest ≤ q.length) es none);
-} where
-  at : (e : Entry) → shortest ≤ e.0.length → is_related p e.0 ≡ true → (b : Bool) → is_le (prefix_cmp e.0 n) ≡ b → is_le (prefix_cmp e.0 n) ≡ true
-  at e long related true f = f
-  at e long related false f = let past = le_or_lt e.0 n f in
-      let covered = (both_covered p n (covered_before n p over) e.0 related past).1 in
-      let same : e.0.length ≡ n.length = omega (arith, short, long, (covers_fact e.0 n covered).longer) in
-      absurd (lt_not_le e.0 n past (eq_le e.0 n (covers_same_length e.0 n covered same)))
+last_related p n shortest es over short none = none_further p n (λ q. shortest ≤ q.length) es (entries_of_keys (λ q. shortest ≤ q.length) es none) (λ q long related f.
+    let past = le_or_lt q n f in
+    let covered = (both_covered p n (covered_before n p over) q related past).1 in
+    let same : q.length ≡ n.length = omega (arith, short, long, (covers_fact q n covered).longer) in
+    lt_not_le q n past (eq_le q n (covers_same_length q n covered same)))
 
 -- the next key is one that may be related
 pub after_related : (p n : Prefix) (next : Option Prefix) (es : List Entry) → IsNextAfter es n next → IsNextRelated es p n next
@@ -353,3 +338,25 @@ first_there first (Some n) es h = sym (any_key (λ q. is_eq (prefix_cmp n q)) es
 pub next_from : (p n : Prefix) (next : Option Prefix) → IsFrom p (Some n) → IsBehind n next → IsFrom p next
 next_from p n None h k = tt
 next_from p n (Some m) h k = λ le. between_covered p n m (h (upto_upto n m p (lt_le n m k) le)) (lt_le n m k) le
+
+-- One round of the walk: what is mended before the next key, by what was mended before this one.
+module _ (unicast : List Route) (config : Config) (p n : Prefix) (now next : Option Prefix) {old here : Progress} (is : now ≡ Some n)
+    (mended : Mends unicast config (done p now) old here) where
+  so_far : Mends unicast config (done p (Some n)) old here
+  so_far = subst (λ m. Mends unicast config (done p m) old here) is mended
+
+  -- where this one is related and is mended now
+  pub related_done : {new : Progress} → is_related p n ≡ true → Mends unicast config (is_at (prefix_cmp n)) here new → IsNextRelated new.groups p n next
+      → Mends unicast config (done p next) old new
+  related_done {new} related m h = mends_on unicast config with_n (done p next) both
+      (along_keys unicast config (λ q. with_n q ≡ done p next q) with_n both (one_more_done p n next new.groups related h)) where
+        with_n : Prefix → Bool
+        with_n q = done p (Some n) q || is_at (prefix_cmp n) q
+
+        both : Mends unicast config with_n old new
+        both = mends_both unicast config (done p (Some n)) (is_at (prefix_cmp n)) so_far m (apart_now p n old.groups)
+
+  -- where it isn't
+  pub apart_done : is_related p n ≡ false → IsNextRelated here.groups p n next → Mends unicast config (done p next) old here
+  apart_done apart h = mends_on unicast config (done p (Some n)) (done p next) so_far
+      (along_keys unicast config (λ q. done p (Some n) q ≡ done p next q) (done p (Some n)) so_far (none_between p n next here.groups apart h))

@@ -1,8 +1,6 @@
 -- What is left of the groups where routes are taken away.
-use Rattle.fs_flows.proofs.Words.{ℕ, suc, ◌≡◌, ◌≤◌, refl, sym, ap, ap₂, subst, ◌∙◌, Bool, true, false, true≢false, not, ◌==◌, cond, List, [], ◌∷◌, ◌++◌, filter, length, Option, Some, None, Less, is_eq, arith, list_any, AllByRecursion, IsStrictlySortedBy, is_at, keys_of, lookup, set_value, remove_entry, MatchOption, eqb-true, none-some, same_Some, sorted_head, sorted_tail, Prefix, prefix_cmp, prefix_total, tied_itself, each_weaker, each_both, each_append, filter-append, each_none, each_filtered, same_from_cmp, Ruled, IsRule, destination_prefix, Kept, is_key, Entry, kept_in, IsTo, ArePlaced, AreInOrder, with_group, keep_at, keep_each, HaveRules}
+use Rattle.fs_flows.proofs.{Words.{ℕ, suc, ◌≡◌, ◌≤◌, refl, sym, ap, ap₂, subst, ◌∙◌, Bool, true, false, true≢false, not, ◌==◌, cond, List, [], ◌∷◌, ◌++◌, filter, length, Option, Some, None, Less, is_eq, arith, list_any, AllByRecursion, IsStrictlySortedBy, is_at, keys_of, lookup, set_value, remove_entry, MatchOption, eqb-true, none-some, same_Some, sorted_head, sorted_tail, Prefix, prefix_cmp, prefix_total, tied_itself, each_weaker, each_both, each_append, filter-append, each_none, each_filtered, same_from_cmp, Ruled, IsRule, destination_prefix, Kept, is_key, Entry, kept_in, IsTo, ArePlaced, AreInOrder, with_group, keep_at, keep_each, HaveRules}, Apart.{key_same, each_front, each_back}, Changed.{all_stay, any_back, any_front, left_back, left_front}}
 use Rattle.std.specs.Map.Calls.{RetainsPairs}
-use Rattle.fs_flows.proofs.Apart.{key_same, each_front, each_back}
-use Rattle.fs_flows.proofs.Changed.{all_stay, any_back, any_front, left_back, left_front}
 
 -- told the other way round
 pub turned : (b c : Bool) → not b ≡ c → b ≡ not c

@@ -1,15 +1,9 @@
 -- Where the rules that the table admits may have changed.
-use Rattle.std.specs.Prelude.{◌≡◌, ◌==◌, ◌&&◌, ◌||◌, Bool, not, true, false, List, filter, Option, Some, IfSome, option_map}
-use Rattle.std.specs.List.{list_any}
-use Rattle.std.specs.Ordering.{is_eq}
-use Rattle.fs_base.specs.Bits.{afi_of}
-use Rattle.fs_base.specs.declared.prefix.Family.{Family}
-use Rattle.fs_base.specs.declared.prefix.Prefix.{Prefix}
-use Rattle.fs_nlri.specs.Parts.{Ruled}
-use Rattle.fs_nlri.specs.Rule.{IsRule, destination_of, destination_prefix, shown}
+use Rattle.std.specs.{Prelude.{◌≡◌, ◌==◌, ◌&&◌, ◌||◌, Bool, not, true, false, List, filter, Option, Some, IfSome, option_map}, List.{list_any}, Ordering.{is_eq}}
+use Rattle.fs_base.specs.{Bits.{afi_of}, declared.prefix.{Family.{Family}, Prefix.{Prefix}}}
+use Rattle.fs_nlri.specs.{Parts.{Ruled}, Rule.{IsRule, destination_of, destination_prefix, shown}}
 use Rattle.fs_order.specs.Laws.{destination_cmp}
-use Rattle.fs_flows.specs.Table.{Held, admitted}
-use Rattle.fs_flows.specs.declared.noted.Change.{Change}
+use Rattle.fs_flows.specs.{Table.{Held, admitted}, declared.noted.Change.{Change}}
 
 -- of the family, with this destination or without one
 abbrev pub is_to : Family → Option Prefix → Ruled → Bool

@@ -1,9 +1,7 @@
 -- The flow routes of both families.
-use Rattle.std.specs.Prelude.{List}
-use Rattle.std.specs.List.{AllByRecursion}
+use Rattle.std.specs.{Prelude.{List}, List.{AllByRecursion}}
 use Rattle.fs_base.specs.declared.prefix.Family.TheVariants.{V4, V6}
-use Rattle.fs_flows.specs.Kept.{Kept}
-use Rattle.fs_flows.specs.Groups.{IsSound}
+use Rattle.fs_flows.specs.{Kept.{Kept}, Groups.{IsSound}}
 
 pub record AreOfFamilies (v4 v6 : List Kept) : Type 0 where
   pub first : AllByRecursion (IsSound V4) v4

@@ -1,15 +1,7 @@
 -- The groups of a family, as they are lent to be read.
-use Rattle.std.specs.Prelude.{◌≡◌, ◌<◌, ◌^◌, Option, Some, None, filter, length, List, [], ◌∷◌, ◌++◌, ◌+◌}
-use Rattle.std.specs.BTreeMap.{is_at}
-use Rattle.std.specs.Map.{lookup}
-use Rattle.std.specs.Option.{unwrap_or}
-use Rattle.fs_base.specs.Prefix.{prefix_cmp}
-use Rattle.fs_base.specs.declared.prefix.Family.{Family}
-use Rattle.fs_base.specs.declared.prefix.Prefix.{Prefix}
-use Rattle.fs_flows.specs.Kept.{Kept}
-use Rattle.fs_flows.specs.Changes.{is_to}
-use Rattle.fs_flows.specs.Group.{AreSorted, chosen, routes_of}
-use Rattle.fs_flows.specs.Groups.{Entry, HasSortedGroups, kept_in}
+use Rattle.std.specs.{Prelude.{◌≡◌, ◌<◌, ◌^◌, Option, Some, None, filter, length, List, [], ◌∷◌, ◌++◌, ◌+◌}, BTreeMap.{is_at}, Map.{lookup}, Option.{unwrap_or}}
+use Rattle.fs_base.specs.{Prefix.{prefix_cmp}, declared.prefix.{Family.{Family}, Prefix.{Prefix}}}
+use Rattle.fs_flows.specs.{Kept.{Kept}, Changes.{is_to}, Group.{AreSorted, chosen, routes_of}, Groups.{Entry, HasSortedGroups, kept_in}}
 
 -- chosen in one group after the other
 abbrev pub chosen_in : Family → List Entry → List Kept → List Kept

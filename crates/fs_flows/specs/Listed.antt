@@ -1,14 +1,8 @@
 -- The prefixes at which each peer gave routes.
-use Rattle.std.specs.Prelude.{ℕ, ◌≡◌, ◌||◌, Bool, true, false, Option, Some, None, List, [], ◌∷◌, MatchOption}
-use Rattle.std.specs.BTreeMap.{is_at}
-use Rattle.std.specs.List.{list_any, AllByRecursion}
-use Rattle.std.specs.Map.{lookup}
-use Rattle.std.specs.Ordering.{nat_cmp, is_eq}
-use Rattle.fs_base.specs.declared.prefix.Prefix.{Prefix}
-use Rattle.fs_base.specs.Prefix.{prefix_cmp}
+use Rattle.std.specs.{Prelude.{ℕ, ◌≡◌, ◌||◌, Bool, true, false, Option, Some, None, List, [], ◌∷◌, MatchOption}, BTreeMap.{is_at}, List.{list_any, AllByRecursion}, Map.{lookup}, Ordering.{nat_cmp, is_eq}}
+use Rattle.fs_base.specs.{declared.prefix.Prefix.{Prefix}, Prefix.{prefix_cmp}}
 use Rattle.fs_nlri.specs.Rule.{destination_prefix}
-use Rattle.fs_flows.specs.Kept.{Kept}
-use Rattle.fs_flows.specs.Groups.{Entry, keep_at}
+use Rattle.fs_flows.specs.{Kept.{Kept}, Groups.{Entry, keep_at}}
 
 -- those of a peer, or any
 pub record Prefixes : Type 0 where

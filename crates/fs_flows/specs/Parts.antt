@@ -1,9 +1,6 @@
 -- The blocks of a group as they are kept: one in itself, or a vector of them.
 use Rattle.std.specs.Prelude.{List}
-use Rattle.fs_flows.specs.Kept.{Kept}
-use Rattle.fs_flows.specs.Blocks.{IsCut, flat}
-use Rattle.fs_flows.specs.declared.group.Blocks.{Blocks}
-use Rattle.fs_flows.specs.declared.group.Blocks.TheVariants.{One, Many}
+use Rattle.fs_flows.specs.{Kept.{Kept}, Blocks.{IsCut, flat}, declared.group.Blocks.{Blocks, TheVariants.{One, Many}}}
 
 abbrev pub routes_in : Blocks → List Kept
 routes_in (One block) = block

@@ -1,18 +1,9 @@
 -- Groups found by their destination, and what validating their routes anew does.
-use Rattle.std.specs.Prelude.{◌≡◌, ℕ, ◌+◌, ◌≤◌, ◌⊎◌, Bool, true, false, Option, Some, None, List, [], ◌∷◌, map, length, MatchOption, if◌then◌else◌}
-use Rattle.std.specs.BTreeMap.{BTreeMap}
-use Rattle.std.specs.List.{list_any, AllByRecursion}
-use Rattle.std.specs.Ordering.{is_eq, is_lt, is_le}
-use Rattle.fs_base.specs.declared.config.Config.{Config}
-use Rattle.fs_base.specs.declared.prefix.Prefix.{Prefix}
-use Rattle.fs_base.specs.Prefix.{prefix_cmp}
+use Rattle.std.specs.{Prelude.{◌≡◌, ℕ, ◌+◌, ◌≤◌, ◌⊎◌, Bool, true, false, Option, Some, None, List, [], ◌∷◌, map, length, MatchOption, if◌then◌else◌}, BTreeMap.{BTreeMap}, List.{list_any, AllByRecursion}, Ordering.{is_eq, is_lt, is_le}}
+use Rattle.fs_base.specs.{declared.{config.Config.{Config}, prefix.Prefix.{Prefix}}, Prefix.{prefix_cmp}}
 use Rattle.fs_unicast.specs.Unicast.{Route}
 use Rattle.fs_validate.specs.Laws.{is_related}
-use Rattle.fs_flows.specs.Changes.{Noted, StaysNoted, IsNotedAt}
-use Rattle.fs_flows.specs.Kept.{Kept}
-use Rattle.fs_flows.specs.Group.{AreRightTo, IsMarked, mended, retested_to, routes_of}
-use Rattle.fs_flows.specs.Table.{related_count}
-use Rattle.fs_flows.specs.Groups.{Entry}
+use Rattle.fs_flows.specs.{Changes.{Noted, StaysNoted, IsNotedAt}, Kept.{Kept}, Group.{AreRightTo, IsMarked, mended, retested_to, routes_of}, Table.{related_count}, Groups.{Entry}}
 
 -- the groups whose destination passes are validated anew, as routes to it
 abbrev pub touched : List Route → Config → (Prefix → Bool) → Entry → Entry
@@ -23,14 +14,14 @@ abbrev pub size : (Prefix → Bool) → List Entry → ℕ
 size test [] = 0
 size test (e ∷ es) = (if test e.0 then length e.1 else 0) + size test es
 
--- the groups, what is noted and how many steps were taken, at one time
-pub record Moment : Type 0 where
+-- how far mending has come: the groups, what is noted and how many steps were taken
+pub record Progress : Type 0 where
   pub groups : List Entry
   pub noted : Noted
   pub steps : ℕ
 
-abbrev pub moment : List Entry → Noted → ℕ → Moment
-moment groups noted steps = record { groups = groups; noted = noted; steps = steps }
+abbrev pub progress : List Entry → Noted → ℕ → Progress
+progress groups noted steps = record { groups = groups; noted = noted; steps = steps }
 
 module _ (unicast : List Route) (config : Config) where
   -- of these groups those are noted in which a validity changed
@@ -39,7 +30,7 @@ module _ (unicast : List Route) (config : Config) where
       AllByRecursion (λ e. test e.0 ≡ true → IsNotedAt noted e.0 ⊎ AreRightTo unicast config e.0 e.1) old
 
   -- those that pass are validated anew
-  pub record Mends (test : Prefix → Bool) (old new : Moment) : Type 0 where
+  pub record Mends (test : Prefix → Bool) (old new : Progress) : Type 0 where
     pub entries : new.groups ≡ map (touched unicast config test) old.groups
     pub stays : StaysNoted old.noted new.noted
     pub marks : Marks test old.groups new.noted
@@ -52,7 +43,7 @@ GroupMap = BTreeMap Prefix (List Kept)
 -- of two maps
 abbrev pub Mended : List Route → Config → (Prefix → Bool) → GroupMap → GroupMap → Noted → Noted → ℕ → ℕ → Type 0
 Mended unicast config test old new noted more before after =
-    Mends unicast config test (moment old.entries noted before) (moment new.entries more after)
+    Mends unicast config test (progress old.entries noted before) (progress new.entries more after)
 
 -- the routes that are related to the prefix are validated anew, and where a validity changed that is noted
 pub record MendsKept (p : Prefix) (unicast : List Route) (config : Config) (old new : List Kept) (noted more : Noted) (before after : ℕ) : Type 0 where

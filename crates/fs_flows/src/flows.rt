@@ -1,11 +1,7 @@
 //! The flow routes of both families.
 
-ghost use Rattle.std.specs.Prelude.{◌≡◌, ◌≤◌, ◌+◌, not, [], OnOk, OnErr, IfOk, filter};
-ghost use Rattle.std.specs.List.{list_any, AllByRecursion};
-ghost use Rattle.fs_flows.specs.Table.{IsRuleOf, is_key};
-ghost use Rattle.fs_flows.specs.Group.{has_key, put_kept, AreSorted, routes_of, chosen, of_family, is_other_key, is_of_other, HaveRules};
-ghost use Rattle.fs_flows.specs.Lending.{AreLent};
-ghost use Rattle.fs_flows.specs.Search.{MendsKept};
+ghost use Rattle.std.specs.{Prelude.{◌≡◌, ◌+◌, not, [], OnOk, OnErr, IfOk, filter}, List.{list_any, AllByRecursion}};
+ghost use Rattle.fs_flows.specs.{Table.{IsRuleOf, is_key}, Group.{has_key, put_kept, AreSorted, routes_of, chosen, of_family, is_other_key, is_of_other, HaveRules}, Lending.{AreLent}, Search.{MendsKept}};
 ghost use Rattle.fs_base.specs.declared.prefix.Family.{Family};
 ghost use Rattle.fs_nlri.specs.Rule.{IsRule};
 
@@ -30,9 +26,7 @@ pub struct Flows {
 
 impl Model for Flows {
     ghost use Rattle.std.specs.Prelude.{List, ◌++◌};
-    ghost use Rattle.fs_flows.specs.Kept.{Kept};
-    ghost use Rattle.fs_flows.specs.Flows.{AreOfFamilies};
-    ghost use Rattle.fs_flows.specs.Listed.{AreListed};
+    ghost use Rattle.fs_flows.specs.{Kept.{Kept}, Flows.{AreOfFamilies}, Listed.{AreListed}};
 
     ghost Value = { List Kept };
 

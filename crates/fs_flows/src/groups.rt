@@ -1,15 +1,9 @@
 //! The flow routes of one family, grouped by destination.
 
-ghost use Rattle.std.specs.Prelude.{◌≡◌, ◌≤◌, ◌==◌, not, false, [], OnOk, OnErr, IfOk, filter};
-ghost use Rattle.std.specs.List.{list_any, AllByRecursion};
+ghost use Rattle.std.specs.{Prelude.{◌≡◌, ◌≤◌, ◌==◌, not, false, [], OnOk, OnErr, IfOk, filter}, List.{list_any, AllByRecursion}};
 ghost use Rattle.fs_base.specs.declared.prefix.Family.{Family};
 ghost use Rattle.fs_nlri.specs.Rule.{IsRule};
-ghost use Rattle.fs_flows.specs.Table.{is_key};
-ghost use Rattle.fs_flows.specs.Group.{has_key, put_kept, AreSorted, routes_of, chosen, is_other_key, is_of_other, HaveRules};
-ghost use Rattle.fs_flows.specs.Groups.{IsSound, HasSortedGroups, AreInOrder, AreNoShorter, put_entry, keep_at, keep_each, IsHeldAt};
-ghost use Rattle.fs_flows.specs.Listed.{IsAmong, keep_along};
-ghost use Rattle.fs_flows.specs.Lending.{AreLent};
-ghost use Rattle.fs_flows.specs.Search.{MendsKept};
+ghost use Rattle.fs_flows.specs.{Table.{is_key}, Group.{has_key, put_kept, AreSorted, routes_of, chosen, is_other_key, is_of_other, HaveRules}, Groups.{IsSound, HasSortedGroups, AreInOrder, AreNoShorter, put_entry, keep_at, keep_each, IsHeldAt}, Listed.{IsAmong, keep_along}, Lending.{AreLent}, Search.{MendsKept}};
 
 use crate::group::Group;
 use crate::kept::{Kept, destination_key};
@@ -38,8 +32,7 @@ pub(crate) struct Groups {
 
 impl Model for Groups {
     ghost use Rattle.std.specs.Prelude.{List};
-    ghost use Rattle.fs_flows.specs.Kept.{Kept};
-    ghost use Rattle.fs_flows.specs.Groups.{kept_in, IsGrouped, AreNoShorter};
+    ghost use Rattle.fs_flows.specs.{Kept.{Kept}, Groups.{kept_in, IsGrouped, AreNoShorter}};
 
     ghost Value = { List Kept };
 

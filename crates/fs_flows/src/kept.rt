@@ -23,8 +23,7 @@ pub struct Kept {
 
 impl Model for Kept {
     ghost use Rattle.std.specs.Prelude.{◌≡◌};
-    ghost use Rattle.fs_flows.specs.Kept.{Kept};
-    ghost use Rattle.fs_flows.specs.Shared.{flow_of};
+    ghost use Rattle.fs_flows.specs.{Kept.{Kept}, Shared.{flow_of}};
 
     ghost Value = { Kept };
 

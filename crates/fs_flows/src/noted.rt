@@ -1,8 +1,7 @@
 //! Where the rules that the table admits may have changed.
 
 ghost use Rattle.std.specs.Prelude.{◌≡◌, true, Some};
-ghost use Rattle.fs_nlri.specs.Parts.{Ruled};
-ghost use Rattle.fs_nlri.specs.Rule.{IsRule, destination_prefix};
+ghost use Rattle.fs_nlri.specs.{Parts.{Ruled}, Rule.{IsRule, destination_prefix}};
 ghost use Rattle.fs_flows.specs.Changes.{IsOwn, is_to};
 
 use fs_base::{Family, Memory, Prefix};
@@ -68,11 +67,9 @@ impl Model for Changes {
 }
 
 impl Changes {
-    ghost use Rattle.std.specs.Prelude.{◌≡◌, true, false, []};
-    ghost use Rattle.std.specs.List.{AllByRecursion};
+    ghost use Rattle.std.specs.{Prelude.{◌≡◌, true, false, []}, List.{AllByRecursion}};
     ghost use Rattle.fs_nlri.specs.Parts.{Ruled};
-    ghost use Rattle.fs_flows.specs.Changes.{Covers, AdmitsElsewhere, IsOwn, StaysNoted, is_noted, is_to};
-    ghost use Rattle.fs_flows.specs.Table.{Held};
+    ghost use Rattle.fs_flows.specs.{Changes.{Covers, AdmitsElsewhere, IsOwn, StaysNoted, is_noted, is_to}, Table.{Held}};
 
     /// No change, and no room.
     pub fn new(alloc: Global) -> Changes

@@ -1,13 +1,8 @@
 //! Groups by their destination: the next one, and those that cover a prefix or lie under it.
 
-ghost use Rattle.std.specs.Prelude.{◌≡◌, ◌≤◌, ◌||◌, true, false};
-ghost use Rattle.std.specs.BTreeMap.{is_at};
-ghost use Rattle.std.specs.Ordering.{is_le};
-ghost use Rattle.std.specs.Prelude.{MatchOption};
-ghost use Rattle.fs_base.specs.Prefix.{covers, prefix_cmp};
-ghost use Rattle.fs_base.specs.Search.{IsFirstFrom};
-ghost use Rattle.fs_flows.specs.Search.{Mended, IsNextAfter, IsNextRelated};
-ghost use Rattle.fs_flows.specs.Groups.{AreInOrder, AreNoShorter};
+ghost use Rattle.std.specs.{Prelude.{◌≡◌, ◌||◌, true, false}, Ordering.{is_le}};
+ghost use Rattle.fs_base.specs.{Prefix.{covers, prefix_cmp}, Search.{IsFirstFrom}};
+ghost use Rattle.fs_flows.specs.{Search.{Mended, IsNextAfter, IsNextRelated}, Groups.{AreNoShorter}};
 ghost use Rattle.fs_validate.specs.Laws.{is_related};
 ghost use Rattle.fs_unicast.specs.Search.{is_same_prefix};
 

@@ -1,9 +1,7 @@
 -- The first octets of a part, of which some were put back.
-use Rattle.fs_input.proofs.Words.{◌≡◌, ◌≢◌, ℕ, List, [], ◌++◌, Bool, true, false, Result, ◌<◌, ◌≤◌, ◌+◌, ◌==◌, ◌&&◌, not, length, refl, ap, sym, ◌∙◌, subst, arith, if◌then◌else◌, nat_tests, Fills, window, Counted, draws_ahead, short_fault, Fault, Calls, Fails, HasMore, IsOver, Passes, PassesOn, Reads, Took, ahead, ends_by, whole, Scanner, field}
+use Rattle.fs_input.proofs.{Words.{◌≡◌, ◌≢◌, ℕ, List, [], ◌++◌, Bool, true, false, Result, ◌<◌, ◌≤◌, ◌+◌, ◌==◌, ◌&&◌, not, length, refl, ap, sym, ◌∙◌, subst, arith, if◌then◌else◌, nat_tests, Fills, window, Counted, draws_ahead, short_fault, Fault, Calls, Fails, HasMore, IsOver, Passes, PassesOn, Reads, Took, ahead, ends_by, whole, Scanner, field}, CutShort.{field_fails, more_is, over_is}, Taking.{field_took}}
 use Rattle.std.specs.Prelude.{Option}
 use Rattle.fs_base.specs.Draws.{Draws, Passed}
-use Rattle.fs_input.proofs.CutShort.{field_fails, more_is, over_is}
-use Rattle.fs_input.proofs.Taking.{field_took}
 
 ahead_at : (counted : Counted) (left : ℕ → List ℕ) (slot : ℕ) → slot ≡ counted.slot → ahead counted left slot ≡ counted.back ++ left slot
 ahead_at counted left slot same = let test : (slot == counted.slot) ≡ true = grind (arith, nat_tests) in rw test refl

@@ -1,6 +1,5 @@
 -- The parts of an input, read one by one.
-use Rattle.fs_input.proofs.Words.{◌≡◌, ◌⊎◌, inl, inr, ℕ, List, [], Some, None, Bool, true, false, ◌<◌, ◌≤◌, ◌+◌, ◌==◌, ◌&&◌, not, length, take, drop, refl, ap, sym, ◌∙◌, arith, if◌then◌else◌, nat_le, unwrap_or, length-drop, nat_tests, at_limit, window, with_part, At, Shrinks, at, judged, to_come, End, done, Chain, Placed, Takes, first_part, part_of, parts_to_come, placed, stop, Took, end_of, ends_by, Scan, behind, field, got, partial, wrong}
-use Rattle.fs_input.proofs.PartsOfRecords.{to_come_end, to_come_step}
+use Rattle.fs_input.proofs.{Words.{◌≡◌, ◌⊎◌, inl, inr, ℕ, List, [], Some, None, Bool, true, false, ◌<◌, ◌≤◌, ◌+◌, ◌==◌, ◌&&◌, not, length, take, drop, refl, ap, sym, ◌∙◌, arith, if◌then◌else◌, nat_le, unwrap_or, length-drop, nat_tests, at_limit, window, with_part, At, Shrinks, at, judged, to_come, End, done, Chain, Placed, Takes, first_part, part_of, parts_to_come, placed, stop, Took, end_of, ends_by, Scan, behind, field, got, partial, wrong}, PartsOfRecords.{to_come_end, to_come_step}}
 
 -- how many octets the parts of a chain take
 

@@ -1,7 +1,5 @@
 -- Calls that read fields one behind the other read the chain.
-use Rattle.fs_input.proofs.Words.{◌≡◌, ℕ, List, Bool, true, Option, Result, Ok, Err, length, refl, ap, sym, subst, arith, Rose, at_limit, window, Counted, Fault, Read, Bad, Scanner, and, fails, field, gives, Calls, Fails, Reads, Scanned, Starts, Took, end_of, whole, passes_none}
-use Rattle.fs_input.proofs.Joining.{fails_first}
-use Rattle.fs_input.proofs.Stages.{going_more, going_start, going_then}
+use Rattle.fs_input.proofs.{Words.{◌≡◌, ℕ, List, Bool, true, Option, Result, Ok, Err, length, refl, ap, sym, subst, arith, Rose, at_limit, window, Counted, Fault, Read, Bad, Scanner, and, fails, field, gives, Calls, Fails, Reads, Scanned, Starts, Took, end_of, whole, passes_none}, Joining.{fails_first}, Stages.{going_more, going_start, going_then}}
 
 -- where the first field was read, and then the next
 pub reads_then : {T U A B R : Type 0} {first : Scanner A R} {cut : R} {tells : T → A} {told : Bool} {calls mid late : Calls}
@@ -99,3 +97,10 @@ starts_as {cut = cut} {other = other} {told = told} {calls = calls} {calls' = ca
     subst (λ r. Starts told calls calls' left left' holds holds' size other old new into r) answered
     (subst (λ n. Starts told calls calls' left left' holds holds' n other old new into result) sized
     (subst (λ c. Starts told calls calls' left left' holds holds' (length into) c old new into result) same h))
+
+pub starts_true : {R : Type 0} {cut other : R} {told : Bool} {calls calls' : Calls} {left left' : ℕ → List ℕ}
+    {holds holds' : List ℕ → Option (List ℕ)} {old new : Counted} {into : List ℕ} {found : Bool} (size : ℕ)
+    → Starts told calls calls' left left' holds holds' (length into) cut old new into (Ok found)
+    → cut ≡ other → length into ≡ size → found ≡ true
+    → Starts told calls calls' left left' holds holds' size other old new into (Ok true)
+starts_true size h same sized is = starts_as size same sized (ap Ok is) h

@@ -1,9 +1,9 @@
 -- Reading the records of an input one by one: the head is filled, and then the payload.
-use Rattle.fs_input.proofs.Words.{◌≡◌, ℕ, List, [], Some, None, Bool, true, false, ◌<◌, ◌≤◌, ◌+◌, ◌==◌, min, length, take, drop, refl, ap, sym, ◌∙◌, arith, nat_le, if◌then◌else◌, drop-drop, length-drop, nat_tests, common_steps, Fills, window, with_part, At, Shrinks, at, Format, bad, ends_short, first_record, head_at, record_in, records_to_come, Head, Whole, Wrong, Partial}
-use Rattle.fs_input.specs.Records.{stop}
-use Rattle.fs_input.proofs.CutShort.{limit_is}
-use Rattle.fs_input.proofs.Joining.{IsBehind, behind_took}
-use Rattle.fs_input.proofs.PartsOfRecords.{to_come_end, to_come_step}
+use Rattle.fs_input.{proofs.{Words.{◌≡◌, ℕ, List, [], Some, None, Bool, true, false, ◌<◌, ◌≤◌, ◌+◌, ◌==◌, min, length, take, drop, refl, ap, sym, ◌∙◌, arith, nat_le, if◌then◌else◌, drop-drop, length-drop, length-take, nat_tests, common_steps, Fills, window, with_part, At, Shrinks, at, Format, bad, ends_short, first_record, head_at, record_in, records_to_come, Head, Whole, Wrong, Partial}, CutShort.{limit_is}, Joining.{IsBehind, behind_took}, PartsOfRecords.{to_come_end, to_come_step}}, specs.Records.{stop}}
+
+-- what octets of the front have, so many octets have
+pub held_of_taken : {n : ℕ} (count : ℕ) (octets : List ℕ) → n ≤ length (take count octets) → n ≤ count
+held_of_taken count octets held = omega (arith, held, length-take count octets)
 
 -- each head has octets
 abbrev pub HasHead : {S A B R : Type 0} → Format S A B R → Type 0

@@ -1,8 +1,5 @@
 -- An input of parts is done exactly where it is the text of written parts and lies below the limit.
-use Rattle.fs_input.proofs.Words.{◌≡◌, ◌≢◌, ◌⊎◌, inl, inr, Option, ℕ, suc, zero, List, [], ◌∷◌, ◌++◌, Some, Bool, true, false, ◌<◌, ◌≤◌, ◌+◌, ◌-◌, length, take, drop, refl, ap, sym, subst, ◌∙◌, ◌↔◌, arith, length-append, flat_map, drop_at, length-drop, length-take, take-append-drop, take-take, nat_tests, at_limit, window, with_part, AllFrom, End, bad, done, limited, Chain, IsTextOf, Takes, all_given, all_told, only_told, parts_to_come, told_to_come, Took, end_of, ends_by, Scan, got, partial, wrong}
-use Rattle.fs_input.proofs.Coming.{done_comes, end_comes, part_comes}
-use Rattle.fs_input.proofs.Done.{all_taken, below_limit, nothing}
-use Rattle.fs_input.proofs.Spelling.{Reads, Spells}
+use Rattle.fs_input.proofs.{Words.{◌≡◌, ◌≢◌, ◌⊎◌, inl, inr, Option, ℕ, suc, zero, List, [], ◌∷◌, ◌++◌, Some, Bool, true, false, ◌<◌, ◌≤◌, ◌+◌, ◌-◌, length, take, drop, refl, ap, sym, subst, ◌∙◌, ◌↔◌, arith, length-append, flat_map, drop_at, length-drop, length-take, take-append-drop, take-take, nat_tests, at_limit, window, with_part, AllFrom, End, bad, done, limited, Chain, IsTextOf, Takes, all_given, all_told, only_told, parts_to_come, told_to_come, Took, end_of, ends_by, Scan, got, partial, wrong}, Coming.{done_comes, end_comes, part_comes}, Done.{all_taken, below_limit, nothing}, Spelling.{Reads, Spells}}
 
 -- the limit isn't reached
 free_of : (limit taken : ℕ) (left : List ℕ) → taken + length left < limit → at_limit limit taken left ≡ false

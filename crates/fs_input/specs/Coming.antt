@@ -1,9 +1,7 @@
 -- The parts of an input that are read by a chain of fields each, where what a part says depends on those before it.
-use Rattle.std.specs.Prelude.{ℕ, List, [], ◌∷◌, Option, Some, None, Bool, ◌≡◌, ◌≤◌, ◌<◌, ◌+◌, ◌==◌, ◌&&◌, not, length, drop, flat_map, if◌then◌else◌, unwrap_or}
-use Rattle.fs_input.specs.Parts.{AllFrom, At, Reader, at, to_come}
-use Rattle.fs_input.specs.Records.{End, done}
-use Rattle.fs_input.specs.Reads.{end_of, whole}
-use Rattle.fs_input.specs.Scan.{Scan, Scanner, and, field, got, partial, wrong}
+use Rattle.std.specs.Prelude.{ℕ, List, [], ◌∷◌, ◌++◌, Option, Some, None, Bool, ◌≡◌, ◌≤◌, ◌<◌, ◌+◌, ◌==◌, ◌&&◌, not, length, drop, flat_map, if◌then◌else◌, unwrap_or}
+use Rattle.fs_base.specs.declared.counted.Counted.{Counted}
+use Rattle.fs_input.specs.{Parts.{AllFrom, At, Reader, at, to_come}, Records.{End, done}, Reads.{end_of, whole}, Scan.{Scan, Scanner, and, field, got, partial, wrong}}
 
 -- a state, and the place in the input
 pub record Placed (S : Type 0) : Type 0 where
@@ -52,6 +50,13 @@ only_told found = (all_told found.0, found.1)
 -- what is still to be told in a state, where so many octets were taken, and how the input ends
 abbrev pub told_to_come : {S P R : Type 0} → Chain S (Option P) R → R → (limit taken : ℕ) → S → List ℕ → List P × End R
 told_to_come chain cut limit taken now left = only_told (parts_to_come chain cut limit taken now left)
+
+-- the same of an input of which so much was taken, where this is left in its slot, behind what was put back
+abbrev pub parts_ahead : {S P R : Type 0} → Chain S P R → R → Counted → S → List ℕ → List P × End R
+parts_ahead chain cut counted now left = parts_to_come chain cut counted.limit counted.taken now (counted.back ++ left)
+
+abbrev pub told_ahead : {S P R : Type 0} → Chain S (Option P) R → R → Counted → S → List ℕ → List P × End R
+told_ahead chain cut counted now left = only_told (parts_ahead chain cut counted now left)
 
 -- what written parts give, where `gives` tells it of one, with the state behind it
 abbrev pub all_given : {S P W : Type 0} → (S → W → P × S) → S → List W → List P

@@ -1,7 +1,6 @@
 -- The parts of an input, read one by one, where what a part says depends on those before it: the reader has a state.
 use Rattle.std.specs.Prelude.{ℕ, Bool, List, [], ◌∷◌, ◌++◌, Option, Some, ◌≡◌, ◌+◌, ◌-◌, length, ⊤}
-use Rattle.fs_base.specs.Language.{IsOctets}
-use Rattle.fs_base.specs.Parts.{ShrinksBy, at_limit, parts_within, window}
+use Rattle.fs_base.specs.{Language.{IsOctets}, Parts.{ShrinksBy, at_limit, parts_within, window}}
 
 -- where a reader stands: its state, and the octets that it has before it
 pub record At (S : Type 0) : Type 0 where

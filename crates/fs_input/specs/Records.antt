@@ -1,9 +1,8 @@
 -- Inputs that are lists of records, as tapes and captures are. Each record has a head, which tells the size of the
 -- payload behind it. What a head says may depend on the records before it.
 use Rattle.std.specs.Prelude.{ℕ, List, Option, Some, None, Bool, ◌+◌, ◌==◌, length, take, drop, nat_le, if◌then◌else◌}
-use Rattle.fs_input.specs.Parts.{At, Reader, at, to_come}
-use Rattle.fs_input.specs.declared.head.Head.{Head}
-use Rattle.fs_input.specs.declared.head.Head.TheVariants.{Whole, Wrong, Partial}
+use Rattle.fs_base.specs.declared.counted.Counted.{Counted}
+use Rattle.fs_input.specs.{Parts.{At, Reader, at, to_come}, declared.head.Head.{Head, TheVariants.{Whole, Wrong, Partial}}}
 
 -- How an input ends: behind its last record, at the limit, or by a fault and its place.
 pub data End (R : Type 0) : Type 0 where
@@ -57,3 +56,7 @@ stop format limit place now = end_by format.cut limit place (length now.octets) 
 abbrev pub records_to_come : {S A B R : Type 0} → Format S A B R → ℕ → ℕ → S → List ℕ → List B × End R
 records_to_come format limit taken state left =
     to_come (first_record format) (stop format) limit taken (at state left)
+
+-- the same of an input of which so much was taken, where this is left in its slot
+abbrev pub records_ahead : {S A B R : Type 0} → Format S A B R → Counted → S → List ℕ → List B × End R
+records_ahead format counted state left = records_to_come format counted.limit counted.taken state left

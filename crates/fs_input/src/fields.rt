@@ -1,7 +1,6 @@
 //! Taking and skipping the octets of fields.
 ghost use Rattle.std.specs.Prelude.{◌≡◌, ◌≤◌, ◌+◌, ◌<◌, ◌==◌, ◌&&◌, [], IfOk, IsTrue, length, not};
-ghost use Rattle.fs_input.specs.Reads.{PassesIn, Scans, ScansAgain, StartsIn};
-ghost use Rattle.fs_input.specs.Scan.{field, skips};
+ghost use Rattle.fs_input.specs.{Reads.{PassesIn, Scans, ScansAgain, StartsIn}, Scan.{field, skips}};
 
 use crate::fault::Fault;
 use crate::record::short;

@@ -25,8 +25,7 @@ pub struct Found<A> {
 /// The heads of a format, where an input of it stands.
 pub trait Heads {
     ghost use Rattle.std.specs.Prelude.{ℕ, ◌≡◌, ◌≤◌, ◌<◌, length, List};
-    ghost use Rattle.fs_input.specs.NextRecord.{IsHeadWithin, IsKnown};
-    ghost use Rattle.fs_input.specs.Records.{Format};
+    ghost use Rattle.fs_input.specs.{NextRecord.{IsHeadWithin, IsKnown}, Records.{Format}};
 
     /// What a head says beside the payload's size.
     type Said: Copy + Drop;

@@ -9,12 +9,8 @@ pub const MOST_FIRST: usize = 16;
 /// The parts of a format, where an input of it stands: all that the reading of the next part depends on, beside the
 /// octets and what is given from outside.
 pub trait Parts {
-    ghost use Rattle.std.specs.Prelude.{ℕ, List, Option, None, ◌≡◌, ◌≤◌, ◌<◌, ◌-◌, [], IfOk, length};
-    ghost use Rattle.std.specs.Option.{option_map};
-    ghost use Rattle.fs_input.specs.Coming.{Takes, part_in};
-    ghost use Rattle.fs_input.specs.Reading.{answer_told};
-    ghost use Rattle.fs_input.specs.Reads.{Scans};
-    ghost use Rattle.fs_input.specs.Scan.{Scanner};
+    ghost use Rattle.std.specs.{Prelude.{ℕ, List, Option, None, ◌≡◌, ◌≤◌, ◌<◌, ◌-◌, [], IfOk, length}, Option.{option_map}};
+    ghost use Rattle.fs_input.specs.{Coming.{Takes, part_in}, Reading.{answer_told}, Reads.{Scans}, Scan.{Scanner}};
 
     /// What is given from outside.
     type Given;

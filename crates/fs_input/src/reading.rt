@@ -1,15 +1,7 @@
 //! Reading an input part by part, up to one that tells something.
-ghost use Rattle.std.specs.Prelude.{◌≡◌, ◌≤◌, ◌<◌, ◌++◌, [], None, IsTrue, IfOk, IfSome, length};
-ghost use Rattle.std.specs.Option.{option_map};
-ghost use Rattle.std.specs.Result.{IsErrOf};
-ghost use Rattle.fs_base.specs.Draws.{Draws};
-ghost use Rattle.fs_base.specs.Outside.{Rose};
-ghost use Rattle.fs_base.specs.Parts.{with_part};
-ghost use Rattle.fs_input.specs.NextRecord.{Advances, GivesNext};
-ghost use Rattle.fs_input.specs.Reads.{PassesIn};
-ghost use Rattle.fs_input.specs.declared.fault.Fault.TheVariants.{Read};
-ghost use Rattle.fs_input.specs.Coming.{part_in, parts_to_come, told_to_come};
-ghost use Rattle.fs_input.specs.Reading.{Grows, part_told, answer_told};
+ghost use Rattle.std.specs.{Prelude.{◌≡◌, ◌≤◌, ◌<◌, [], None, IsTrue, IfOk, IfSome, length}, Option.{option_map}, Result.{IsErrOf}};
+ghost use Rattle.fs_base.specs.{Draws.{Draws}, Outside.{Rose}, Parts.{with_part}};
+ghost use Rattle.fs_input.specs.{NextRecord.{Advances, GivesNext}, Reads.{PassesIn}, declared.fault.Fault.TheVariants.{Read}, Coming.{part_in, parts_ahead, told_ahead}, Reading.{Grows, part_told, answer_told}};
 
 use crate::fault::{Ended, Fault};
 use crate::fields::take_first;
@@ -39,12 +31,9 @@ pub fn next_part<F: Files, P: Parts>(
     ensures gives { GivesNext F.Files files.old files.new counted.old.slot counted.new.slot counted.old.limit
         counted.new.limit end.old end.new
         ((counted.new ≡ counted.old) × (end.new ≡ end.old) × (parts.new ≡ parts.old))
-        (told_to_come (part_in P.first (P.behind given.now)) P.cut counted.old.limit counted.old.taken parts.old
-        (counted.old.back ++ F.left files.old counted.old.slot))
-        (λ told. with_part
-        (P.part_of into.new told)
-        (told_to_come (part_in P.first (P.behind given.now)) P.cut counted.new.limit counted.new.taken parts.new
-        (counted.new.back ++ F.left files.new counted.old.slot)))
+        (told_ahead (part_in P.first (P.behind given.now)) P.cut counted.old parts.old (F.left files.old counted.old.slot))
+        (λ told. with_part (P.part_of into.new told)
+        (told_ahead (part_in P.first (P.behind given.now)) P.cut counted.new parts.new (F.left files.new counted.old.slot)))
         result }
     ensures grows { end.old ≡ None → Grows counted.old.taken counted.new.taken counted.new.limit result }
     ensures moves { P.Moves parts.old parts.new (answer_told result) }
@@ -77,12 +66,9 @@ fn next_told<F: Files, P: Parts>(
 
     ensures advances { IsTrue F.tells
         → Advances
-        (told_to_come (part_in P.first (P.behind given.now)) P.cut counted.old.limit counted.old.taken parts.old
-        (counted.old.back ++ F.left files.old counted.old.slot))
-        (λ told. with_part
-        (P.part_of into.new told)
-        (told_to_come (part_in P.first (P.behind given.now)) P.cut counted.new.limit counted.new.taken parts.new
-        (counted.new.back ++ F.left files.new counted.old.slot)))
+        (told_ahead (part_in P.first (P.behind given.now)) P.cut counted.old parts.old (F.left files.old counted.old.slot))
+        (λ told. with_part (P.part_of into.new told)
+        (told_ahead (part_in P.first (P.behind given.now)) P.cut counted.new parts.new (F.left files.new counted.old.slot)))
         result }
 {
     'parts: loop {
@@ -113,12 +99,9 @@ fn advance<F: Files, P: Parts>(
 
     ensures advances { IsTrue F.tells
         → Advances
-        (parts_to_come (part_in P.first (P.behind given.now)) P.cut counted.old.limit counted.old.taken parts.old
-        (counted.old.back ++ F.left files.old counted.old.slot))
-        (λ told. with_part
-        (option_map (P.part_of into.new) told)
-        (parts_to_come (part_in P.first (P.behind given.now)) P.cut counted.new.limit counted.new.taken parts.new
-        (counted.new.back ++ F.left files.new counted.new.slot)))
+        (parts_ahead (part_in P.first (P.behind given.now)) P.cut counted.old parts.old (F.left files.old counted.old.slot))
+        (λ told. with_part (option_map (P.part_of into.new) told)
+        (parts_ahead (part_in P.first (P.behind given.now)) P.cut counted.new parts.new (F.left files.new counted.new.slot)))
         result }
 {
     let mut octets = [0u8; MOST_FIRST];

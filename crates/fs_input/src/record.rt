@@ -1,12 +1,7 @@
 //! Reading an input record by record, whatever counts the reads give.
-ghost use Rattle.std.specs.Prelude.{◌≡◌, ◌≤◌, [], None, IsTrue, length, take};
-ghost use Rattle.std.specs.Result.{IsErrOf};
-ghost use Rattle.fs_base.specs.Draws.{Draws};
-ghost use Rattle.fs_base.specs.Outside.{Rose};
-ghost use Rattle.fs_base.specs.Parts.{with_part};
-ghost use Rattle.fs_input.specs.NextRecord.{Advances, GivesNext, Grows, IsFoundWithin, answer_of, ended_after, short_answer, short_fault};
-ghost use Rattle.fs_input.specs.Reads.{PassesIn};
-ghost use Rattle.fs_input.specs.Records.{records_to_come};
+ghost use Rattle.std.specs.{Prelude.{◌≡◌, ◌≤◌, [], None, IsTrue, length, take}, Result.{IsErrOf}};
+ghost use Rattle.fs_base.specs.{Draws.{Draws}, Outside.{Rose}, Parts.{with_part}};
+ghost use Rattle.fs_input.specs.{NextRecord.{Advances, GivesNext, Grows, IsFoundWithin, answer_of, ended_after, short_answer, short_fault}, Reads.{PassesIn}, Records.{records_ahead}};
 
 use crate::fault::{Ended, Fault};
 use crate::head::{Found, Head, Heads, MOST_HEAD};
@@ -33,15 +28,9 @@ pub fn next_record<F: Files, H: Heads>(
     ensures none { counted.new.back ≡ [] }
     ensures gives { GivesNext F.Files files.old files.new counted.old.slot counted.new.slot counted.old.limit
         counted.new.limit end.old end.new ((counted.new ≡ counted.old) × (end.new ≡ end.old))
-        (records_to_come H.format counted.old.limit counted.old.taken heads.now (F.left files.old counted.old.slot))
-        (λ found. with_part
-        (H.format.item_of found.said (take found.size into.new))
-        (records_to_come
-        H.format
-        counted.new.limit
-        counted.new.taken
-        (H.format.behind heads.now found.said)
-        (F.left files.new counted.old.slot)))
+        (records_ahead H.format counted.old heads.now (F.left files.old counted.old.slot))
+        (λ found. with_part (H.format.item_of found.said (take found.size into.new))
+        (records_ahead H.format counted.new (H.format.behind heads.now found.said) (F.left files.new counted.old.slot)))
         result }
     ensures grows { end.old ≡ None
         → Grows (IsFoundWithin (H.Known heads.now) H.most) counted.old.taken counted.new.taken counted.new.limit result }
@@ -126,15 +115,9 @@ fn advance<F: Files, H: Heads>(
 
     ensures advances { IsTrue F.tells
         → Advances
-        (records_to_come H.format counted.old.limit counted.old.taken heads.now (F.left files.old counted.old.slot))
-        (λ found. with_part
-        (H.format.item_of found.said (take found.size into.new))
-        (records_to_come
-        H.format
-        counted.new.limit
-        counted.new.taken
-        (H.format.behind heads.now found.said)
-        (F.left files.new counted.old.slot)))
+        (records_ahead H.format counted.old heads.now (F.left files.old counted.old.slot))
+        (λ found. with_part (H.format.item_of found.said (take found.size into.new))
+        (records_ahead H.format counted.new (H.format.behind heads.now found.said) (F.left files.new counted.old.slot)))
         result }
 {
     let mut octets = [0u8; MOST_HEAD];

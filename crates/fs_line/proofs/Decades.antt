@@ -1,8 +1,6 @@
 -- Numbers that only the last digit tells apart.
-use Rattle.fs_line.proofs.Words.{◌≡◌, ◌+◌, ◌-◌, ◌/◌, ◌%◌, ◌<◌, ◌≤◌, ◌^◌, ◌∷◌, [], ◌++◌, ℕ, List, length, take, arith, refl, sym, ap, subst, ◌∙◌, ⊎_elim, length-append, take-append-le, take_all, IsDecade}
-use Rattle.std.proofs.lemmas.Bool.{cases_lt}
-use Rattle.std.proofs.lemmas.Fmt.{decimal_digit, decimal_nonempty, decimal_step_wide}
-use Rattle.std.specs.Fmt.{decimal}
+use Rattle.fs_line.proofs.Words.{◌≡◌, ◌+◌, ◌-◌, ◌/◌, ◌%◌, ◌<◌, ◌≤◌, ◌^◌, ◌∷◌, [], ◌++◌, ℕ, List, length, take, arith, sym, ap, subst, ◌∙◌, ⊎_elim, length-append, take-append-le, take_all, IsDecade}
+use Rattle.std.{proofs.lemmas.{Bool.{cases_lt}, Fmt.{decimal_digit, decimal_nonempty, decimal_step_wide}}, specs.Fmt.{decimal}}
 
 -- the numbers below ten
 pub first_ten : (digits : List ℕ) → IsDecade 0 digits 0

@@ -1,6 +1,5 @@
 -- What is printed of actions that discard and say no more.
-use Rattle.fs_line.proofs.Words.{◌≡◌, ℕ, ◌==◌, Bool, true, false, List, [], ◌∷◌, ◌++◌, length, get_or, Option, Some, None, refl, sym, ◌∙◌, ap, subst, arith, append-nil, append_assoc, IsTrue, not, true≢false, ◌<◌, ◌||◌, codes, decimal, if◌then◌else◌, AllByRecursion, list_any, option_map_or, common_steps, first_of, has_flag, is_discard, limit_of, mark_of, redirect_of, Walked, SaysDiscard, discarded_line, effects_text, line_of, mark_text, rates_text, redirect_text, sample_text, verdict_text, entries}
-use Rattle.fs_line.proofs.Walks.{rates_text-append, rates_text-none}
+use Rattle.fs_line.proofs.{Words.{◌≡◌, ℕ, ◌==◌, Bool, true, false, List, [], ◌∷◌, ◌++◌, length, get_or, Option, Some, None, refl, sym, ◌∙◌, ap, subst, arith, append-nil, append_assoc, IsTrue, not, true≢false, ◌<◌, ◌||◌, codes, decimal, if◌then◌else◌, AllByRecursion, list_any, option_map_or, common_steps, first_of, has_flag, is_discard, limit_of, mark_of, redirect_of, Walked, SaysDiscard, discarded_line, effects_text, line_of, mark_text, rates_text, redirect_text, sample_text, verdict_text, entries}, Walks.{rates_text-append, rates_text-none}}
 
 abbrev pub AllDiscard : List (List ℕ) → Type 0
 AllDiscard actions = AllByRecursion (λ action. is_discard action ≡ true) actions

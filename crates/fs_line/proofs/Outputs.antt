@@ -1,8 +1,6 @@
 -- How what became of a text follows from what became of its parts.
 use Rattle.fs_line.proofs.Words.{◌≡◌, inl, inr, ℕ, ◌+◌, ◌<◌, List, [], ◌∷◌, ◌++◌, length, take, drop, get_or, Option, Result, Ok, Err, OnOk, OnErr, IsErrAnd, ◌≤◌, arith, sym, ◌∙◌, ap, subst, append_assoc, append-nil, common_steps, take_more, take-append-drop, Goes, Partly, Stops, Sent}
-use Rattle.fs_base.specs.Outside.{HasCause}
-use Rattle.fs_base.specs.Sink.{Grew, GrewPart}
-use Rattle.fs_base.proofs.Grew.{Grew-refl, Grew-trans, part_more, part_then}
+use Rattle.fs_base.{specs.{Outside.{HasCause}, Sink.{Grew, GrewPart}}, proofs.Grew.{Grew-refl, Grew-trans, part_more, part_then}}
 
 -- a text has gone on so far
 pub record SentSo (faults faults_now : ℕ) (before now : Option (List ℕ)) (pending pending_now text : List ℕ) : Type 0 where

@@ -1,7 +1,6 @@
 -- What the actions of a walk say, rule by rule.
 use Rattle.fs_line.proofs.Words.{◌≡◌, ℕ, ◌+◌, ◌-◌, ◌<◌, ◌≤◌, List, [], ◌∷◌, ◌++◌, length, take, drop, get_or, Option, Some, None, refl, sym, ◌∙◌, ap, arith, append_assoc, add-one, drop-cons, flat_map, filter_map, codes, common_steps, flat_map-append, first_of, limit_of, Walked, numbered, numbers_text, others_text, rate_text, rates_text, actions_walked, entries, numbers_walked}
-use Rattle.std.proofs.lemmas.List.{append-nil, length-append}
-use Rattle.std.proofs.lemmas.List.Elements.{filter_map-append}
+use Rattle.std.proofs.lemmas.List.{append-nil, length-append, Elements.{filter_map-append}}
 use Rattle.fs_actions.specs.declared.community.Rate.{Rate}
 
 -- the actions of the rules walked

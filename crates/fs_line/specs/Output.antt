@@ -1,7 +1,6 @@
 -- How text reaches a sink through a buffer that keeps octets back.
 use Rattle.std.specs.Prelude.{◌≡◌, ◌≤◌, ◌<◌, ◌+◌, ◌⊎◌, ℕ, List, [], ◌∷◌, ◌++◌, decimal, take, Option, Result, OnOk, OnErr}
-use Rattle.fs_base.specs.Outside.{Rose}
-use Rattle.fs_base.specs.Sink.{Grew, GrewPart}
+use Rattle.fs_base.specs.{Outside.{Rose}, Sink.{Grew, GrewPart}}
 use Rattle.fs_base.specs.declared.Sink as sink
 
 -- What was pending and then the text have gone on: a front of them to the sink, and the rest is pending now.

@@ -1,7 +1,6 @@
 -- The pieces that lines are made of.
 use Rattle.std.specs.Prelude.{ℕ, List, codes}
-use Rattle.fs_base.specs.declared.prefix.Family.{Family}
-use Rattle.fs_base.specs.declared.prefix.Family.TheVariants.{V4, V6}
+use Rattle.fs_base.specs.declared.prefix.Family.{Family, TheVariants.{V4, V6}}
 
 -- the printed name of a family
 abbrev pub family_name : Family → List ℕ

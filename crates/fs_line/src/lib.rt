@@ -10,5 +10,5 @@ mod walked;
 
 pub use line::{write_packet_line, write_unread_line};
 pub use output::Output;
-pub use pieces::{append, append_decimal, append_hex, family_name};
+pub use pieces::{append, append_decimal, append_hex, append_numbered, family_name};
 pub use walked::{Walked, discards};

@@ -1,9 +1,7 @@
 //! The lines of packets, written without memory.
 
 ghost use Rattle.std.specs.Prelude.{◌≡◌, ◌≤◌, ◌+◌, ◌*◌, [], IsTrue, length};
-ghost use Rattle.fs_line.specs.Line.{SaysDiscard, discarded_line, line_of, numbers_text, others_text, rate_text, rates_text, unread_line_of};
-ghost use Rattle.fs_line.specs.Output.{Sends};
-ghost use Rattle.fs_line.specs.Walked.{actions_walked, entries, numbers_walked};
+ghost use Rattle.fs_line.specs.{Line.{SaysDiscard, discarded_line, line_of, numbers_text, others_text, rate_text, rates_text, unread_line_of}, Output.{Sends}, Walked.{actions_walked, entries, numbers_walked}};
 
 use crate::kept::{
     LINE, RATE, RULE, keep_discarded, keep_effects, keep_first, keep_other, keep_passed, keep_rate,
@@ -14,6 +12,10 @@ use crate::walked::Walked;
 use fs_actions::{Actions, Rate};
 use fs_base::{Failed, Sink};
 
+/// What a call answers that writes: Failed where the sink fails. A part of what was to go may then be written, and
+/// nothing is pending.
+type Written = Result<(), Failed>;
+
 /// Writes the line of a packet that was judged: the record's number, from 1, the verdict, the numbers of the rules
 /// that the packet has walked, and what they say beside the verdict. `walked` are these rules in the order of the walk.
 ///
@@ -23,7 +25,7 @@ pub fn write_packet_line<S: Sink>(
     sink: &mut S,
     number: u64,
     walked: &[Walked<'_>],
-) -> Result<(), Failed>
+) -> Written
     ensures { Sends S.Sink sink.old sink.new output.old output.new (line_of number (entries walked.now)) result }
 {
     match walked {
@@ -46,7 +48,7 @@ pub fn write_unread_line<S: Sink>(
     sink: &mut S,
     number: u64,
     reason: u8,
-) -> Result<(), Failed>
+) -> Written
     ensures { Sends S.Sink sink.old sink.new output.old output.new (unread_line_of number reason) result }
 {
     output.make_room(sink, LINE)?;
@@ -55,7 +57,7 @@ pub fn write_unread_line<S: Sink>(
 }
 
 /// Writes the line of a packet that walked no rule.
-fn write_passed<S: Sink>(output: &mut Output, sink: &mut S, number: u64) -> Result<(), Failed>
+fn write_passed<S: Sink>(output: &mut Output, sink: &mut S, number: u64) -> Written
     ensures { Sends S.Sink sink.old sink.new output.old output.new (line_of number []) result }
 {
     output.make_room(sink, LINE)?;
@@ -64,12 +66,7 @@ fn write_passed<S: Sink>(output: &mut Output, sink: &mut S, number: u64) -> Resu
 }
 
 /// Writes the line of a packet that walked one rule, which discards it and says no more.
-fn write_discarded<S: Sink>(
-    output: &mut Output,
-    sink: &mut S,
-    number: u64,
-    rule: usize,
-) -> Result<(), Failed>
+fn write_discarded<S: Sink>(output: &mut Output, sink: &mut S, number: u64, rule: usize) -> Written
     ensures { Sends S.Sink sink.old sink.new output.old output.new (discarded_line number rule) result }
 {
     output.make_room(sink, LINE)?;
@@ -96,7 +93,7 @@ fn write_whole_line<S: Sink>(
     sink: &mut S,
     number: u64,
     walked: &[Walked<'_>],
-) -> Result<(), Failed>
+) -> Written
     ensures { Sends S.Sink sink.old sink.new output.old output.new (line_of number (entries walked.now)) result }
 {
     let octets = longest_line(walked);
@@ -127,7 +124,7 @@ fn write_long_line<S: Sink>(
     sink: &mut S,
     number: u64,
     walked: &[Walked<'_>],
-) -> Result<(), Failed>
+) -> Written
     ensures { Sends S.Sink sink.old sink.new output.old output.new (line_of number (entries walked.now)) result }
 {
     output.make_room(sink, LINE)?;
@@ -140,11 +137,7 @@ fn write_long_line<S: Sink>(
 }
 
 /// Writes the numbers of the rules walked, from 1.
-fn write_rules<S: Sink>(
-    output: &mut Output,
-    sink: &mut S,
-    walked: &[Walked<'_>],
-) -> Result<(), Failed>
+fn write_rules<S: Sink>(output: &mut Output, sink: &mut S, walked: &[Walked<'_>]) -> Written
     ensures { Sends S.Sink sink.old sink.new output.old output.new
         (numbers_text (numbers_walked (entries walked.now))) result }
 {
@@ -157,11 +150,7 @@ fn write_rules<S: Sink>(
 }
 
 /// Writes the numbers, from 1, of the rules walked after the first.
-fn write_others<S: Sink>(
-    output: &mut Output,
-    sink: &mut S,
-    others: &[Walked<'_>],
-) -> Result<(), Failed>
+fn write_others<S: Sink>(output: &mut Output, sink: &mut S, others: &[Walked<'_>]) -> Written
     ensures { Sends S.Sink sink.old sink.new output.old output.new
         (others_text (numbers_walked (entries others.now))) result }
 {
@@ -173,11 +162,7 @@ fn write_others<S: Sink>(
 }
 
 /// Writes each rate of the rules walked that lets something pass.
-fn write_rates<S: Sink>(
-    output: &mut Output,
-    sink: &mut S,
-    walked: &[Walked<'_>],
-) -> Result<(), Failed>
+fn write_rates<S: Sink>(output: &mut Output, sink: &mut S, walked: &[Walked<'_>]) -> Written
     ensures { Sends S.Sink sink.old sink.new output.old output.new
         (rates_text (actions_walked (entries walked.now))) result }
 {
@@ -188,11 +173,7 @@ fn write_rates<S: Sink>(
 }
 
 /// Writes each rate of one rule that lets something pass.
-fn write_rates_of<S: Sink>(
-    output: &mut Output,
-    sink: &mut S,
-    actions: &Actions,
-) -> Result<(), Failed>
+fn write_rates_of<S: Sink>(output: &mut Output, sink: &mut S, actions: &Actions) -> Written
     ensures { Sends S.Sink sink.old sink.new output.old output.new (rates_text actions.now) result }
 {
     for action in actions.as_slice() {
@@ -204,7 +185,7 @@ fn write_rates_of<S: Sink>(
 }
 
 /// Writes a rate.
-fn write_rate<S: Sink>(output: &mut Output, sink: &mut S, rate: Rate) -> Result<(), Failed>
+fn write_rate<S: Sink>(output: &mut Output, sink: &mut S, rate: Rate) -> Written
     ensures { Sends S.Sink sink.old sink.new output.old output.new (rate_text rate) result }
 {
     output.make_room(sink, RATE)?;

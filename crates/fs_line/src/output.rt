@@ -1,8 +1,7 @@
 //! The buffer through which lines leave.
 
 ghost use Rattle.std.specs.Prelude.{◌≡◌, ◌+◌, ◌≤◌, [], ◌<◌, ◌++◌, decimal, length, take, IfOk, IfSome, IsOk, OnErr, OnOk};
-ghost use Rattle.fs_base.specs.Outside.{HasCause};
-ghost use Rattle.fs_base.specs.Sink.{Grew, GrewPart};
+ghost use Rattle.fs_base.specs.{Outside.{HasCause}, Sink.{Grew, GrewPart}};
 ghost use Rattle.fs_line.specs.Output.{Sends};
 
 use fs_base::{Failed, Memory, Sink, write_all};

@@ -26,6 +26,14 @@ pub fn append_decimal<N: Integer>(number: N, text: &mut Vec<u8>) -> Result<(), M
     append(buffer.format(number).as_bytes(), text)
 }
 
+/// Appends a word, and a number directly after it.
+pub fn append_numbered<N: Integer>(word: &[u8], number: N, text: &mut Vec<u8>) -> Result<(), Memory>
+    ensures { OnOk result (text.new.items ≡ text.old.items ++ (word.now ++ N.text number)) }
+{
+    append(word, text)?;
+    append_decimal(number, text)
+}
+
 /// Appends octets in hexadecimal, in lower case. After `Memory` `text` is as before.
 pub fn append_hex(alloc: Global, octets: &[u8], text: &mut Vec<u8>) -> Result<(), Memory>
     ensures ok { OnOk result (text.new.items ≡ text.old.items ++ encode_lower octets.now) }

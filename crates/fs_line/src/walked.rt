@@ -1,9 +1,7 @@
 //! What the rules that a packet has walked say of it together.
 
-ghost use Rattle.std.specs.Prelude.{◌≡◌};
-ghost use Rattle.std.specs.List.{list_any};
-ghost use Rattle.fs_actions.specs.Actions.{first_of};
-ghost use Rattle.fs_actions.specs.Community.{has_flag, is_discard, mark_of, redirect_of};
+ghost use Rattle.std.specs.{Prelude.{◌≡◌}, List.{list_any}};
+ghost use Rattle.fs_actions.specs.{Actions.{first_of}, Community.{has_flag, is_discard, mark_of, redirect_of}};
 ghost use Rattle.fs_line.specs.Walked.{actions_walked, entries};
 
 use fs_actions::{Actions, Redirect};
@@ -40,6 +38,7 @@ pub fn samples(walked: &[Walked<'_>]) -> bool
 }
 
 /// The first marking.
+#[tactic(auto, using(crate::proofs::Walks::said_there, crate::proofs::Walks::not_said_there))]
 pub fn first_mark(walked: &[Walked<'_>]) -> Option<u8>
     ensures { result ≡ first_of mark_of (actions_walked (entries walked.now)) }
 {
@@ -52,6 +51,7 @@ pub fn first_mark(walked: &[Walked<'_>]) -> Option<u8>
 }
 
 /// The first redirect.
+#[tactic(auto, using(crate::proofs::Walks::said_there, crate::proofs::Walks::not_said_there))]
 pub fn first_redirect(walked: &[Walked<'_>]) -> Option<Redirect>
     ensures { result ≡ first_of redirect_of (actions_walked (entries walked.now)) }
 {

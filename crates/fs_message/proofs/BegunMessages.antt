@@ -1,7 +1,6 @@
 -- How the octets of a message begun and a piece behind them join.
-use Rattle.fs_message.proofs.Words.{◌≡◌, ℕ, ◌+◌, ◌-◌, ◌<◌, ◌≤◌, min, Bool, true, false, not, ◌&&◌, nat_le, nat_lt, get_or, List, ◌++◌, length, take, drop, Option, Some, None, Ok, refl, sym, ap, ◌∙◌, subst, inl, inr, arith, if◌then◌else◌, IsTrue, length-take, length-drop, length-append, take-append-le, take-take, take_all, take_min, take_rest, append_assoc, drop-take, get_or-take, cases_lt, leb-true, nat_tests, take-add, take-append-add, drop-append-add, big_number, big_from-take, MessageFault, Message, message_of, wrong_at, size_of, has_message, first_message, fault, marker_wrong, size_wrong, kind_wrong, kind_at, allows, header_fault, size_at}
+use Rattle.fs_message.{proofs.Words.{◌≡◌, ℕ, ◌+◌, ◌-◌, ◌<◌, ◌≤◌, min, Bool, true, false, not, ◌&&◌, nat_le, nat_lt, get_or, List, ◌++◌, length, take, drop, Option, Some, None, Ok, refl, sym, ap, ◌∙◌, subst, inl, inr, arith, if◌then◌else◌, IsTrue, length-take, length-drop, length-append, take-append-le, take-take, take_all, take_min, take_rest, append_assoc, drop-take, get_or-take, cases_lt, leb-true, nat_tests, take-add, take-append-add, drop-append-add, big_number, big_from-take, MessageFault, Message, message_of, wrong_at, size_of, has_message, first_message, fault, marker_wrong, size_wrong, kind_wrong, kind_at, allows, header_fault, size_at}, specs.Deframer.{IsBegun, IsWhole, IsFraming, Feeds}}
 use Rattle.std.specs.Option.{is_none}
-use Rattle.fs_message.specs.Deframer.{IsBegun, IsWhole, IsFraming, Feeds}
 
 -- the test for a whole message, over its three parts
 abbrev pub has : Option MessageFault → ℕ → ℕ → Bool

@@ -1,8 +1,7 @@
 -- What the reader of OPEN's capabilities has found, field by field, is what the list says.
-use Rattle.fs_message.proofs.Words.{◌≡◌, ℕ, Bool, true, false, not, ◌&&◌, ◌||◌, ◌==◌, List, [], ◌∷◌, ◌++◌, length, drop, Option, Some, None, Result, Err, refl, sym, ap, ◌∙◌, arith, if◌then◌else◌, flat_map, find, option_map, list_any, list_all, nat_tests, common_steps, big_number, list_any-append, Shrinks, parts_of, parts_step, parts_end, Field, first_field, fields_of, are_fields, is_capability, is_parameter, are_parameters, capabilities_of, four_octet_as, names_family, found_in, first_of_two, with_later, added, gathered, all_gathered, fields_fault, opened, open_of, MessageFault, Open, fault}
+use Rattle.fs_message.{proofs.Words.{◌≡◌, ℕ, Bool, true, false, not, ◌&&◌, ◌||◌, ◌==◌, List, [], ◌∷◌, ◌++◌, length, drop, Option, Some, None, Result, Err, refl, sym, ap, ◌∙◌, arith, if◌then◌else◌, flat_map, find, option_map, list_any, list_all, nat_tests, common_steps, big_number, list_any-append, Shrinks, parts_of, parts_step, parts_end, Field, first_field, fields_of, are_fields, is_capability, is_parameter, are_parameters, capabilities_of, four_octet_as, names_family, found_in, first_of_two, with_later, added, gathered, all_gathered, fields_fault, opened, open_of, MessageFault, Open, fault}, specs.declared.capabilities.Found.{Found}}
 use Rattle.std.proofs.Math.Bool.{or_assoc, or-false, and-true}
 use Rattle.fs_base.proofs.Bools.{and_false}
-use Rattle.fs_message.specs.declared.capabilities.Found.{Found}
 
 pub field_shrinks : Shrinks first_field
 field_shrinks [] found h = cc

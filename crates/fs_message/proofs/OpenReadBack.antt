@@ -1,8 +1,6 @@
 -- Our own OPEN is read as what it says.
-use Rattle.fs_message.proofs.Words.{◌≡◌, ◌≢◌, ℕ, ◌^◌, ◌<◌, ◌==◌, ◌||◌, ◌&&◌, Bool, true, false, not, nat_lt, List, [], ◌∷◌, ◌++◌, drop, get_or, length, ◌-◌, Option, Some, None, Result, Ok, Err, refl, ap, ◌∙◌, arith, if◌then◌else◌, flat_map, list_all, byte_at, nat_tests, big_number, big_bytes, big_number-reads_back, with_part, parts_of, parts_step, parts_end, MessageFault, Open, fault, Field, field, first_field, fields_of, is_capability, is_parameter, are_parameters, capabilities_of, fields_fault, opened, open_of, as_field, family_text, open_body}
+use Rattle.fs_message.{proofs.{Words.{◌≡◌, ◌≢◌, ℕ, ◌^◌, ◌<◌, ◌==◌, ◌||◌, ◌&&◌, Bool, true, false, not, nat_lt, List, [], ◌∷◌, ◌++◌, drop, get_or, length, ◌-◌, Option, Some, None, Result, Ok, Err, refl, ap, ◌∙◌, arith, if◌then◌else◌, flat_map, list_all, byte_at, nat_tests, big_number, big_bytes, big_number-reads_back, with_part, parts_of, parts_step, parts_end, MessageFault, Open, fault, Field, field, first_field, fields_of, is_capability, is_parameter, are_parameters, capabilities_of, fields_fault, opened, open_of, as_field, family_text, open_body}, CapabilityLists.{field_shrinks, fields_chain, fields_right, tail}}, specs.Laws.{own_open}}
 use Rattle.fs_base.proofs.NumberTests.{eq_itself, not_zero}
-use Rattle.fs_message.specs.Laws.{own_open}
-use Rattle.fs_message.proofs.CapabilityLists.{field_shrinks, fields_chain, fields_right, tail}
 
 -- the capabilities of our OPEN, with the octets of the AS
 abbrev caps : ℕ → ℕ → ℕ → ℕ → List ℕ

@@ -1,8 +1,7 @@
 -- A message and a fault at the front of a stream stay what they are, whatever follows. So a stream that
 -- comes in pieces has the messages, and the fault, of the whole.
-use Rattle.fs_message.proofs.Words.{◌≡◌, ℕ, ◌+◌, ◌-◌, ◌<◌, ◌≤◌, Bool, true, false, not, ◌||◌, ◌==◌, nat_lt, List, ◌++◌, length, take, drop, Option, Some, None, refl, sym, ap, ◌∙◌, subst, inl, inr, arith, if◌then◌else◌, list_any, length-drop, length-append, take-append-le, drop-append-le, take_all, cases_lt, lt-ltb, le-ltb, nat_tests, list_any-append, take-append-add, big_number, big_from-append, Shrinks, Stable, MessageFault, Message, message_of, wrong_at, size_of, has_message, first_message, fault, marker_wrong, size_wrong, kind_wrong, kind_at, allows, header_fault, size_at}
+use Rattle.fs_message.proofs.{Words.{◌≡◌, ℕ, ◌+◌, ◌-◌, ◌<◌, ◌≤◌, Bool, true, false, not, ◌||◌, ◌==◌, nat_lt, List, ◌++◌, length, take, drop, Option, Some, None, refl, sym, ap, ◌∙◌, subst, inl, inr, arith, if◌then◌else◌, list_any, length-drop, length-append, take-append-le, drop-append-le, take_all, cases_lt, lt-ltb, le-ltb, nat_tests, list_any-append, take-append-add, big_number, big_from-append, Shrinks, Stable, MessageFault, Message, message_of, wrong_at, size_of, has_message, first_message, fault, marker_wrong, size_wrong, kind_wrong, kind_at, allows, header_fault, size_at}, BegunMessages.{chain, has, has_all, header_sound}}
 use Rattle.std.proofs.lemmas.Option.{cond_some}
-use Rattle.fs_message.proofs.BegunMessages.{chain, has, has_all, header_sound}
 
 pub has_tells : (wrong : Option MessageFault) (count size : ℕ) → has wrong count size ≡ true → (wrong ≡ None) × (19 ≤ count) × (size ≤ count)
 has_tells (Some f) count size h = cc

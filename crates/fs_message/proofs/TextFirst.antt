@@ -1,7 +1,6 @@
 -- The text of a message is the first message of any octets that begin with it.
 use Rattle.std.proofs.Common.{length-append}
-use Rattle.fs_message.proofs.Words.{◌≡◌, ℕ, ◌+◌, ◌≤◌, Bool, true, false, List, [], ◌∷◌, ◌++◌, length, take, drop, Option, Some, None, refl, ap, ◌∙◌, arith, if◌then◌else◌, replicate, byte_at, take_at, drop_at, nat_tests, big_number, big_number-reads_back, size_wrong, kind_wrong, allows, Message, message_of, wrong_at, size_of, has_message, first_message, message_text}
-use Rattle.fs_message.proofs.BegunMessages.{chain, has_all}
+use Rattle.fs_message.proofs.{Words.{◌≡◌, ℕ, ◌+◌, ◌≤◌, Bool, true, false, List, [], ◌∷◌, ◌++◌, length, take, drop, Option, Some, None, refl, ap, ◌∙◌, arith, if◌then◌else◌, replicate, byte_at, take_at, drop_at, nat_tests, big_number, big_number-reads_back, size_wrong, kind_wrong, allows, Message, message_of, wrong_at, size_of, has_message, first_message, message_text}, BegunMessages.{chain, has_all}}
 
 -- a message with its length in two octets
 abbrev headed : ℕ → ℕ → ℕ → List ℕ → List ℕ

@@ -1,6 +1,5 @@
 -- The header of a message and its faults (RFC 4271, sections 4.1 and 6.1).
-use Rattle.std.specs.Prelude.{ℕ, Bool, not, ◌||◌, ◌==◌, nat_lt, nat_le, if◌then◌else◌, List, length, take, drop, get_or, Option, Some, None}
-use Rattle.std.specs.List.{list_any}
+use Rattle.std.specs.{Prelude.{ℕ, Bool, not, ◌||◌, ◌==◌, nat_lt, nat_le, if◌then◌else◌, List, length, take, drop, get_or, Option, Some, None}, List.{list_any}}
 use Rattle.byteorder.specs.Endian.{big_number}
 use Rattle.fs_message.specs.declared.fault.MessageFault.{MessageFault}
 

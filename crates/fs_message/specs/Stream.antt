@@ -1,8 +1,6 @@
 -- The messages of an octet stream (RFC 4271, section 4.1).
-use Rattle.std.specs.Prelude.{ℕ, ◌&&◌, nat_le, if◌then◌else◌, List, length, take, drop, get_or, Bool, Option, Some, None}
-use Rattle.std.specs.Option.{is_none}
-use Rattle.fs_message.specs.declared.fault.MessageFault.{MessageFault}
-use Rattle.fs_message.specs.Header.{header_fault, size_at}
+use Rattle.std.specs.{Prelude.{ℕ, ◌&&◌, nat_le, if◌then◌else◌, List, length, take, drop, get_or, Bool, Option, Some, None}, Option.{is_none}}
+use Rattle.fs_message.specs.{declared.fault.MessageFault.{MessageFault}, Header.{header_fault, size_at}}
 
 -- A message: its type, and the octets behind its header of 19.
 pub record Message : Type 0 where

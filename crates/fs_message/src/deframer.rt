@@ -38,8 +38,7 @@ impl Model for Deframer {
 }
 
 impl Deframer {
-    ghost use Rattle.fs_message.specs.Header.{allows};
-    ghost use Rattle.fs_message.specs.Deframer.{framing, pending, standing_message, Feeds, stands_after, fault_after, frame_of};
+    ghost use Rattle.fs_message.specs.{Header.{allows}, Deframer.{framing, pending, standing_message, Feeds, stands_after, fault_after, frame_of}};
 
     /// A deframer before the first message. It takes the 4096 octets of the longest message here, and no
     /// memory later.
@@ -87,9 +86,7 @@ impl Deframer {
     }
 }
 
-ghost use Rattle.fs_message.specs.Deframer.{Feeds, IsBegun, IsWhole, IsFraming, stands_after, fault_after, Repeats, FeedsFrom, frame_of};
-ghost use Rattle.fs_message.specs.Stream.{Message, message_of};
-ghost use Rattle.fs_message.specs.Header.{allows};
+ghost use Rattle.fs_message.specs.{Deframer.{Feeds, IsBegun, IsWhole, IsFraming, stands_after, fault_after, Repeats, FeedsFrom, frame_of}, Stream.{Message, message_of}, Header.{allows}};
 
 /// The message in the first `count` octets of `held`.
 fn message_in(held: &[u8], count: usize) -> Frame<'_>

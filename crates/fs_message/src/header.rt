@@ -1,7 +1,6 @@
 //! The header of a message (RFC 4271, sections 4.1 and 6.1).
 
-ghost use Rattle.std.specs.Prelude.{◌≡◌, ◌≤◌, length, IfNone, not, ◌==◌, take};
-ghost use Rattle.std.specs.List.{list_any};
+ghost use Rattle.std.specs.{Prelude.{◌≡◌, ◌≤◌, length, IfNone, not, ◌==◌, take}, List.{list_any}};
 ghost use Rattle.fs_message.specs.Header.{marker_wrong, size_wrong, kind_wrong, allows, header_fault, size_at};
 
 use crate::MessageFault;

@@ -1,8 +1,7 @@
 //! Laws of the definitions.
 
 ghost use Rattle.fs_base.specs.Parts.{Shrinks, Stable};
-ghost use Rattle.fs_message.specs.Stream.{first_message};
-ghost use Rattle.fs_message.specs.Laws.{FaultStays, TextIsFirst, OpenIsRead, UnnamedIsRefused};
+ghost use Rattle.fs_message.specs.{Stream.{first_message}, Laws.{FaultStays, TextIsFirst, OpenIsRead, UnnamedIsRefused}};
 
 /// A message of a stream has octets, and it stands there whatever follows it; so does a fault. So the
 /// messages and the fault of a stream are those of its pieces, one after the other.

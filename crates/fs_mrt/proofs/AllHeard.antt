@@ -1,16 +1,8 @@
 -- What is known of all that is heard in a dump of octets.
-use Rattle.fs_mrt.proofs.Words.{◌≡◌, ℕ, List, [], ◌∷◌, ◌++◌, Option, Some, None, Bool, true, false, ◌<◌, ◌≤◌, ◌+◌, ◌-◌, ◌*◌, ◌^◌, ◌==◌, max, min, length, take, drop, refl, ap, sym, subst, ◌∙◌, arith, length-append, append_assoc, ◌⊎◌, inl, inr, if◌then◌else◌, IsSome, find, ⊤, nat_tests, big_number, Address, Peer, Placed, all_told, first_part, placed, got, AreHeard, HeardFits, IsHeard, IsSaid, is_same, lesser, lowest, number_at, Spoken, moment_behind, record_in, time_of, address_of, Entry, IsEntry, body_text, entry_text, entry_told, header_text, heard_as, peer_in, said_of, told, unread}
+use Rattle.fs_mrt.{proofs.{Words.{◌≡◌, ℕ, List, [], ◌∷◌, ◌++◌, Option, Some, None, Bool, true, false, ◌<◌, ◌≤◌, ◌+◌, ◌-◌, ◌*◌, ◌^◌, ◌==◌, max, min, length, refl, sym, subst, ◌∙◌, arith, length-append, append_assoc, ◌⊎◌, inl, inr, if◌then◌else◌, IsSome, find, ⊤, nat_tests, big_number, Address, Peer, Placed, all_told, first_part, placed, got, AreHeard, HeardFits, IsHeard, IsSaid, is_same, lesser, lowest, number_at, Spoken, moment_behind, record_in, time_of, address_of, Entry, IsEntry, body_text, entry_text, entry_told, header_text, heard_as, peer_in, said_of, told, unread}, Written.{record_spells, record_takes}}, specs.declared.shape.Shape.{Shape as RecordShape}}
 use Rattle.std.proofs.lemmas.Bool.{cases_lt}
-use Rattle.fs_base.specs.Config.{peer_of}
-use Rattle.fs_base.specs.Language.{IsOctets}
-use Rattle.fs_base.specs.Parts.{window}
-use Rattle.fs_base.proofs.Digits.{big_below}
-use Rattle.fs_base.proofs.Octets.{octets_drop, octets_left, octets_right, octets_take}
-use Rattle.fs_input.specs.Parts.{At, at, parts_from, to_come}
-use Rattle.fs_input.proofs.Coming.{part_found, shrinks}
-use Rattle.fs_input.proofs.PartsOfRecords.{parts_all}
-use Rattle.fs_mrt.specs.declared.shape.Shape.{Shape as RecordShape}
-use Rattle.fs_mrt.proofs.Written.{record_spells, record_takes}
+use Rattle.fs_base.{specs.{Config.{peer_of}, Language.{IsOctets}, Parts.{window}}, proofs.{Digits.{big_below}, Octets.{octets_drop, octets_left, octets_right, octets_take}}}
+use Rattle.fs_input.{specs.Parts.{At, at, parts_from, to_come}, proofs.{Coming.{part_found, shrinks}, PartsOfRecords.{parts_all}}}
 
 -- the peer of an address is configured
 

@@ -1,10 +1,7 @@
 -- Records as they stand in a dump: what is read of one, and that no other octets are.
-use Rattle.fs_mrt.proofs.Words.{◌≡◌, ℕ, List, [], ◌++◌, Option, Some, None, Bool, true, false, ◌<◌, ◌≤◌, ◌+◌, ◌-◌, ◌*◌, ◌==◌, ◌&&◌, max, length, take, drop, refl, ap, sym, subst, ◌∙◌, arith, append-nil, append_assoc, length-append, if◌then◌else◌, nat_le, drop-drop, drop_at, length-drop, nat_tests, big_number, big_from-append, Address, Peer, Takes, whole, Scanner, and, field, gives, skips, ReadsBack, number_at, Said, Spoken, body_in, change, ends_in, ends_size, family_in, front_behind, front_in, head_of, headed_in, heard_in, message, message_behind, message_in, moment_behind, record_behind, record_in, said_at, said_in, spoken, states_behind, states_in, time_of, address_of, address_size, family_of, front_size, shape_of, states_size, Body, Entry, Header, IsBody, IsEntry, IsHeader, IsSaidBy, body_text, entry_gives, entry_text, entry_told, header_text, heard_as, peer_in, said_of, shape_in, told, unread, DumpReason, Cut, Length, Front, Head, Family}
+use Rattle.fs_mrt.{proofs.Words.{◌≡◌, ℕ, List, [], ◌++◌, Option, Some, None, Bool, true, false, ◌<◌, ◌≤◌, ◌+◌, ◌-◌, ◌*◌, ◌==◌, ◌&&◌, max, length, take, drop, refl, ap, sym, subst, ◌∙◌, arith, append-nil, append_assoc, length-append, if◌then◌else◌, nat_le, drop-drop, drop_at, length-drop, nat_tests, big_number, big_from-append, Address, Peer, Takes, whole, Scanner, and, field, gives, skips, ReadsBack, number_at, Said, Spoken, body_in, change, ends_in, ends_size, family_in, front_behind, front_in, head_of, headed_in, heard_in, message, message_behind, message_in, moment_behind, record_behind, record_in, said_at, said_in, spoken, states_behind, states_in, time_of, address_of, address_size, family_of, front_size, shape_of, states_size, Body, Entry, Header, IsBody, IsEntry, IsHeader, IsSaidBy, body_text, entry_gives, entry_text, entry_told, header_text, heard_as, peer_in, said_of, shape_in, told, unread, DumpReason, Cut, Length, Front, Head, Family}, specs.declared.{fault.DumpReason.TheVariants.{Family as WrongFamily, Message as WrongMessage}, shape.Shape.{Shape as RecordShape}}}
 use Rattle.fs_base.proofs.Bools.{and_parts}
-use Rattle.fs_input.proofs.Spelling.{Part, Reads, Spells, and_reads, and_spells, cut_at, fails_spells, field_reads, field_spells, gives_reads, gives_spells, map_reads, map_spells, needs_reads, needs_spells, part_spells, skips_reads, skips_spells}
-use Rattle.fs_input.proofs.Written.{IsSpelled, spelled_takes, told_text}
-use Rattle.fs_mrt.specs.declared.fault.DumpReason.TheVariants.{Family as WrongFamily, Message as WrongMessage}
-use Rattle.fs_mrt.specs.declared.shape.Shape.{Shape as RecordShape}
+use Rattle.fs_input.proofs.{Spelling.{Part, Reads, Spells, and_reads, and_spells, cut_at, fails_spells, field_reads, field_spells, gives_reads, gives_spells, map_reads, map_spells, needs_reads, needs_spells, part_spells, skips_reads, skips_spells}, Written.{IsSpelled, spelled_takes, told_text}}
 
 -- messages and states
 

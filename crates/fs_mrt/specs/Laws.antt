@@ -1,14 +1,8 @@
 -- What is known of all that is heard in a dump, and which octets a dump is that is done.
 use Rattle.std.specs.Prelude.{ℕ, List, [], ◌∷◌, IsSome, ◌≡◌, ◌↔◌, ◌≤◌, ◌<◌, ◌^◌, length, ⊤}
-use Rattle.fs_base.specs.Config.{peer_of}
-use Rattle.fs_base.specs.Language.{IsOctets}
-use Rattle.fs_base.specs.declared.config.Config.{Config}
-use Rattle.fs_base.specs.declared.config.Peer.{Peer}
-use Rattle.fs_input.specs.Records.{done}
-use Rattle.fs_input.specs.Coming.{IsTextOf}
-use Rattle.fs_mrt.specs.Dump.{dump_of}
-use Rattle.fs_mrt.specs.Record.{Said, Spoken, change, message}
-use Rattle.fs_mrt.specs.Written.{entry_gives, entry_text, IsEntry}
+use Rattle.fs_base.specs.{Config.{peer_of}, Language.{IsOctets}, declared.config.{Config.{Config}, Peer.{Peer}}}
+use Rattle.fs_input.specs.{Records.{done}, Coming.{IsTextOf}}
+use Rattle.fs_mrt.specs.{Dump.{dump_of}, Record.{Said, Spoken, change, message}, Written.{entry_gives, entry_text, IsEntry}}
 
 abbrev pub IsSaid : Said → Type 0
 IsSaid (message octets) = IsOctets octets × (length octets ≤ 65536)

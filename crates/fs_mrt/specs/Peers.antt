@@ -1,8 +1,6 @@
 -- The configured peer of an address.
 use Rattle.std.specs.Prelude.{ℕ, List, [], ◌∷◌, Option, Some, None, Bool, false, ◌==◌, min, if◌then◌else◌}
-use Rattle.fs_base.specs.declared.config.Address.{Address}
-use Rattle.fs_base.specs.declared.config.Address.TheVariants.{V4, V6}
-use Rattle.fs_base.specs.declared.config.Peer.{Peer}
+use Rattle.fs_base.specs.declared.config.{Address.{Address, TheVariants.{V4, V6}}, Peer.{Peer}}
 
 abbrev pub is_same : Address → Address → Bool
 is_same (V4 one) (V4 other) = one == other

@@ -1,10 +1,7 @@
 -- Which records of a dump are read, and how they are laid out (RFC 6396 sections 4.4 and 4.5).
 use Rattle.std.specs.Prelude.{ℕ, List, Option, Some, None, Bool, true, false, ◌+◌, ◌==◌, if◌then◌else◌}
 use Rattle.byteorder.specs.Endian.{big_number}
-use Rattle.fs_base.specs.declared.config.Address.{Address}
-use Rattle.fs_base.specs.declared.config.Address.TheVariants.{V4 as V4Address, V6 as V6Address}
-use Rattle.fs_base.specs.declared.prefix.Family.{Family}
-use Rattle.fs_base.specs.declared.prefix.Family.TheVariants.{V4, V6}
+use Rattle.fs_base.specs.declared.{config.Address.{Address, TheVariants.{V4 as V4Address, V6 as V6Address}}, prefix.Family.{Family, TheVariants.{V4, V6}}}
 use Rattle.fs_mrt.specs.declared.shape.Shape.{Shape as RecordShape}
 
 -- subtypes: a change of state or a message, with AS numbers of two octets (0, 1) or of four (5, 4)

@@ -1,10 +1,7 @@
 //! Taking the fields of a body.
 ghost use Rattle.std.specs.Prelude.{◌≡◌, ◌≤◌, ◌+◌, [], IfOk, IsTrue, length, take, drop};
-ghost use Rattle.fs_input.specs.Reads.{Scans, whole};
-ghost use Rattle.fs_input.specs.Scan.{field};
-ghost use Rattle.fs_mrt.specs.Record.{message_in, states_in, said_in};
-ghost use Rattle.fs_mrt.specs.Dump.{IsWithin, said_from};
-ghost use Rattle.fs_mrt.specs.declared.fault.DumpReason.TheVariants.{Cut};
+ghost use Rattle.fs_input.specs.{Reads.{Scans, whole}, Scan.{field}};
+ghost use Rattle.fs_mrt.specs.{Record.{said_in}, Dump.{IsWithin, said_from}, declared.fault.DumpReason.TheVariants.{Cut}};
 
 use crate::fault::{DumpFault, DumpReason};
 use crate::heard::What;
@@ -37,71 +34,6 @@ pub(crate) fn take_part<F: Files>(
     )
 }
 
-/// Reads a message of so many octets.
-pub(crate) fn take_message<F: Files>(
-    size: usize,
-    counted: &mut Counted,
-    files: &mut F,
-    into: &mut [u8],
-) -> Result<What, DumpFault>
-    requires room { 65536 ≤ length into.old }
-    requires size { size ≤ 65536 }
-    requires none { counted.old.back ≡ [] }
-    ensures none { counted.new.back ≡ [] }
-    ensures room { length into.new ≡ length into.old }
-    ensures within { IfOk result IsWithin }
-    ensures grows { IfOk result (λ _. counted.old.taken ≤ counted.new.taken) }
-    ensures reads { Scans F.Files files.old files.new (message_in size) Cut counted.old counted.new
-        (λ what. said_from what into.new) result }
-{
-    let place = counted.taken;
-    let wrong = DumpFault::Bad {
-        reason: DumpReason::Message,
-        place,
-    };
-    if size < 19 {
-        return Err(wrong);
-    }
-    if let Err(fault) = take_part(0, 18, counted, files, into) {
-        return Err(fault);
-    }
-    if BigEndian::read_u16(&into[16..]) as usize != size {
-        return Err(wrong);
-    }
-    if let Err(fault) = take_part(18, size - 18, counted, files, into) {
-        return Err(fault);
-    }
-    Ok(What::Message(size))
-}
-
-/// Reads the states of a body that has so many octets left.
-pub(crate) fn take_states<F: Files>(
-    size: usize,
-    counted: &mut Counted,
-    files: &mut F,
-    into: &mut [u8],
-) -> Result<What, DumpFault>
-    requires room { 65536 ≤ length into.old }
-    requires some { 4 ≤ size }
-    requires none { counted.old.back ≡ [] }
-    ensures none { counted.new.back ≡ [] }
-    ensures room { length into.new ≡ length into.old }
-    ensures within { IfOk result IsWithin }
-    ensures grows { IfOk result (λ _. counted.old.taken ≤ counted.new.taken) }
-    ensures reads { Scans F.Files files.old files.new (states_in size) Cut counted.old counted.new
-        (λ what. said_from what into.new) result }
-{
-    if let Err(fault) = take_part(0, 4, counted, files, into) {
-        return Err(fault);
-    }
-    let old = BigEndian::read_u16(into);
-    let new = BigEndian::read_u16(&into[2..]);
-    if let Err(fault) = skip_octets(DumpReason::Cut, (size - 4) as u64, counted, files, into) {
-        return Err(fault);
-    }
-    Ok(What::Change { old, new })
-}
-
 /// Reads a message or the states, in a body that has so many octets left.
 pub(crate) fn take_said<F: Files>(
     change: bool,
@@ -122,8 +54,32 @@ pub(crate) fn take_said<F: Files>(
         (λ what. said_from what into.new) result }
 {
     if change {
-        take_states(size, counted, files, into)
-    } else {
-        take_message(size, counted, files, into)
+        if let Err(fault) = take_part(0, 4, counted, files, into) {
+            return Err(fault);
+        }
+        let old = BigEndian::read_u16(into);
+        let new = BigEndian::read_u16(&into[2..]);
+        return match skip_octets(DumpReason::Cut, (size - 4) as u64, counted, files, into) {
+            Ok(()) => Ok(What::Change { old, new }),
+            Err(fault) => Err(fault),
+        };
     }
+    let place = counted.taken;
+    let wrong = DumpFault::Bad {
+        reason: DumpReason::Message,
+        place,
+    };
+    if size < 19 {
+        return Err(wrong);
+    }
+    if let Err(fault) = take_part(0, 18, counted, files, into) {
+        return Err(fault);
+    }
+    if BigEndian::read_u16(&into[16..]) as usize != size {
+        return Err(wrong);
+    }
+    if let Err(fault) = take_part(18, size - 18, counted, files, into) {
+        return Err(fault);
+    }
+    Ok(What::Message(size))
 }

@@ -1,13 +1,8 @@
 //! A record behind its head.
-ghost use Rattle.std.specs.Prelude.{◌≡◌, ◌≤◌, ◌<◌, ◌+◌, ◌*◌, ◌-◌, [], ℕ, IfOk, IfSome, length, max};
-ghost use Rattle.std.specs.Option.{option_map};
+ghost use Rattle.std.specs.{Prelude.{◌≡◌, ◌≤◌, ◌<◌, ◌+◌, ◌*◌, ◌-◌, [], ℕ, IfOk, IfSome, length, max}, Option.{option_map}};
 ghost use Rattle.byteorder.specs.Endian.{big_number};
-ghost use Rattle.fs_input.specs.Reads.{Scans};
-ghost use Rattle.fs_input.specs.Scan.{field};
-ghost use Rattle.fs_mrt.specs.Dump.{IsWithin, spoken_from};
-ghost use Rattle.fs_mrt.specs.Record.{body_in, ends_size, family_in, front_in, heard_in, time_of};
-ghost use Rattle.fs_mrt.specs.Shape.{address_of, address_size, front_size, states_size};
-ghost use Rattle.fs_mrt.specs.declared.fault.DumpReason.TheVariants.{Cut};
+ghost use Rattle.fs_input.specs.{Reads.{Scans}, Scan.{field}};
+ghost use Rattle.fs_mrt.specs.{Dump.{IsWithin, spoken_from}, Record.{body_in, ends_size, family_in, front_in, heard_in, time_of}, Shape.{address_of, address_size, front_size, states_size}, declared.fault.DumpReason.TheVariants.{Cut}};
 
 use crate::fault::{DumpFault, DumpReason};
 use crate::fields::{take_part, take_said};

@@ -39,11 +39,8 @@ impl Records {
 }
 
 impl Parts for Records {
-    ghost use Rattle.std.specs.Prelude.{Some, None};
-    ghost use Rattle.std.proofs.Common.{rules, refl};
-    ghost use Rattle.fs_mrt.specs.Dump.{Moves, spoken_from};
-    ghost use Rattle.fs_mrt.specs.Record.{Spoken, record_behind};
-    ghost use Rattle.fs_mrt.specs.declared.fault.DumpReason.TheVariants.{Cut};
+    ghost use Rattle.std.{specs.Prelude.{Some, None}, proofs.Common.{rules, refl}};
+    ghost use Rattle.fs_mrt.specs.{Dump.{Moves, spoken_from}, Record.{Spoken, record_behind}, declared.fault.DumpReason.TheVariants.{Cut}};
 
     type Given = Config;
 

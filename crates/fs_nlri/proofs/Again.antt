@@ -1,8 +1,5 @@
 -- The canonical octets of what is in normal form spell it.
-use Rattle.fs_nlri.proofs.Words.{◌≡◌, ℕ, suc, ◌+◌, ◌-◌, ◌*◌, ◌/◌, ◌%◌, ◌^◌, ◌<◌, ◌≤◌, ◌==◌, ◌↔◌, Bool, true, false, List, [], ◌∷◌, ◌++◌, Option, Some, None, Contains, length, nat_lt, if◌then◌else◌, refl, ap, sym, subst, ◌∙◌, arith, inl, inr, list_any, mod-eq_of_lt, mul_assoc, pow-add, shl-shr, append-nil, false≢true, and_parts, eqb-true, ltb-true, or_cases, big_number, length-bytes_high_first, big_number-reads_back, Family, V4, cleared, IsOctets, block_of, block_below, octets_right, width_code, AreAllowed, canonical_spells, Form, V4Form, V6Form, ListForm, form_of, all_allowed, Body, V4Body, V6Body, ListBody, Part, Ruled, octets_for, first_bits, SpellsBody, SpellsAt, Spells, IsLength, IsFrame, IsNormalBody, IsNormalAt, AreNormal, IsRule, first_octets, canonical_body, canonical_value, canonical_length, canonical_frame}
-use Rattle.fs_nlri.proofs.Writable.{high_octets_fit}
-use Rattle.fs_nlri.proofs.NormalForm.{kept_value}
-use Rattle.fs_nlri.proofs.Frames.{one_rule, length_small}
+use Rattle.fs_nlri.proofs.{Words.{◌≡◌, ℕ, suc, ◌+◌, ◌-◌, ◌*◌, ◌/◌, ◌%◌, ◌^◌, ◌<◌, ◌≤◌, ◌==◌, ◌↔◌, Bool, true, false, List, [], ◌∷◌, ◌++◌, Option, Some, None, Contains, length, nat_lt, if◌then◌else◌, refl, ap, sym, subst, ◌∙◌, arith, inl, inr, list_any, mod-eq_of_lt, mul_assoc, pow-add, shl-shr, append-nil, false≢true, and_parts, eqb-true, ltb-true, or_cases, big_number, length-bytes_high_first, big_number-reads_back, Family, V4, cleared, IsOctets, block_of, block_below, octets_right, width_code, AreAllowed, canonical_spells, Form, V4Form, V6Form, ListForm, form_of, all_allowed, Body, V4Body, V6Body, ListBody, Part, Ruled, octets_for, first_bits, SpellsBody, SpellsAt, Spells, IsLength, IsFrame, IsNormalBody, IsNormalAt, AreNormal, IsRule, first_octets, canonical_body, canonical_value, canonical_length, canonical_frame}, Writable.{high_octets_fit}, NormalForm.{kept_value}, Frames.{one_rule, length_small}}
 
 -- a number whose low bits are 0 loses nothing where fewer low bits are dropped and put back
 put_back : (j k bits : ℕ) → k ≤ j → bits ≡ bits / 2 ^ j * 2 ^ j → bits / 2 ^ k * 2 ^ k ≡ bits

@@ -1,14 +1,10 @@
 -- What the readers of bodies have found, at each of their ends.
-use Rattle.fs_nlri.proofs.Words.{◌≡◌, ℕ, zero, suc, ◌+◌, ◌-◌, ◌*◌, ◌%◌, ◌^◌, ◌<◌, ◌≤◌, List, [], ◌∷◌, Option, Some, length, get_or, take, drop, refl, ap, sym, subst, ◌∙◌, arith, take_all, length-take-le, pow-add, pow_pos, mul-lt-mul_of_pos_right, mod-eq_of_lt, pow-le-pow_right, pow-succ', big_number, big_from-lt, NoFront, IsCut, IsFirstFault, cleared, cut_as, fault_as, Kind, IsText, all_said, V4Form, V6Form, ListForm, kept_bits, V6Body, ListBody, SpellsV6, SpellsList, IsRange, octets_for, IsBody, IsBodyFault, list_fault}
-use Rattle.fs_ops.specs.OperatorList.{Spells as SpellsPairs}
-use Rattle.fs_ops.specs.Fault.{CanBeWide, IsFault}
-use Rattle.fs_ops.specs.declared.fault.OpsFault.{OpsFault}
-use Rattle.fs_ops.specs.declared.fault.OpsFault.TheVariants.{Cut, Width, Memory}
-use Rattle.fs_nlri.proofs.Bodies.{v4_empty, v4_length, v4_cut, v6_empty, v6_length, v6_one, v6_offset, v6_cut}
+use Rattle.fs_nlri.proofs.{Words.{◌≡◌, ℕ, zero, suc, ◌+◌, ◌-◌, ◌*◌, ◌%◌, ◌^◌, ◌<◌, ◌≤◌, List, [], ◌∷◌, Option, Some, length, get_or, take, drop, refl, ap, sym, subst, ◌∙◌, arith, take_all, length-take-le, pow-add, pow_pos, mul-lt-mul_of_pos_right, mod-eq_of_lt, pow-le-pow_right, pow-succ', big_number, big_from-lt, NoFront, IsCut, IsFirstFault, cleared, cut_as, fault_as, Kind, IsText, all_said, Form, V4Form, V6Form, ListForm, kept_bits, V6Body, ListBody, SpellsV6, SpellsList, IsRange, octets_for, IsBody, IsBodyFault, list_fault}, Bodies.{v4_length, v4_cut, v6_length, v6_one, v6_offset, v6_cut}}
+use Rattle.fs_ops.specs.{OperatorList.{Spells as SpellsPairs}, Fault.{CanBeWide, IsFault}, declared.fault.OpsFault.{OpsFault, TheVariants.{Cut, Width, Memory}}}
 
-pub v4_none : (octets : List ℕ) → length octets < 1 → NoFront (IsBody V4Form) octets × IsCut (IsBody V4Form) octets 0
-v4_none [] none = v4_empty
-v4_none (len ∷ tail) none = absurd (omega arith)
+pub none_left : (form : Form) → NoFront (IsBody form) [] × IsCut (IsBody form) [] 0 → (octets : List ℕ) → length octets < 1 → NoFront (IsBody form) octets × IsCut (IsBody form) octets 0
+none_left form empty [] none = empty
+none_left form empty (len ∷ tail) none = absurd (omega arith)
 
 pub v4_long : (octets : List ℕ) → 1 ≤ length octets → 32 < get_or octets 0 0 → NoFront (IsBody V4Form) octets × IsFirstFault (IsBody V4Form) octets 0 × ◌≡◌ {A = ℕ} 0 0
 v4_long [] some long = absurd (omega arith)
@@ -22,10 +18,6 @@ v4_few (len ∷ tail) count some short is few =
     let found = v4_cut len tail short lacks in
     let e : 1 + length tail ≡ suc (length tail) = omega arith in
     (found.0, subst (λ (place : ℕ). IsCut (IsBody V4Form) (len ∷ tail) place) e found.1)
-
-pub v6_none : (octets : List ℕ) → length octets < 1 → NoFront (IsBody V6Form) octets × IsCut (IsBody V6Form) octets 0
-v6_none [] none = v6_empty
-v6_none (len ∷ tail) none = absurd (omega arith)
 
 pub v6_long : (octets : List ℕ) → 1 ≤ length octets → 128 < get_or octets 0 0 → NoFront (IsBody V6Form) octets × IsFirstFault (IsBody V6Form) octets 0 × ◌≡◌ {A = ℕ} 0 0
 v6_long [] some long = absurd (omega arith)

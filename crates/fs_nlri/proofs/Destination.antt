@@ -1,8 +1,7 @@
 -- The destination of a rule: types rise, so a component of type 1 stands first; and its prefix is made as any prefix is.
-use Rattle.fs_nlri.proofs.Words.{◌≡◌, ℕ, ◌≤◌, ◌<◌, ◌==◌, Bool, true, false, cond, if◌then◌else◌, List, [], ◌∷◌, Option, Some, None, option_map, min, refl, ap, sym, subst, ◌∙◌, arith, eqb-true, Family, V4, V6, width_of, cleared, slice_get, Component, part_of, parts_of, form_of, Body, V4Body, V6Body, ListBody, Part, Ruled, IsRule, IsNormalAt, AreNormal, shown, destination_body, destination_part, destination_in, destination_of, destination_prefix, IsSoundBody}
+use Rattle.fs_nlri.proofs.{Words.{◌≡◌, ℕ, ◌≤◌, ◌<◌, ◌==◌, Bool, true, false, cond, if◌then◌else◌, List, [], ◌∷◌, Option, Some, None, option_map, min, refl, ap, sym, subst, ◌∙◌, arith, eqb-true, Family, V4, V6, width_of, cleared, slice_get, Component, part_of, parts_of, form_of, Body, V4Body, V6Body, ListBody, Part, Ruled, IsRule, IsNormalAt, AreNormal, shown, destination_body, destination_part, destination_in, destination_of, destination_prefix, IsSoundBody}, Sound.{sound_part}}
 use Rattle.std.proofs.lemmas.Bool.Decides.{nat_tests}
 use Rattle.fs_base.specs.Prefix.{prefix_of}
-use Rattle.fs_nlri.proofs.Sound.{sound_part}
 
 not_first : (kind : ℕ) → 1 < kind → (kind == 1) ≡ false
 not_first kind above = grind (arith, nat_tests)

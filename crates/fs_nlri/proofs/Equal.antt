@@ -1,8 +1,6 @@
 -- Rules are compared by their components.
 use Rattle.fs_nlri.proofs.Words.{◌≡◌, Bool, true, ◌==◌, ◌&&◌, List, refl, sym, ap, ap₂, ◌∙◌, Family, V4, V6, afi_of, Component, part_of, parts_of, Ruled, ruled, same_part, same_rule}
-use Rattle.std.specs.Ordering.{on}
-use Rattle.std.specs.Cmp.Lexicographic.{pointwise}
-use Rattle.std.specs.Cmp.Derive.Mapped.{pointwise-map}
+use Rattle.std.specs.{Ordering.{on}, Cmp.{Lexicographic.{pointwise}, Derive.Mapped.{pointwise-map}}}
 use Rattle.fs_base.specs.contracts.prefix.FamilyPartialEq.TheImpl.{ghosts}
 
 pub same_families : (f g : Family) → ghosts.eq f g ≡ (afi_of f == afi_of g)

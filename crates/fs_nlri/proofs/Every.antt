@@ -1,12 +1,6 @@
 -- Each octet list has an outcome: as a value, as a frame, and as a field of frames.
-use Rattle.fs_nlri.proofs.Words.{◌≡◌, ℕ, zero, suc, ◌+◌, ◌-◌, ◌*◌, ◌<◌, ◌≤◌, List, [], ◌∷◌, ◌++◌, Option, Some, None, IsSome, Result, false, Ok, Err, Any, get_or, length, take, drop, refl, ap, sym, subst, ◌∙◌, arith, ◌⊎◌, inl, inr, append_assoc, length-append, length-drop, take-append-drop, take_rest, length-take-le, cases_lt, cases_eq, both_ways, Family, V4, V6, Kind, Reason, Cut, NoType, Order, PrefixLength, Offset, Width, Length, Bad, Form, V4Form, V6Form, ListForm, form_of, forms, kept_bits, Body, V4Body, V6Body, ListBody, Part, part, Ruled, ruled, SpellsV4, SpellsV6, SpellsBody, SpellsAt, Spells, IsRange, IsLength, IsFrame, octets_for, first_bits, IsValueBad, IsOpen, IsBodyBad, IsFrameOutcome, IsFieldOutcome}
-use Rattle.fs_ops.specs.declared.fault.OpsFault.TheVariants.{Cut as ListCut, Width as ListWidth, Memory as ListMemory}
-use Rattle.fs_ops.proofs.Every.{every, IsOutcome}
-use Rattle.fs_nlri.proofs.Bodies.{v4_empty, v4_length, v4_cut, v6_empty, v6_length, v6_one, v6_offset, v6_cut}
-use Rattle.fs_nlri.proofs.BodyReaders.{list_bad}
-use Rattle.fs_nlri.proofs.Fronts.{front_more}
-use Rattle.fs_nlri.proofs.ValueSteps.{HasRead, start, finished, no_type, not_above, bad_at}
-use Rattle.fs_nlri.proofs.Frames.{same_head, frame_found, frame_bad}
+use Rattle.fs_nlri.proofs.{Words.{◌≡◌, ℕ, zero, suc, ◌+◌, ◌-◌, ◌*◌, ◌<◌, ◌≤◌, List, [], ◌∷◌, ◌++◌, Option, Some, None, IsSome, Result, false, Ok, Err, Any, get_or, length, take, drop, refl, ap, sym, subst, ◌∙◌, arith, ◌⊎◌, inl, inr, append_assoc, length-append, length-drop, take-append-drop, take_rest, length-take-le, cases_lt, cases_eq, both_ways, Family, V4, V6, Kind, Reason, Cut, NoType, Order, PrefixLength, Offset, Width, Length, Bad, Form, V4Form, V6Form, ListForm, form_of, forms, kept_bits, Body, V4Body, V6Body, ListBody, Part, part, Ruled, ruled, SpellsV4, SpellsV6, SpellsBody, SpellsAt, Spells, IsRange, IsLength, IsFrame, octets_for, first_bits, IsValueBad, IsOpen, IsBodyBad, IsFrameOutcome, IsFieldOutcome}, Bodies.{v4_empty, v4_length, v4_cut, v6_empty, v6_length, v6_one, v6_offset, v6_cut}, BodyReaders.{list_bad}, Fronts.{front_more}, ValueSteps.{HasRead, start, finished, no_type, not_above, bad_at}, Frames.{same_head, frame_found, frame_bad}}
+use Rattle.fs_ops.{specs.declared.fault.OpsFault.TheVariants.{Cut as ListCut, Width as ListWidth, Memory as ListMemory}, proofs.Every.{every, IsOutcome}}
 
 -- Bodies
 

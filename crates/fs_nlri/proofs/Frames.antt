@@ -1,8 +1,6 @@
 -- Frames: one at most stands at the front of octets, and what its reader has found says what it answers.
-use Rattle.fs_nlri.proofs.Words.{◌≡◌, ℕ, ◌+◌, ◌-◌, ◌*◌, ◌<◌, ◌≤◌, List, [], ◌∷◌, ◌++◌, Result, Ok, Err, IfOk, IfErr, length, take, drop, refl, ap, sym, subst, ◌∙◌, arith, append_assoc, append-nil, take-append-drop, take_rest, length-take-le, Family, IsOctets, fault_whole, append_same, octets_left, octets_right, octets_take, octets_drop, Reason, Cut, NoType, Order, PrefixLength, Offset, Width, Length, NlriFault, Bad, Memory, Part, Ruled, ruled, Spells, IsValue, IsLength, IsFrame, IsValueBad, IsValueFault, IsBadFrame, IsFrameBad, IsFrameFault, ReadsAs, IsRule, canonical_value}
+use Rattle.fs_nlri.proofs.{Words.{◌≡◌, ℕ, ◌+◌, ◌-◌, ◌*◌, ◌<◌, ◌≤◌, List, [], ◌∷◌, ◌++◌, Result, Ok, Err, IfOk, IfErr, length, take, drop, refl, ap, sym, subst, ◌∙◌, arith, append_assoc, append-nil, take-append-drop, take_rest, length-take-le, Family, IsOctets, fault_whole, append_same, octets_left, octets_right, octets_take, octets_drop, Reason, Cut, NoType, Order, PrefixLength, Offset, Width, Length, NlriFault, Bad, Memory, Part, Ruled, ruled, Spells, IsValue, IsLength, IsFrame, IsValueBad, IsValueFault, IsBadFrame, IsFrameBad, IsFrameFault, ReadsAs, IsRule, canonical_value}, Fronts.{whole_front, front_behind}, NormalForm.{kept_value}}
 use Rattle.std.proofs.Math.Seq.{take-add}
-use Rattle.fs_nlri.proofs.Fronts.{whole_front, front_behind}
-use Rattle.fs_nlri.proofs.NormalForm.{kept_value}
 
 -- a value spells one list of components at most
 pub one_value : (family : Family) (last : ℕ) (octets : List ℕ) (one other : List Part) → Spells family last octets one → Spells family last octets other → one ≡ other
@@ -121,13 +119,8 @@ frame_bad family octets head len (Bad reason place) is room bad = by_reason reas
   }
 
   by_reason : (reason : Reason) → IsValueBad family (take len behind) reason place → IsFrameBad family octets reason place
-  by_reason Cut bad = bad_frame Cut bad
-  by_reason NoType bad = bad_frame NoType bad
-  by_reason Order bad = bad_frame Order bad
-  by_reason PrefixLength bad = bad_frame PrefixLength bad
-  by_reason Offset bad = bad_frame Offset bad
-  by_reason Width bad = bad_frame Width bad
   by_reason Length bad = absurd bad
+  by_reason reason bad = bad_frame reason bad
 
 pub frame_rule : (family : Family) (octets : List ℕ) (head len : ℕ) (parts : List Part) → IsOctets octets → IsLength (take head octets) len → len ≤ length (take (length octets - head) (drop head octets)) → Spells family 0 (take len (take (length octets - head) (drop head octets))) parts → IsRule (ruled family parts)
 frame_rule family octets head len parts are is room spells =
@@ -180,13 +173,8 @@ frame_no_fault family octets frame rest rule reason place are split families is 
       })
 
   by_reason : (reason : Reason) → IsFrameBad family octets reason place → ⊥
-  by_reason Cut bad = not_bad Cut bad
-  by_reason NoType bad = not_bad NoType bad
-  by_reason Order bad = not_bad Order bad
-  by_reason PrefixLength bad = not_bad PrefixLength bad
-  by_reason Offset bad = not_bad Offset bad
-  by_reason Width bad = not_bad Width bad
   by_reason Length bad = bad.0 is.head is.value rest is.size text
+  by_reason reason bad = not_bad reason bad
 
 abbrev pub IsRead : Family → List ℕ → Result (Ruled × ℕ) NlriFault → Type 0
 IsRead family octets (Ok read) = (read.1 ≤ length octets) × (read.0.family ≡ family) × IsFrame (take read.1 octets) read.0

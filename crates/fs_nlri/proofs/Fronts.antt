@@ -1,6 +1,5 @@
 -- Whole components at the front of a value, and how a value goes on behind them.
-use Rattle.fs_nlri.proofs.Words.{◌≡◌, ℕ, ◌<◌, List, [], ◌∷◌, ◌++◌, Option, Some, None, refl, ap, sym, subst, ◌∙◌, append_assoc, append-nil, Family, Leads, Form, form_of, Body, Part, part, SpellsAt, Spells, IsValue}
-use Rattle.fs_nlri.proofs.Bodies.{SameBody, same_body}
+use Rattle.fs_nlri.proofs.{Words.{◌≡◌, ℕ, ◌<◌, List, [], ◌∷◌, ◌++◌, Option, Some, None, refl, ap, sym, subst, ◌∙◌, append_assoc, append-nil, Family, Leads, Form, form_of, Body, Part, part, SpellsAt, Spells, IsValue}, Bodies.{SameBody, same_body}}
 
 -- the octets spell these components, whose types rise from above `last` to `end`
 abbrev pub SpellsFront : Family → (last end : ℕ) → List ℕ → List Part → Type 0

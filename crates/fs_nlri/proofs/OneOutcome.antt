@@ -1,10 +1,5 @@
 -- No octet list has two outcomes.
-use Rattle.fs_nlri.proofs.Words.{◌≡◌, ℕ, suc, ◌+◌, ◌<◌, ◌≤◌, List, [], ◌∷◌, ◌++◌, Option, Some, None, IsSome, IsNone, Result, Ok, Err, length, take, drop, refl, ap, sym, subst, ◌∙◌, arith, ◌⊎◌, inl, inr, append_assoc, length-append, length-take, true, false, ◌==◌, if◌then◌else◌, append-nil, take-append-drop, take_at, take_all, take-take, length-take-le, cases_order, both_ways, Family, IsOctets, NoFront, IsCut, IsFirstFault, one_fault, cut_or_fault, append_same, overlap, octets_left, octets_right, Kind, text, behind, no_list, Reason, Cut, NoType, Order, PrefixLength, Offset, Width, Length, Form, V4Form, V6Form, ListForm, form_of, Part, Ruled, Spells, IsValue, IsFrame, IsTypePlace, IsBodyPlace, IsRole, HasRole, IsValueBad, IsOpen, IsBadFrame, IsFrameBad, IsBody, Frames, IsFrameOutcome, IsFieldOutcome}
-use Rattle.fs_nlri.proofs.Bodies.{no_empty_body}
-use Rattle.fs_nlri.proofs.Fronts.{whole_front, front_behind}
-use Rattle.fs_nlri.proofs.ValueFaults.{opening}
-use Rattle.fs_nlri.proofs.Frames.{one_rule, same_frame, frame_no_fault}
-use Rattle.fs_nlri.proofs.Every.{frame_some}
+use Rattle.fs_nlri.proofs.{Words.{◌≡◌, ℕ, suc, ◌+◌, ◌<◌, ◌≤◌, List, [], ◌∷◌, ◌++◌, Option, Some, None, IsSome, IsNone, Result, Ok, Err, length, take, drop, refl, ap, sym, subst, ◌∙◌, arith, ◌⊎◌, inl, inr, append_assoc, length-append, length-take, true, false, ◌==◌, if◌then◌else◌, append-nil, take-append-drop, take_at, take_all, take-take, length-take-le, cases_order, both_ways, Family, IsOctets, NoFront, IsCut, IsFirstFault, one_fault, cut_or_fault, append_same, overlap, octets_left, octets_right, Kind, text, behind, no_list, Reason, Cut, NoType, Order, PrefixLength, Offset, Width, Length, Form, V4Form, V6Form, ListForm, form_of, Part, Ruled, Spells, IsValue, IsFrame, IsTypePlace, IsBodyPlace, IsRole, HasRole, IsValueBad, IsOpen, IsBadFrame, IsFrameBad, IsBody, Frames, IsFrameOutcome, IsFieldOutcome}, Bodies.{no_empty_body}, Fronts.{whole_front, front_behind}, ValueFaults.{opening}, Frames.{one_rule, same_frame, frame_no_fault}, Every.{frame_some}}
 
 -- Before the octet of a role no body ends
 

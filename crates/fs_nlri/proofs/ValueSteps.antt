@@ -1,7 +1,5 @@
 -- What the reader of a value has found when it stands before a type, and what follows from it at each of its ends.
-use Rattle.fs_nlri.proofs.Words.{◌≡◌, ℕ, suc, ◌+◌, ◌-◌, ◌<◌, ◌≤◌, List, [], ◌∷◌, ◌++◌, Option, Some, None, IsSome, IsNone, length, get_or, take, drop, refl, ap, sym, subst, ◌∙◌, arith, append_assoc, length-append, append-nil, take-append-drop, take_all, take_rest, map-append, Family, NoFront, IsCut, IsFirstFault, fault_after, cut_after, Component, Reason, Cut, NoType, Order, PrefixLength, Offset, Width, Length, NlriFault, Bad, Memory, Form, form_of, Part, part_of, parts_of, SpellsAt, Spells, IsValue, IsTypePlace, IsBodyPlace, IsRole, IsValueBad, IsValueFault, moved, IsBody, IsFaultAt}
-use Rattle.fs_nlri.proofs.Fronts.{SpellsFront, front_whole, front_more, front_behind, front_leads}
-use Rattle.fs_nlri.proofs.ValueFaults.{kind_fault, body_fault, body_cut, no_value}
+use Rattle.fs_nlri.proofs.{Words.{◌≡◌, ℕ, suc, ◌+◌, ◌-◌, ◌<◌, ◌≤◌, List, [], ◌∷◌, ◌++◌, Option, Some, None, IsSome, IsNone, length, get_or, take, drop, refl, ap, sym, subst, ◌∙◌, arith, append_assoc, length-append, append-nil, take-append-drop, take_all, take_rest, map-append, Family, NoFront, IsCut, IsFirstFault, fault_after, cut_after, Component, Reason, Cut, NoType, Order, PrefixLength, Offset, Width, Length, NlriFault, Bad, Memory, Form, form_of, Part, part_of, parts_of, SpellsAt, Spells, IsValue, IsTypePlace, IsBodyPlace, IsRole, IsValueBad, IsValueFault, moved, IsBody, IsFaultAt}, Fronts.{SpellsFront, front_whole, front_more, front_behind, front_leads}, ValueFaults.{kind_fault, body_fault, body_cut, no_value}}
 
 -- these components stand before what is left
 pub record HasRead (family : Family) (octets rest : List ℕ) (last : ℕ) (parts : List Part) : Type 0 where
@@ -21,19 +19,21 @@ finished family octets (kind ∷ tail) last parts read none = absurd (omega arit
 place_is : (octets front rest : List ℕ) → octets ≡ front ++ rest → length octets - length rest ≡ length front
 place_is octets front rest split = let whole : length octets ≡ length front + length rest = ap length split ∙ length-append front rest in omega arith
 
+-- what holds at a place of all octets, told from what is left
+at_rest : (octets front rest : List ℕ) (place : ℕ) (P : List ℕ → ℕ → Type 0) → octets ≡ front ++ rest → P (front ++ rest) (length front + place) → P octets (length octets - length rest + place)
+at_rest octets front rest place P split is =
+    let e : length front + place ≡ length octets - length rest + place = ap (λ (n : ℕ). n + place) (sym (place_is octets front rest split)) in
+    subst (λ (l : List ℕ). P l (length octets - length rest + place)) (sym split) (subst (λ (n : ℕ). P (front ++ rest) n) e is)
+
 lift_fault : (family : Family) (octets rest : List ℕ) (last : ℕ) (parts : List Part) (place : ℕ) → HasRead family octets rest last parts → IsFirstFault (IsValue family last) rest place → IsFirstFault (IsValue family 0) octets (length octets - length rest + place)
 lift_fault family octets rest last parts place read fault =
-    let lifted = fault_after (IsValue family last) (IsValue family 0) read.front rest place (front_leads family 0 last read.front parts read.had) fault in
-    let e : length read.front + place ≡ length octets - length rest + place = ap (λ (n : ℕ). n + place) (sym (place_is octets read.front rest read.split)) in
-    subst (λ (l : List ℕ). IsFirstFault (IsValue family 0) l (length octets - length rest + place)) (sym read.split)
-    (subst (λ (n : ℕ). IsFirstFault (IsValue family 0) (read.front ++ rest) n) e lifted)
+    at_rest octets read.front rest place (IsFirstFault (IsValue family 0)) read.split
+    (fault_after (IsValue family last) (IsValue family 0) read.front rest place (front_leads family 0 last read.front parts read.had) fault)
 
 lift_cut : (family : Family) (octets rest : List ℕ) (last : ℕ) (parts : List Part) (place : ℕ) → HasRead family octets rest last parts → IsCut (IsValue family last) rest place → IsCut (IsValue family 0) octets (length octets - length rest + place)
 lift_cut family octets rest last parts place read cut =
-    let lifted = cut_after (IsValue family last) (IsValue family 0) read.front rest place (front_leads family 0 last read.front parts read.had) cut in
-    let e : length read.front + place ≡ length octets - length rest + place = ap (λ (n : ℕ). n + place) (sym (place_is octets read.front rest read.split)) in
-    subst (λ (l : List ℕ). IsCut (IsValue family 0) l (length octets - length rest + place)) (sym read.split)
-    (subst (λ (n : ℕ). IsCut (IsValue family 0) (read.front ++ rest) n) e lifted)
+    at_rest octets read.front rest place (IsCut (IsValue family 0)) read.split
+    (cut_after (IsValue family last) (IsValue family 0) read.front rest place (front_leads family 0 last read.front parts read.had) cut)
 
 lift_none : (family : Family) (octets rest : List ℕ) (last : ℕ) (parts : List Part) → HasRead family octets rest last parts → (IsValue family last rest → ⊥) → IsValue family 0 octets → ⊥
 lift_none family octets rest last parts read none value =

@@ -1,12 +1,7 @@
 -- The types of components that a family has, and the form of each (RFC 8955 section 4.2.2, RFC 8956 section 3).
-use Rattle.std.specs.Prelude.{ℕ, List, [], ◌∷◌, Option, Some, None, get_or, map, bit_and, Bool, ◌==◌}
-use Rattle.std.specs.List.{list_all, list_any}
-use Rattle.fs_base.specs.declared.prefix.Family.{Family}
-use Rattle.fs_base.specs.declared.prefix.Family.TheVariants.{V4, V6}
-use Rattle.fs_ops.specs.declared.kind.Kind.{Kind}
-use Rattle.fs_ops.specs.declared.kind.Kind.TheVariants.{Numeric, Bitmask}
-use Rattle.fs_ops.specs.Operator.{width_code}
-use Rattle.fs_ops.specs.Fault.{all_widths}
+use Rattle.std.specs.{Prelude.{ℕ, List, [], ◌∷◌, Option, Some, None, get_or, map, bit_and, Bool, ◌==◌}, List.{list_all, list_any}}
+use Rattle.fs_base.specs.declared.prefix.Family.{Family, TheVariants.{V4, V6}}
+use Rattle.fs_ops.specs.{declared.kind.Kind.{Kind, TheVariants.{Numeric, Bitmask}}, Operator.{width_code}, Fault.{all_widths}}
 
 -- V4Form: a length and the octets that hold so many bits.
 -- V6Form: a length, an offset and the octets that hold the bits between them.

@@ -1,14 +1,7 @@
 -- Laws of frames. They speak of the rules of one family, since a frame doesn't say its own.
 use Rattle.std.specs.Prelude.{◌≡◌, ◌↔◌, ℕ, List, [], ◌++◌, length, nat_le, if◌then◌else◌, Result, Ok, Err}
-use Rattle.fs_base.specs.declared.prefix.Family.{Family}
-use Rattle.fs_base.specs.Language.{IsOctets}
-use Rattle.fs_nlri.specs.declared.fault.Reason.{Reason}
-use Rattle.fs_nlri.specs.Outcome.{IsFrameOutcome, IsFieldOutcome}
-use Rattle.fs_nlri.specs.declared.fault.RuleFault.TheVariants.{TooLong}
-use Rattle.fs_nlri.specs.Making.{rule_of}
-use Rattle.fs_nlri.specs.Parts.{Part, Ruled, ruled}
-use Rattle.fs_nlri.specs.Spelling.{IsFrame}
-use Rattle.fs_nlri.specs.Rule.{IsRule, AreNormal, canonical_frame, canonical_value}
+use Rattle.fs_base.specs.{declared.prefix.Family.{Family}, Language.{IsOctets}}
+use Rattle.fs_nlri.specs.{declared.fault.{Reason.{Reason}, RuleFault.TheVariants.{TooLong}}, Outcome.{IsFrameOutcome, IsFieldOutcome}, Making.{rule_of}, Parts.{Part, Ruled, ruled}, Spelling.{IsFrame}, Rule.{IsRule, AreNormal, canonical_frame, canonical_value}}
 
 -- no frame is a proper prefix of another
 abbrev pub NoFrameGoesOn : Type 0

@@ -1,11 +1,7 @@
 -- What octets are as a frame at their front, and as a field of frames one after the other: each octet list has exactly one outcome.
 use Rattle.std.specs.Prelude.{◌≡◌, ℕ, ◌≤◌, List, [], ◌++◌, length, take, Result, Ok, Err}
 use Rattle.fs_base.specs.declared.prefix.Family.{Family}
-use Rattle.fs_nlri.specs.declared.fault.Reason.{Reason}
-use Rattle.fs_nlri.specs.Parts.{Ruled}
-use Rattle.fs_nlri.specs.Spelling.{IsFrame}
-use Rattle.fs_nlri.specs.Fault.{IsFrameBad}
-use Rattle.fs_nlri.specs.Feed.{Frames}
+use Rattle.fs_nlri.specs.{declared.fault.Reason.{Reason}, Parts.{Ruled}, Spelling.{IsFrame}, Fault.{IsFrameBad}, Feed.{Frames}}
 
 -- the rule of the frame at the front with the count of its octets, or a reason and a place
 abbrev pub IsFrameOutcome : Family → List ℕ → Result (Ruled × ℕ) (Reason × ℕ) → Type 0

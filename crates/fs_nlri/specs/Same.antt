@@ -1,12 +1,6 @@
 -- Equality of components and of rules as `==` has it: equal parts, one after the other.
-use Rattle.std.specs.Prelude.{◌≡◌, Bool, false, ◌==◌, ◌&&◌}
-use Rattle.std.proofs.Common.{refl, ap}
-use Rattle.std.specs.Bool.{Decides}
-use Rattle.std.specs.Cmp.{IsEquivalence, unsigned_Decides, decided}
-use Rattle.std.specs.Cmp.Lexicographic.{pointwise, pointwise_decides}
-use Rattle.fs_base.specs.declared.prefix.Family.{Family}
-use Rattle.fs_base.specs.declared.prefix.Family.TheVariants.{V4, V6}
-use Rattle.fs_base.specs.Bits.{afi_of}
+use Rattle.std.{specs.{Prelude.{◌≡◌, Bool, false, ◌==◌, ◌&&◌}, Bool.{Decides}, Cmp.{IsEquivalence, unsigned_Decides, decided, Lexicographic.{pointwise, pointwise_decides}}}, proofs.Common.{refl, ap}}
+use Rattle.fs_base.specs.{declared.prefix.Family.{Family, TheVariants.{V4, V6}}, Bits.{afi_of}}
 use Rattle.fs_ops.specs.Same.{same_pairs, both_decide, same_pairs_decides}
 use Rattle.fs_nlri.specs.Parts.{Body, V4Body, V6Body, ListBody, Part, Ruled}
 

@@ -1,11 +1,8 @@
 -- What each component of a rule has, whatever its family and its type: what stands behind the type is in normal form.
 use Rattle.std.specs.Prelude.{◌≡◌, ◌-◌, ◌≤◌, List, [], ◌∷◌}
-use Rattle.fs_base.specs.declared.prefix.Family.TheVariants.{V4}
-use Rattle.fs_base.specs.Bits.{cleared}
-use Rattle.fs_ops.specs.declared.kind.Kind.{Kind}
-use Rattle.fs_ops.specs.OperatorList.{IsNormal}
-use Rattle.fs_nlri.specs.Parts.{Body, V4Body, V6Body, ListBody, Part}
-use Rattle.fs_nlri.specs.Spelling.{IsRange}
+use Rattle.fs_base.specs.{declared.prefix.Family.TheVariants.{V4}, Bits.{cleared}}
+use Rattle.fs_ops.specs.{declared.kind.Kind.{Kind}, OperatorList.{IsNormal}}
+use Rattle.fs_nlri.specs.{Parts.{Body, V4Body, V6Body, ListBody, Part}, Spelling.{IsRange}}
 
 abbrev pub IsSoundBody : Body → Type 0
 IsSoundBody (V4Body family len bits) = (family ≡ V4) × (len ≤ 32) × (bits ≡ cleared 32 len bits)

@@ -1,13 +1,9 @@
 -- How octets spell a rule (RFC 8955 section 4, RFC 8956 section 3). Bits that are to be ignored are free.
 use Rattle.std.specs.Prelude.{◌≡◌, ℕ, ◌+◌, ◌-◌, ◌*◌, ◌/◌, ◌^◌, ◌<◌, ◌≤◌, List, [], ◌∷◌, ◌++◌, length, Option, Some, None, ◌⊎◌}
 use Rattle.byteorder.specs.Endian.{big_number}
-use Rattle.fs_base.specs.declared.prefix.Family.{Family}
-use Rattle.fs_base.specs.declared.prefix.Family.TheVariants.{V4}
-use Rattle.fs_base.specs.Bits.{cleared}
-use Rattle.fs_ops.specs.declared.kind.Kind.{Kind}
-use Rattle.fs_ops.specs.OperatorList.{Spells as SpellsPairs}
-use Rattle.fs_nlri.specs.Forms.{Form, V4Form, V6Form, ListForm, form_of, kept_bits}
-use Rattle.fs_nlri.specs.Parts.{Body, V4Body, V6Body, ListBody, Part, Ruled}
+use Rattle.fs_base.specs.{declared.prefix.Family.{Family, TheVariants.{V4}}, Bits.{cleared}}
+use Rattle.fs_ops.specs.{declared.kind.Kind.{Kind}, OperatorList.{Spells as SpellsPairs}}
+use Rattle.fs_nlri.specs.{Forms.{Form, V4Form, V6Form, ListForm, form_of, kept_bits}, Parts.{Body, V4Body, V6Body, ListBody, Part, Ruled}}
 
 abbrev pub octets_for : ℕ → ℕ
 octets_for bits = (bits + 7) / 8

@@ -3,14 +3,10 @@
 ghost use Rattle.std.specs.Prelude.{◌≡◌, ◌+◌, ◌-◌, ◌*◌, ◌/◌, ◌^◌, ◌<◌, ◌≤◌, ◌↔◌, length, take, IfOk, IfErr, IsTrue};
 ghost use Rattle.byteorder.specs.Endian.{big_number};
 ghost use Rattle.fs_ops.specs.Fault.{CanBeWide};
-ghost use Rattle.fs_nlri.specs.Forms.{V4Form, V6Form, ListForm, prefix_form, number_form, fragment_bits};
-ghost use Rattle.fs_nlri.specs.Parts.{ListBody};
-ghost use Rattle.fs_nlri.specs.Component.{body_of};
-ghost use Rattle.fs_nlri.specs.Spelling.{SpellsBody, octets_for};
-ghost use Rattle.fs_nlri.specs.Body.{IsBodyFault};
+ghost use Rattle.fs_nlri.specs.{Forms.{V4Form, V6Form, ListForm, prefix_form, number_form, fragment_bits}, Parts.{ListBody}, Component.{body_of}, Spelling.{SpellsBody, octets_for}, Body.{IsBodyFault}};
 
 use crate::component::PrefixForm;
-use crate::fault::{NlriFault, Reason};
+use crate::fault::{NlriFault, Reason, bad};
 use crate::given::{ALL_WIDTHS, has_range};
 use crate::size::octets_for_bits;
 use byteorder::{BigEndian, ByteOrder};
@@ -19,7 +15,7 @@ use fs_ops::{NumList, OfKind, OperatorList};
 use std::alloc::Global;
 
 /// The octets as the highest of a number of `width` bits.
-fn left_aligned(octets: &[u8], width: usize) -> u128
+pub fn left_aligned(octets: &[u8], width: usize) -> u128
     requires fits { 8 * length octets.now ≤ width }
     requires width { width ≤ 128 }
     ensures { result ≡ big_number (length octets.now) octets.now * 2 ^ (width - 8 * length octets.now) }
@@ -48,23 +44,14 @@ fn read_v4(octets: &[u8]) -> Result<(PrefixForm, usize), NlriFault>
     ensures fault { IfErr result (IsBodyFault V4Form octets.now) }
 {
     let [length, tail @ ..] = octets else {
-        return Err(NlriFault::Bad {
-            reason: Reason::Cut,
-            place: 0,
-        });
+        return Err(bad(Reason::Cut, 0));
     };
     if *length > 32 {
-        return Err(NlriFault::Bad {
-            reason: Reason::PrefixLength,
-            place: 0,
-        });
+        return Err(bad(Reason::PrefixLength, 0));
     }
     let count = octets_for_bits(*length);
     if tail.len() < count {
-        return Err(NlriFault::Bad {
-            reason: Reason::Cut,
-            place: octets.len(),
-        });
+        return Err(bad(Reason::Cut, octets.len()));
     }
     let prefix = Prefix::of_bits(Family::V4, left_aligned(&tail[..count], 32), *length);
     Ok((PrefixForm::V4(prefix), 1 + count))
@@ -76,36 +63,21 @@ fn read_v6(octets: &[u8]) -> Result<(PrefixForm, usize), NlriFault>
     ensures fault { IfErr result (IsBodyFault V6Form octets.now) }
 {
     let [length, ..] = octets else {
-        return Err(NlriFault::Bad {
-            reason: Reason::Cut,
-            place: 0,
-        });
+        return Err(bad(Reason::Cut, 0));
     };
     if *length > 128 {
-        return Err(NlriFault::Bad {
-            reason: Reason::PrefixLength,
-            place: 0,
-        });
+        return Err(bad(Reason::PrefixLength, 0));
     }
     let [_, offset, tail @ ..] = octets else {
-        return Err(NlriFault::Bad {
-            reason: Reason::Cut,
-            place: 1,
-        });
+        return Err(bad(Reason::Cut, 1));
     };
     if !has_range(*length, *offset) {
-        return Err(NlriFault::Bad {
-            reason: Reason::Offset,
-            place: 1,
-        });
+        return Err(bad(Reason::Offset, 1));
     }
     let bits = *length - *offset;
     let count = octets_for_bits(bits);
     if tail.len() < count {
-        return Err(NlriFault::Bad {
-            reason: Reason::Cut,
-            place: octets.len(),
-        });
+        return Err(bad(Reason::Cut, octets.len()));
     }
     let pattern = Prefix::of_bits(Family::V6, left_aligned(&tail[..count], 128), bits);
     let form = PrefixForm::V6 {

@@ -2,9 +2,7 @@
 
 ghost use Rattle.std.specs.Prelude.{◌≡◌, ◌-◌, IfOk};
 ghost use Rattle.fs_base.specs.Bits.{cleared};
-ghost use Rattle.fs_nlri.specs.Forms.{prefix_form};
-ghost use Rattle.fs_nlri.specs.Component.{body_of, part_of, parts_of};
-ghost use Rattle.fs_nlri.specs.Making.{cleared_body, cleared_part, cleared_parts};
+ghost use Rattle.fs_nlri.specs.{Forms.{prefix_form}, Component.{body_of, part_of, parts_of}, Making.{cleared_body, cleared_part, cleared_parts}};
 
 use crate::body::bits_of_fragment;
 use crate::component::{Component, PrefixForm};
@@ -63,10 +61,7 @@ fn clear(family: Family, component: Component) -> Component
 
 impl Component {
     ghost use Rattle.std.specs.Prelude.{◌≡◌, is_some, IfSome, IfNone};
-    ghost use Rattle.fs_nlri.specs.Forms.{form_of};
-    ghost use Rattle.fs_nlri.specs.Component.{part_of};
-    ghost use Rattle.fs_nlri.specs.Rule.{IsNormalAt};
-    ghost use Rattle.fs_nlri.specs.Making.{cleared_part, part_given};
+    ghost use Rattle.fs_nlri.specs.{Forms.{form_of}, Component.{part_of}, Rule.{IsNormalAt}, Making.{cleared_part, part_given}};
 
     /// The component in normal form: the bits that are to be ignored are cleared. None exactly where the family doesn't
     /// give the component, or its type the form and the widths that it has.

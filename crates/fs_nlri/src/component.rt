@@ -58,11 +58,8 @@ pub enum Content<'a> {
 }
 
 impl Component {
-    ghost use Rattle.std.specs.Prelude.{◌≡◌};
-    ghost use Rattle.std.specs.Option.{option_map};
-    ghost use Rattle.fs_nlri.specs.Component.{content_body, part_of};
-    ghost use Rattle.fs_nlri.specs.Rule.{shown, destination_part};
-    ghost use Rattle.fs_nlri.specs.Sound.{IsSoundBody};
+    ghost use Rattle.std.specs.{Prelude.{◌≡◌}, Option.{option_map}};
+    ghost use Rattle.fs_nlri.specs.{Component.{content_body, part_of}, Rule.{shown, destination_part}, Sound.{IsSoundBody}};
 
     /// The type's number, 1 to 13 (RFC 8955 section 4.2.2, RFC 8956 section 3).
     pub fn kind(&self) -> u8
@@ -121,11 +118,8 @@ impl Component {
 }
 
 impl PrefixForm {
-    ghost use Rattle.std.specs.Prelude.{◌≡◌};
-    ghost use Rattle.std.specs.Option.{option_map};
-    ghost use Rattle.fs_nlri.specs.Component.{body_of};
-    ghost use Rattle.fs_nlri.specs.Rule.{shown, destination_body};
-    ghost use Rattle.fs_nlri.specs.Sound.{IsSoundBody};
+    ghost use Rattle.std.specs.{Prelude.{◌≡◌}, Option.{option_map}};
+    ghost use Rattle.fs_nlri.specs.{Component.{body_of}, Rule.{shown, destination_body}, Sound.{IsSoundBody}};
 
     /// The prefix of addresses that the component stands for, or None where its offset isn't 0.
     pub(crate) fn prefix(&self) -> Option<Prefix>

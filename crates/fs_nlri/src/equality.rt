@@ -1,8 +1,7 @@
 //! Equality of components and of rules.
 
 ghost use Rattle.std.specs.Prelude.{◌≡◌};
-ghost use Rattle.fs_nlri.specs.Component.{content_body};
-ghost use Rattle.fs_nlri.specs.Same.{same_body};
+ghost use Rattle.fs_nlri.specs.{Component.{content_body}, Same.{same_body}};
 
 use crate::component::{Component, Content};
 use crate::rule::Rule;
@@ -23,10 +22,8 @@ fn have_same_body(a: Content<'_>, b: Content<'_>) -> bool
 }
 
 impl PartialEq for Component {
-    ghost use Rattle.std.specs.Ordering.{on};
-    ghost use Rattle.std.specs.Cmp.{on_equiv, partial_equiv_from_equiv};
-    ghost use Rattle.fs_nlri.specs.Component.{part_of};
-    ghost use Rattle.fs_nlri.specs.Same.{same_part, same_part_law};
+    ghost use Rattle.std.specs.{Ordering.{on}, Cmp.{on_equiv, partial_equiv_from_equiv}};
+    ghost use Rattle.fs_nlri.specs.{Component.{part_of}, Same.{same_part, same_part_law}};
 
     ghost eq = { on part_of same_part };
 
@@ -39,8 +36,7 @@ impl PartialEq for Component {
 
 impl Eq for Component {
     ghost use Rattle.std.specs.Cmp.{on_equiv};
-    ghost use Rattle.fs_nlri.specs.Component.{part_of};
-    ghost use Rattle.fs_nlri.specs.Same.{same_part_law};
+    ghost use Rattle.fs_nlri.specs.{Component.{part_of}, Same.{same_part_law}};
 
     ghost laws = { on_equiv part_of same_part_law };
 }

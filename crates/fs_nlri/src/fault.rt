@@ -1,9 +1,7 @@
 //! Why octets spell no rule, and why components make none.
 
 ghost use Rattle.std.specs.Prelude.{◌≡◌};
-ghost use Rattle.fs_nlri.specs.declared.fault.NlriFault.TheVariants.{Memory as NoMemory};
-ghost use Rattle.fs_nlri.specs.declared.fault.RuleFault.TheVariants.{Memory as NoRuleMemory};
-ghost use Rattle.fs_nlri.specs.Fault.{list_fault};
+ghost use Rattle.fs_nlri.specs.{declared.fault.{NlriFault.TheVariants.{Bad, Memory as NoMemory}, RuleFault.TheVariants.{Memory as NoRuleMemory}}, Fault.{list_fault}};
 
 use fs_base::Memory;
 use fs_ops::OpsFault;
@@ -34,6 +32,13 @@ pub enum Reason {
 pub enum NlriFault {
     Bad { reason: Reason, place: usize },
     Memory,
+}
+
+/// The fault of octets of this reason, at this place.
+pub(crate) fn bad(reason: Reason, place: usize) -> NlriFault
+    ensures { result ≡ Bad reason place }
+{
+    NlriFault::Bad { reason, place }
 }
 
 /// Why components make no rule: the first that holds, in this order.
@@ -77,14 +82,8 @@ impl From<OpsFault> for NlriFault {
 
     fn from(fault: OpsFault) -> NlriFault {
         match fault {
-            OpsFault::Cut { place } => NlriFault::Bad {
-                reason: Reason::Cut,
-                place,
-            },
-            OpsFault::Width { place } => NlriFault::Bad {
-                reason: Reason::Width,
-                place,
-            },
+            OpsFault::Cut { place } => bad(Reason::Cut, place),
+            OpsFault::Width { place } => bad(Reason::Width, place),
             OpsFault::Memory => NlriFault::Memory,
         }
     }

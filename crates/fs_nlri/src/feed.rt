@@ -1,8 +1,7 @@
 //! Frames that come in pieces.
 
 ghost use Rattle.std.specs.Prelude.{◌≤◌, ◌++◌, length, OnOk, IfOk, IfErr};
-ghost use Rattle.fs_nlri.specs.Fault.{IsOpen};
-ghost use Rattle.fs_nlri.specs.Feed.{Appends, Stops, left_over};
+ghost use Rattle.fs_nlri.specs.{Fault.{IsOpen}, Feed.{Appends, Stops, left_over}};
 
 use crate::fault::{NlriFault, Reason};
 use crate::frame::decode;

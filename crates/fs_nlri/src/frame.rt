@@ -1,11 +1,9 @@
 //! Frames: a length and a value (RFC 8955 section 4.1).
 
 ghost use Rattle.std.specs.Prelude.{◌≡◌, ◌+◌, ◌<◌, ◌≤◌, ◌++◌, ℕ, List, length, take, IfOk, IfErr, IfSome, IfNone};
-ghost use Rattle.fs_nlri.specs.Parts.{Ruled};
-ghost use Rattle.fs_nlri.specs.Spelling.{IsLength, IsFrame};
-ghost use Rattle.fs_nlri.specs.Fault.{IsOpen, IsFrameFault, ReadsItsFrame};
+ghost use Rattle.fs_nlri.specs.{Parts.{Ruled}, Spelling.{IsLength, IsFrame}, Fault.{IsOpen, IsFrameFault, ReadsItsFrame}};
 
-use crate::fault::{NlriFault, Reason};
+use crate::fault::{NlriFault, Reason, bad};
 use crate::rule::Rule;
 use crate::value::read_components;
 use fs_base::Family;
@@ -45,10 +43,7 @@ fn read_frame(alloc: Global, family: Family, octets: &[u8]) -> Result<(Rule, usi
     ensures found { IfOk result (λ read. IsFrame (take read.1 octets.now) read.0) }
     ensures fault { IfErr result (IsFrameFault family octets.now) }
 {
-    let cut = NlriFault::Bad {
-        reason: Reason::Length,
-        place: octets.len(),
-    };
+    let cut = bad(Reason::Length, octets.len());
     let Some((head, length)) = read_length(octets) else {
         return Err(cut);
     };

@@ -1,13 +1,8 @@
 //! Whether components are the family's, by rising types (RFC 8955 section 4.2, RFC 8956 section 3).
 
-ghost use Rattle.std.specs.Prelude.{◌≡◌, ◌↔◌, IsTrue, IfNone};
-ghost use Rattle.std.specs.Bool.{OnTrue};
-ghost use Rattle.std.specs.List.{AllByRecursion};
+ghost use Rattle.std.specs.{Prelude.{◌≡◌, ◌↔◌, IsTrue, IfNone}, Bool.{OnTrue}};
 ghost use Rattle.fs_ops.specs.OperatorList.{IsNormal};
-ghost use Rattle.fs_nlri.specs.Forms.{all_allowed, prefix_form};
-ghost use Rattle.fs_nlri.specs.Component.{body_of, part_of, parts_of};
-ghost use Rattle.fs_nlri.specs.Spelling.{IsRange};
-ghost use Rattle.fs_nlri.specs.Making.{is_range, body_given, part_given, all_given, rises, IsTypedBody, IsTyped, fault_in};
+ghost use Rattle.fs_nlri.specs.{Forms.{all_allowed, prefix_form}, Component.{body_of, part_of, parts_of}, Spelling.{IsRange}, Making.{is_range, body_given, part_given, all_given, rises, IsTypedBody, IsTyped, AreTyped, fault_in}};
 
 use crate::component::{Component, PrefixForm};
 use crate::fault::RuleFault;
@@ -89,7 +84,7 @@ pub(crate) fn is_given(family: Family, component: &Component) -> bool
 /// Whether all components are the family's.
 fn are_given(family: Family, components: &[Component]) -> bool
     ensures value { result ≡ all_given family (parts_of components.now) }
-    ensures sound { OnTrue result (AllByRecursion (IsTyped family) (parts_of components.now)) }
+    ensures sound { OnTrue result (AreTyped family (parts_of components.now)) }
 {
     for component in components {
         if !is_given(family, component) {
@@ -117,7 +112,7 @@ fn rise(components: &[Component]) -> bool
 /// The first cause why the components make no rule of the family, but for their size.
 pub(crate) fn fault_in(family: Family, components: &[Component]) -> Option<RuleFault>
     ensures fault { result ≡ fault_in family (parts_of components.now) }
-    ensures typed { IfNone result (AllByRecursion (IsTyped family) (parts_of components.now)) }
+    ensures typed { IfNone result (AreTyped family (parts_of components.now)) }
 {
     if !are_given(family, components) {
         return Some(RuleFault::NotOfFamily);

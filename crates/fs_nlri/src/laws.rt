@@ -1,7 +1,6 @@
 //! Laws of rules and frames, each proved as the contract of a function that does nothing.
 
-ghost use Rattle.fs_nlri.specs.Laws.{NoFrameGoesOn, CanonicalIsFrame, CanonicalIsOwn, CanonicalTells, EachBeginsSomehow, EachIsAField, BeginsOneWay, IsOneField, NormalMakes};
-ghost use Rattle.fs_nlri.specs.Same.{OnlySameParts, OnlySameRules};
+ghost use Rattle.fs_nlri.specs.{Laws.{NoFrameGoesOn, CanonicalIsFrame, CanonicalIsOwn, CanonicalTells, EachBeginsSomehow, EachIsAField, BeginsOneWay, IsOneField, NormalMakes}, Same.{OnlySameParts, OnlySameRules}};
 
 /// No frame of a family is a proper prefix of another.
 pub fn no_frame_goes_on()

@@ -19,6 +19,7 @@ mod size;
 mod value;
 mod writing;
 
+pub use body::left_aligned;
 pub use component::{Component, Content, PrefixForm};
 pub use fault::{NlriFault, Reason, RuleFault};
 pub use feed::Feed;

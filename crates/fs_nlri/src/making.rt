@@ -11,11 +11,8 @@ use fs_base::{Family, Memory, Prefix};
 use std::alloc::Global;
 
 impl Rule {
-    ghost use Rattle.std.specs.Prelude.{◌≡◌, IfOk};
-    ghost use Rattle.std.specs.Option.{option_map};
-    ghost use Rattle.fs_nlri.specs.Component.{parts_of};
-    ghost use Rattle.fs_nlri.specs.Rule.{IsRule, shown, destination_of};
-    ghost use Rattle.fs_nlri.specs.Making.{rule_of, Makes};
+    ghost use Rattle.std.specs.{Prelude.{◌≡◌, IfOk}, Option.{option_map}};
+    ghost use Rattle.fs_nlri.specs.{Component.{parts_of}, Rule.{IsRule, shown, destination_of}, Making.{rule_of, Makes}};
 
     /// The rule of these components. The bits that normal form clears are cleared. The faults are tested in the
     /// order of `RuleFault`.

@@ -13,9 +13,7 @@ pub struct Rule {
 }
 
 impl Model for Rule {
-    ghost use Rattle.fs_nlri.specs.Parts.{Ruled, ruled};
-    ghost use Rattle.fs_nlri.specs.Component.{parts_of};
-    ghost use Rattle.fs_nlri.specs.Rule.{IsRule};
+    ghost use Rattle.fs_nlri.specs.{Parts.{Ruled, ruled}, Component.{parts_of}, Rule.{IsRule}};
 
     ghost Value = { Ruled };
 
@@ -26,9 +24,7 @@ impl Model for Rule {
 
 impl Rule {
     ghost use Rattle.std.specs.Prelude.{◌≡◌};
-    ghost use Rattle.fs_nlri.specs.Component.{parts_of};
-    ghost use Rattle.fs_nlri.specs.Rule.{IsRule};
-    ghost use Rattle.fs_nlri.specs.Sound.{AreSound};
+    ghost use Rattle.fs_nlri.specs.{Component.{parts_of}, Rule.{IsRule}, Sound.{AreSound}};
 
     /// The family.
     pub fn family(&self) -> Family

@@ -1,9 +1,7 @@
 //! The count of octets that a rule's value has (RFC 8955 section 4.1).
 
 ghost use Rattle.std.specs.Prelude.{◌≡◌, ◌<◌, ◌≤◌, nat_le, length};
-ghost use Rattle.fs_nlri.specs.Spelling.{octets_for};
-ghost use Rattle.fs_nlri.specs.Component.{body_of, part_of, parts_of};
-ghost use Rattle.fs_nlri.specs.Rule.{canonical_body, canonical_part, canonical_value};
+ghost use Rattle.fs_nlri.specs.{Spelling.{octets_for}, Component.{body_of, part_of, parts_of}, Rule.{canonical_body, canonical_part, canonical_value}};
 
 use crate::component::{Component, Content, PrefixForm};
 

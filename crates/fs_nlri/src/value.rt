@@ -1,16 +1,12 @@
 //! Values: components one after the other.
 
 ghost use Rattle.std.specs.Prelude.{◌≡◌, ◌+◌, ◌^◌, ◌<◌, ◌≤◌, ◌↔◌, length, take, IfOk, IfErr, IsTrue, IsSome};
-ghost use Rattle.fs_nlri.specs.Forms.{form_of};
-ghost use Rattle.fs_nlri.specs.Component.{part_of, parts_of};
-ghost use Rattle.fs_nlri.specs.Spelling.{SpellsAt, Spells};
-ghost use Rattle.fs_nlri.specs.Fault.{IsValueFault, moved, place_of};
-ghost use Rattle.fs_nlri.specs.Body.{IsFaultAt};
+ghost use Rattle.fs_nlri.specs.{Forms.{form_of}, Component.{part_of, parts_of}, Spelling.{SpellsAt, Spells}, Fault.{IsValueFault, moved, place_of}, Body.{IsFaultAt}};
 
 use crate::body::{bits_of_fragment, read_list, read_numbers, read_prefix};
 use crate::component::Component;
 use crate::counting::count_components;
-use crate::fault::{NlriFault, Reason};
+use crate::fault::{NlriFault, Reason, bad};
 use crate::given::{DSCP_BITS, FLAG_WIDTHS, ONE_OCTET};
 use fs_base::Family;
 use std::alloc::Global;
@@ -31,10 +27,7 @@ fn after(fault: NlriFault, count: usize) -> NlriFault
     ensures { result ≡ moved count fault }
 {
     match fault {
-        NlriFault::Bad { reason, place } => NlriFault::Bad {
-            reason,
-            place: count + place,
-        },
+        NlriFault::Bad { reason, place } => bad(reason, count + place),
         NlriFault::Memory => NlriFault::Memory,
     }
 }
@@ -130,16 +123,10 @@ pub(crate) fn read_components(
     while let [kind, tail @ ..] = rest {
         let place = octets.len() - rest.len();
         if !has_type(family, *kind) {
-            return Err(NlriFault::Bad {
-                reason: Reason::NoType,
-                place,
-            });
+            return Err(bad(Reason::NoType, place));
         }
         if *kind <= last {
-            return Err(NlriFault::Bad {
-                reason: Reason::Order,
-                place,
-            });
+            return Err(bad(Reason::Order, place));
         }
         match read_component(alloc, family, *kind, tail) {
             Ok((component, taken)) => {

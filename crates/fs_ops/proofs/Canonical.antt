@@ -1,6 +1,5 @@
 -- The octets that are written for a list in normal form: they say the list, and are as many as any that say it.
-use Rattle.fs_ops.proofs.Words.{◌≡◌, ℕ, suc, ◌+◌, ◌^◌, ◌<◌, ◌≤◌, ◌==◌, false, List, [], ◌∷◌, ◌++◌, length, map, bit_and, refl, ap, sym, subst, ◌∙◌, arith, Contains, length-append, AllByRecursion, append-nil, and_le_r, and_comm, and_assoc, and-not, eqb-true, not-false, big_number, big_bytes, length-bytes_high_first, big_number-reads_back, Kind, Numeric, Bitmask, meant_bits, first_bits, width_code, width_of, joins, Written, octets_of, text, IsPair, IsList, said, all_said, Spells, pair_octets, canonical, IsNormalPair, AreNormal, IsNormal, first_joins}
-use Rattle.fs_ops.proofs.Normal.{first_normal, IsMask, meant_mask, first_mask, masked_width, masked_code}
+use Rattle.fs_ops.proofs.{Words.{◌≡◌, ℕ, suc, ◌+◌, ◌^◌, ◌<◌, ◌≤◌, ◌==◌, false, List, [], ◌∷◌, ◌++◌, length, map, bit_and, refl, ap, sym, subst, ◌∙◌, arith, Contains, length-append, AllByRecursion, append-nil, and_le_r, and_comm, and_assoc, and-not, eqb-true, not-false, big_number, big_bytes, length-bytes_high_first, big_number-reads_back, Kind, Numeric, Bitmask, meant_bits, first_bits, width_code, width_of, joins, Written, octets_of, text, IsPair, IsList, said, all_said, Spells, pair_octets, canonical, IsNormalPair, AreNormal, IsNormal, first_joins}, Normal.{first_normal, IsMask, meant_mask, first_mask, masked_width, masked_code}}
 
 -- each value has one of these widths
 abbrev pub AreAllowed : List ℕ → List (ℕ × ℕ) → Type 0
@@ -40,22 +39,18 @@ all_back bits mask pair (next ∷ pairs) normal clear =
     ap (λ (p : ℕ × ℕ). p ∷ map (said bits) (map written_of (next ∷ pairs))) (said_back bits mask pair normal.0 clear)
     ∙ ap (λ (l : List (ℕ × ℕ)). pair ∷ l) (all_back bits bits next pairs normal.2 (first_normal bits next pairs normal.2).clear)
 
--- without its AND bit the first operator loses nothing more
-first_is : (kind : Kind) → first_bits kind ≡ bit_and (meant_bits kind) 191
-first_is Numeric = refl
-first_is Bitmask = refl
-
 pub small_bits : (kind : Kind) → meant_bits kind < 256
 small_bits Numeric = omega arith
 small_bits Bitmask = omega arith
 
+-- without its AND bit the first operator loses nothing more
 first_back : (kind : Kind) (operator : ℕ) → bit_and operator (meant_bits kind) ≡ operator → joins operator ≡ false → bit_and operator (first_bits kind) ≡ operator
 first_back kind operator clear first =
     let small : operator < 2 ^ 8 = let le : bit_and operator (meant_bits kind) ≤ meant_bits kind = and_le_r operator (meant_bits kind) in let lt : meant_bits kind < 256 = small_bits kind in omega arith in
     let none : bit_and operator 64 ≡ 0 = eqb-true (bit_and operator 64) 0 (not-false (bit_and operator 64 == 0) first) in
     let split : bit_and 191 operator + bit_and 64 operator ≡ operator = and-not 8 64 operator (omega arith) small in
     let without : bit_and operator 191 ≡ operator = let left : bit_and 64 operator ≡ 0 = and_comm 64 operator ∙ none in let e : bit_and operator 191 ≡ bit_and 191 operator = and_comm operator 191 in omega arith in
-    ap (λ (n : ℕ). bit_and operator n) (first_is kind) ∙ sym (and_assoc 191 operator (meant_bits kind)) ∙ ap (λ (n : ℕ). bit_and n 191) clear ∙ without
+    sym (and_assoc 191 operator (meant_bits kind)) ∙ ap (λ (n : ℕ). bit_and n 191) clear ∙ without
 
 means_back : (kind : Kind) (pairs : List (ℕ × ℕ)) → AreNormal (meant_bits kind) pairs → first_joins pairs ≡ false → all_said kind (map written_of pairs) ≡ pairs
 means_back kind [] normal first = absurd normal

@@ -1,6 +1,5 @@
 -- What the reader has found when it stands before an operator, and what follows from it at each of its ends.
-use Rattle.fs_ops.proofs.Words.{◌≡◌, ℕ, zero, suc, ◌+◌, ◌-◌, ◌*◌, ◌^◌, ◌<◌, ◌≤◌, ◌==◌, Bool, true, false, List, [], ◌∷◌, ◌++◌, length, take, drop, get_or, replicate, refl, ap, sym, subst, ◌∙◌, arith, append_assoc, length-append, Contains, Any, bit_and, append-nil, length-replicate, take_at, take-append-drop, length-take, take_all, All-replicate, All-append, All-cons, All-nil, ne_eqb, big_number, IsOctets, Begins, NoFront, take-append-add, Kind, counted_bits, ends, width_code, width_of, Written, text, IsPair, AreMiddle, IsList, said, all_said, IsText, Spells, IsCutList, IsBadWidth}
-use Rattle.fs_ops.proofs.Grammar.{behind, opening, no_list, joined_list, middle_more, text_joined, is_none_before, said_more}
+use Rattle.fs_ops.proofs.{Words.{◌≡◌, ℕ, zero, suc, ◌+◌, ◌-◌, ◌*◌, ◌^◌, ◌<◌, ◌≤◌, ◌==◌, Bool, true, false, List, [], ◌∷◌, ◌++◌, length, take, drop, get_or, replicate, refl, ap, sym, subst, ◌∙◌, arith, append_assoc, length-append, Contains, Any, bit_and, append-nil, length-replicate, take_at, take-append-drop, length-take, take_all, All-replicate, All-append, All-cons, All-nil, ne_eqb, big_number, IsOctets, Begins, NoFront, take-append-add, Kind, counted_bits, ends, width_code, width_of, Written, text, IsPair, AreMiddle, IsList, said, all_said, IsText, Spells, IsCutList, IsBadWidth}, Grammar.{behind, opening, no_list, joined_list, middle_more, text_joined, is_none_before, said_more}}
 
 -- these pairs stand before what is left, and none is the last
 pub record HasRead (kind : Kind) (widths octets rest : List ℕ) (pairs : List (ℕ × ℕ)) : Type 0 where

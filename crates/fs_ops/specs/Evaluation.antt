@@ -1,6 +1,5 @@
 -- When a list holds of a number (RFC 8955 section 4.2.1): it is an OR of groups, each an AND of its pairs.
-use Rattle.std.specs.Prelude.{ℕ, Bool, not, ◌&&◌, ◌||◌, ◌==◌, nat_lt, List, [], ◌∷◌, bit_and, if◌then◌else◌}
-use Rattle.std.specs.List.{list_any, list_all}
+use Rattle.std.specs.{Prelude.{ℕ, Bool, not, ◌&&◌, ◌||◌, ◌==◌, nat_lt, List, [], ◌∷◌, bit_and, if◌then◌else◌}, List.{list_any, list_all}}
 use Rattle.fs_ops.specs.Operator.{Kind, Numeric, Bitmask, joins}
 
 abbrev pub onto_group : ℕ × ℕ → List (List (ℕ × ℕ)) → List (List (ℕ × ℕ))

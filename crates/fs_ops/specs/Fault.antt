@@ -1,9 +1,7 @@
 -- When octets aren't the front of a list of operators and values, and where.
 use Rattle.std.specs.Prelude.{◌≡◌, ℕ, ◌<◌, List, [], ◌∷◌, ◌++◌, length, Any}
 use Rattle.fs_base.specs.Language.{NoFront, IsCut, IsFirstFault}
-use Rattle.fs_ops.specs.OperatorList.{Written, AreMiddle, IsText, text}
-use Rattle.fs_ops.specs.declared.fault.OpsFault.{OpsFault}
-use Rattle.fs_ops.specs.declared.fault.OpsFault.TheVariants.{Cut, Width, Memory}
+use Rattle.fs_ops.specs.{OperatorList.{Written, AreMiddle, IsText, text}, declared.fault.OpsFault.{OpsFault, TheVariants.{Cut, Width, Memory}}}
 
 -- all codes of a value's length: 1, 2, 4 and 8 octets
 abbrev pub all_widths : List ℕ

@@ -1,6 +1,5 @@
 -- Lists of operators and values (RFC 8955 section 4.2.1): their octets, what these say, and the octets that are written.
-use Rattle.std.specs.Prelude.{◌≡◌, ℕ, ◌<◌, ◌^◌, Bool, true, false, List, [], ◌∷◌, length, map, Contains, bit_and}
-use Rattle.std.specs.List.{flat_map}
+use Rattle.std.specs.{Prelude.{◌≡◌, ℕ, ◌<◌, ◌^◌, Bool, true, false, List, [], ◌∷◌, length, map, Contains, bit_and}, List.{flat_map}}
 use Rattle.byteorder.specs.Endian.{big_number, big_bytes}
 use Rattle.fs_ops.specs.Operator.{Kind, meant_bits, first_bits, ends, joins, width_code, width_of}
 

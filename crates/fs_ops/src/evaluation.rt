@@ -1,8 +1,7 @@
 //! Whether a list holds of a number (RFC 8955 section 4.2.1).
 
 ghost use Rattle.std.specs.Prelude.{◌≡◌, false};
-ghost use Rattle.fs_ops.specs.OperatorList.{first_joins};
-ghost use Rattle.fs_ops.specs.Evaluation.{holds, compares, matches_bits, masks, test_of};
+ghost use Rattle.fs_ops.specs.{OperatorList.{first_joins}, Evaluation.{holds, compares, matches_bits, masks, test_of}};
 
 use crate::kind::Kind;
 use crate::operator::is_joined;

@@ -16,6 +16,9 @@ pub enum OpsFault {
     Memory,
 }
 
+/// What a reader of lists answers.
+pub(crate) type Answer<T> = Result<T, OpsFault>;
+
 impl<E: Into<Memory> + Drop> From<E> for OpsFault {
     ghost from_gives = { λ e fault. fault ≡ OutOfMemory };
 

@@ -1,10 +1,9 @@
 //! Lists of operators and values (RFC 8955 section 4.2.1), of either kind.
 
 ghost use Rattle.std.specs.Prelude.{◌≡◌, ◌≤◌, ◌<◌, ◌^◌, ◌++◌, length, take, map, bit_and, Err, IfOk, IfErr, IfSome, IfNone, OnOk, OnErr};
-ghost use Rattle.fs_ops.specs.OperatorList.{Spells, IsNormal, canonical};
-ghost use Rattle.fs_ops.specs.Fault.{CanBeWide, IsFault, barred_at};
+ghost use Rattle.fs_ops.specs.{OperatorList.{Spells, IsNormal, canonical}, Fault.{CanBeWide, IsFault, barred_at}};
 
-use crate::fault::OpsFault;
+use crate::fault::Answer;
 use crate::kind::OfKind;
 use crate::pairs::PairList;
 use crate::{making, reading, writing};
@@ -68,7 +67,7 @@ impl<K: OfKind> OperatorList<K> {
         alloc: Global,
         octets: &[u8],
         widths: &[u8],
-    ) -> Result<(OperatorList<K>, usize), OpsFault>
+    ) -> Answer<(OperatorList<K>, usize)>
         ensures taken { IfOk result (λ read. read.1 ≤ length octets.now) }
         ensures found { IfOk result (λ read. Spells K.KIND widths.now (take read.1 octets.now) read.0) }
         ensures fault { CanBeWide widths.now → IfErr result (IsFault widths.now octets.now) }

@@ -1,8 +1,7 @@
 //! Whether pairs are a list in normal form (RFC 8955 section 4.2.1).
 
 ghost use Rattle.std.specs.Prelude.{◌≡◌, ◌↔◌, ◌^◌, ◌<◌, IsTrue};
-ghost use Rattle.fs_ops.specs.Operator.{width_of, meant_bits};
-ghost use Rattle.fs_ops.specs.OperatorList.{IsNormalPair, AreNormal, IsNormal, first_joins};
+ghost use Rattle.fs_ops.specs.{Operator.{width_of, meant_bits}, OperatorList.{IsNormalPair, AreNormal, IsNormal, first_joins}};
 
 use crate::kind::Kind;
 use crate::operator::{clear_ignored, is_joined, is_last, width_of};

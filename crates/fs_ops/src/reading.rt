@@ -2,10 +2,9 @@
 
 ghost use Rattle.std.specs.Prelude.{◌≡◌, ◌∷◌, [], ◌≤◌, length, take, Err, IfOk, IfErr, IfSome};
 ghost use Rattle.byteorder.specs.Endian.{big_number};
-ghost use Rattle.fs_ops.specs.OperatorList.{Spells};
-ghost use Rattle.fs_ops.specs.Fault.{CanBeWide, IsFault, barred_at};
+ghost use Rattle.fs_ops.specs.{OperatorList.{Spells}, Fault.{CanBeWide, IsFault, barred_at}};
 
-use crate::fault::OpsFault;
+use crate::fault::{Answer, OpsFault};
 use crate::kind::Kind;
 use crate::operator::{allows, clear_ignored, is_last, width_code_of, width_of};
 use crate::pairs::PairList;
@@ -13,12 +12,7 @@ use byteorder::{BigEndian, ByteOrder};
 use std::alloc::Global;
 
 /// Reads the list at the front of the octets, and answers its pairs and how many octets it takes.
-pub fn read(
-    alloc: Global,
-    kind: Kind,
-    octets: &[u8],
-    widths: &[u8],
-) -> Result<(PairList, usize), OpsFault>
+pub fn read(alloc: Global, kind: Kind, octets: &[u8], widths: &[u8]) -> Answer<(PairList, usize)>
     ensures taken { IfOk result (λ read. read.1 ≤ length octets.now) }
     ensures found { IfOk result (λ read. Spells kind widths.now (take read.1 octets.now) read.0) }
     ensures fault { CanBeWide widths.now → IfErr result (IsFault widths.now octets.now) }
@@ -95,7 +89,7 @@ fn read_pairs(
     kind: Kind,
     octets: &[u8],
     widths: &[u8],
-) -> Result<(Vec<(u8, u64)>, usize), OpsFault>
+) -> Answer<(Vec<(u8, u64)>, usize)>
     ensures taken { IfOk result (λ read. read.1 ≤ length octets.now) }
     ensures found { IfOk result (λ read. Spells kind widths.now (take read.1 octets.now) read.0.items) }
     ensures fault { CanBeWide widths.now → IfErr result (IsFault widths.now octets.now) }

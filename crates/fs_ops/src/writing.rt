@@ -1,9 +1,7 @@
 //! The writer of a list (RFC 8955 section 4.2.1).
 
-ghost use Rattle.std.specs.Prelude.{◌≡◌, ◌<◌, ◌^◌, ◌++◌, length, take, All, OnOk, OnErr};
-ghost use Rattle.std.specs.Vec.{vec_len};
-ghost use Rattle.fs_ops.specs.Operator.{width_of};
-ghost use Rattle.fs_ops.specs.OperatorList.{pair_octets, canonical};
+ghost use Rattle.std.specs.{Prelude.{◌≡◌, ◌<◌, ◌^◌, ◌++◌, length, take, All, OnOk, OnErr}, Vec.{vec_len}};
+ghost use Rattle.fs_ops.specs.{Operator.{width_of}, OperatorList.{pair_octets, canonical}};
 
 use crate::operator::width_of;
 use byteorder::{BigEndian, ByteOrder};

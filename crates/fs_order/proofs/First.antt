@@ -1,7 +1,6 @@
 -- The destinations decide, unless they are equal.
-use Rattle.fs_order.proofs.Words.{◌≡◌, ℕ, ◌+◌, ◌-◌, ◌^◌, ◌<◌, List, [], ◌∷◌, refl, sym, ap, ap₂, ◌∙◌, subst, arith, Ordering, Option, Some, None, Bool, true, false, ◌==◌, if◌then◌else◌, Less, Equal, Greater, nat_cmp, ordering_then, nat_tests, eqb-true, Family, V4, V6, afi_of, form_of, Body, V4Body, V6Body, ListBody, Part, AreNormal, IsNormalAt, destination_body, destination_in, destination_of, body_cmp, part_cmp, parts_cmp, rule_cmp}
+use Rattle.fs_order.{proofs.Words.{◌≡◌, ℕ, ◌+◌, ◌-◌, ◌^◌, ◌<◌, List, [], ◌∷◌, refl, sym, ap, ap₂, ◌∙◌, subst, arith, Ordering, Option, Some, None, Bool, true, false, ◌==◌, if◌then◌else◌, Less, Equal, Greater, nat_cmp, ordering_then, nat_tests, eqb-true, Family, V4, V6, afi_of, form_of, Body, V4Body, V6Body, ListBody, Part, AreNormal, IsNormalAt, destination_body, destination_in, destination_of, body_cmp, part_cmp, parts_cmp, rule_cmp}, specs.Laws.{destination_cmp, DestinationsFirst}}
 use Rattle.fs_nlri.proofs.Destination.{destination_first}
-use Rattle.fs_order.specs.Laws.{destination_cmp, DestinationsFirst}
 
 lower : (a b : ℕ) → a < b → nat_cmp a b ≡ Less
 lower a b h = grind (arith, nat_tests)

@@ -1,12 +1,8 @@
 -- The canonical octets of two lists of pairs compare as the pairs do.
 use Rattle.fs_order.proofs.Words.{◌≡◌, ℕ, zero, suc, ◌+◌, ◌*◌, ◌/◌, ◌%◌, ◌^◌, ◌<◌, ◌≤◌, List, [], ◌∷◌, ◌++◌, true, false, true≢false, refl, sym, ap, ap₂, ◌∙◌, subst, arith, Ordering, Less, Equal, Greater, nat_cmp, ordering_then, slice_cmp, ranked, nat_tests, IsNormal, canonical, pair_octets, Body, ListBody, IsSoundBody, ended_cmp, body_cmp}
-use Rattle.std.specs.Int.{byte_at, bytes_high_first}
-use Rattle.std.proofs.Math.Nat.{mod-one, div-one, mod-eq_of_lt, pow-succ', one-le-pow, mod-lt}
-use Rattle.std.proofs.Math.Arith.{mod-mul}
+use Rattle.std.{specs.Int.{byte_at, bytes_high_first}, proofs.Math.{Nat.{mod-one, div-one, mod-eq_of_lt, pow-succ', one-le-pow, mod-lt}, Arith.{mod-mul}}}
 use Rattle.fs_base.proofs.NumberTests.{next_row}
-use Rattle.fs_ops.specs.declared.kind.Kind.{Kind}
-use Rattle.fs_ops.specs.Operator.{ends, meant_bits, width_of}
-use Rattle.fs_ops.specs.OperatorList.{AreNormal}
+use Rattle.fs_ops.specs.{declared.kind.Kind.{Kind}, Operator.{ends, meant_bits, width_of}, OperatorList.{AreNormal}}
 
 abbrev pub octets_cmp : List ℕ → List ℕ → Ordering
 octets_cmp = ended_cmp nat_cmp

@@ -1,9 +1,6 @@
 -- The order is that of the standards' words.
-use Rattle.fs_order.proofs.Words.{◌≡◌, ℕ, ◌+◌, ◌-◌, ◌^◌, ◌<◌, ◌≤◌, ◌⊎◌, List, [], ◌∷◌, refl, sym, ap, ◌∙◌, subst, arith, inl, inr, Ordering, Option, Some, None, Bool, true, Less, Equal, Greater, is_lt, nat_cmp, ordering_then, cases_lt, nat_tests, ranked, tied_itself, pow_pos, Family, V4, V6, afi_of, cleared, same_family, canonical, Form, V4Form, V6Form, ListForm, form_of, Body, V4Body, V6Body, ListBody, Part, Ruled, AreNormal, IsNormalAt, IsNormalBody, IsRule, body_cmp, part_cmp, parts_cmp, rule_cmp, Before, BodyBefore, IsWithin, OctetsBefore, PartsBefore, PrefixBefore, body_total, sound_part}
-use Rattle.fs_base.proofs.Blocks.{IsBlock, block_again, block_inside, block_meeting, block_of}
-use Rattle.fs_base.proofs.Orderings.{less_of_is_lt}
-use Rattle.fs_order.proofs.Pairs.{equal_numbers, octets_cmp}
-use Rattle.fs_order.proofs.Same.{first_equal, same_body, second_equal}
+use Rattle.fs_order.proofs.{Words.{◌≡◌, ℕ, ◌+◌, ◌-◌, ◌^◌, ◌<◌, ◌≤◌, ◌⊎◌, List, [], ◌∷◌, refl, sym, ap, ◌∙◌, subst, arith, inl, inr, Ordering, Option, Some, None, Bool, true, Less, Equal, Greater, is_lt, nat_cmp, ordering_then, cases_lt, nat_tests, ranked, tied_itself, pow_pos, Family, V4, V6, afi_of, cleared, same_family, canonical, Form, V4Form, V6Form, ListForm, form_of, Body, V4Body, V6Body, ListBody, Part, Ruled, AreNormal, IsNormalAt, IsNormalBody, IsRule, body_cmp, part_cmp, parts_cmp, rule_cmp, Before, BodyBefore, IsWithin, OctetsBefore, PartsBefore, PrefixBefore, body_total, sound_part}, Pairs.{equal_numbers, octets_cmp}, Same.{first_equal, same_body, second_equal}}
+use Rattle.fs_base.proofs.{Blocks.{IsBlock, block_again, block_inside, block_meeting, block_of}, Orderings.{less_of_is_lt}}
 
 lower : (a b : ℕ) → a < b → nat_cmp a b ≡ Less
 lower a b h = grind (arith, nat_tests)

@@ -1,8 +1,6 @@
 -- Only the same rule is equal in the order.
-use Rattle.fs_order.proofs.Words.{◌≡◌, ℕ, ◌+◌, ◌-◌, ◌^◌, ◌<◌, ◌⊎◌, List, [], ◌∷◌, refl, sym, ap, ◌∙◌, subst, arith, inl, inr, Ordering, Less, Equal, Greater, nat_cmp, ordering_then, slice_cmp, tied_itself, pow_pos, afi_of, same_family, Body, V4Body, V6Body, ListBody, Part, Ruled, IsRule, body_cmp, part_cmp, parts_cmp, rule_cmp, AreSound, IsSoundBody, rule_total, rule_sound}
-use Rattle.fs_nlri.specs.Spelling.{IsRange}
-use Rattle.fs_nlri.proofs.Fronts.{same_part}
-use Rattle.fs_order.proofs.Pairs.{equal_numbers, pair_cmp, pairs_compared}
+use Rattle.fs_order.proofs.{Words.{◌≡◌, ℕ, ◌+◌, ◌-◌, ◌^◌, ◌<◌, ◌⊎◌, List, [], ◌∷◌, refl, sym, ap, ◌∙◌, subst, arith, inl, inr, Ordering, Less, Equal, Greater, nat_cmp, ordering_then, slice_cmp, tied_itself, pow_pos, afi_of, same_family, Body, V4Body, V6Body, ListBody, Part, Ruled, IsRule, body_cmp, part_cmp, parts_cmp, rule_cmp, AreSound, IsSoundBody, rule_total, rule_sound}, Pairs.{equal_numbers, pair_cmp, pairs_compared}}
+use Rattle.fs_nlri.{specs.Spelling.{IsRange}, proofs.Fronts.{same_part}}
 
 pub first_equal : (o p : Ordering) → ordering_then o p ≡ Equal → o ≡ Equal
 first_equal Less p h = h

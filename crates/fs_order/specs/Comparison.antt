@@ -1,10 +1,7 @@
 -- Which of two rules is applied first (RFC 8955 section 5.1, RFC 8956 section 4): as one comparison, and in the words
 -- of the standards.
-use Rattle.std.specs.Prelude.{◌≡◌, ℕ, ◌-◌, ◌<◌, ◌≤◌, ◌⊎◌, List, [], ◌∷◌}
-use Rattle.std.specs.declared.cmp.Ordering.{Ordering}
-use Rattle.std.specs.Ordering.{nat_cmp, on, then_cmp}
-use Rattle.fs_base.specs.declared.prefix.Family.TheVariants.{V4, V6}
-use Rattle.fs_base.specs.Bits.{afi_of, cleared}
+use Rattle.std.specs.{Prelude.{◌≡◌, ℕ, ◌-◌, ◌<◌, ◌≤◌, ◌⊎◌, List, [], ◌∷◌}, declared.cmp.Ordering.{Ordering}, Ordering.{nat_cmp, on, then_cmp}}
+use Rattle.fs_base.specs.{declared.prefix.Family.TheVariants.{V4, V6}, Bits.{afi_of, cleared}}
 use Rattle.fs_ops.specs.OperatorList.{canonical}
 use Rattle.fs_nlri.specs.Parts.{Body, V4Body, V6Body, ListBody, Part, Ruled}
 use Rattle.fs_order.specs.Component.{ended_cmp, part_cmp}

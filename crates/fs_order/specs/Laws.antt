@@ -1,12 +1,7 @@
 -- Within a family the order looks at the destination prefixes first.
-use Rattle.std.specs.Prelude.{◌≡◌, ℕ, ◌+◌, ◌-◌, ◌^◌, Option, Some, None}
-use Rattle.std.specs.declared.cmp.Ordering.{Ordering}
-use Rattle.std.specs.declared.cmp.Ordering.TheVariants.{Less, Equal, Greater}
-use Rattle.std.specs.Ordering.{nat_cmp, ordering_then}
-use Rattle.fs_base.specs.declared.prefix.Family.{Family}
-use Rattle.fs_base.specs.Bits.{afi_of, width_of}
-use Rattle.fs_nlri.specs.Parts.{Ruled}
-use Rattle.fs_nlri.specs.Rule.{IsRule, destination_of}
+use Rattle.std.specs.{Prelude.{◌≡◌, ℕ, ◌+◌, ◌-◌, ◌^◌, Option, Some, None}, declared.cmp.Ordering.{Ordering, TheVariants.{Less, Equal, Greater}}, Ordering.{nat_cmp, ordering_then}}
+use Rattle.fs_base.specs.{declared.prefix.Family.{Family}, Bits.{afi_of, width_of}}
+use Rattle.fs_nlri.specs.{Parts.{Ruled}, Rule.{IsRule, destination_of}}
 use Rattle.fs_order.specs.Comparison.{rule_cmp}
 
 -- what prefixes show, family, bits and length, in the order of prefixes

@@ -1,11 +1,8 @@
 //! Which of two rules is applied first.
 
-ghost use Rattle.std.specs.Prelude.{◌≡◌, ◌↔◌, IsTrue};
-ghost use Rattle.std.specs.Ordering.{is_lt};
-ghost use Rattle.fs_nlri.specs.Component.{parts_of};
-ghost use Rattle.fs_nlri.specs.Rule.{IsRule};
+ghost use Rattle.std.specs.{Prelude.{◌≡◌, ◌↔◌, IsTrue}, Ordering.{is_lt}};
+ghost use Rattle.fs_nlri.specs.{Component.{parts_of}, Rule.{IsRule}, Sound.{AreSound}};
 ghost use Rattle.fs_order.specs.Comparison.{Before, parts_cmp, rule_cmp};
-ghost use Rattle.fs_nlri.specs.Sound.{AreSound};
 
 use crate::component::compare_component;
 use fs_nlri::{Component, Rule};

@@ -1,12 +1,9 @@
 //! The order of components.
 
 ghost use Rattle.std.specs.Prelude.{◌≡◌, ◌-◌};
-ghost use Rattle.fs_base.specs.declared.prefix.Family.TheVariants.{V6};
-ghost use Rattle.fs_base.specs.Prefix.{IsPrefixOf, prefix_cmp};
-ghost use Rattle.fs_nlri.specs.Component.{body_of, content_body, part_of};
-ghost use Rattle.fs_nlri.specs.Spelling.{IsRange};
+ghost use Rattle.fs_base.specs.{declared.prefix.Family.TheVariants.{V6}, Prefix.{IsPrefixOf, prefix_cmp}};
+ghost use Rattle.fs_nlri.specs.{Component.{body_of, content_body, part_of}, Spelling.{IsRange}, Sound.{IsSoundBody}};
 ghost use Rattle.fs_order.specs.Component.{body_cmp, part_cmp};
-ghost use Rattle.fs_nlri.specs.Sound.{IsSoundBody};
 
 use fs_base::{Family, Prefix};
 use fs_nlri::{Component, Content, PrefixForm};

@@ -1,11 +1,8 @@
 //! Laws of the order of rules.
 
-ghost use Rattle.std.specs.Prelude.{◌≡◌, ◌↔◌};
-ghost use Rattle.std.specs.declared.cmp.Ordering.TheVariants.{Less, Equal};
-ghost use Rattle.fs_nlri.specs.Parts.{Ruled};
-ghost use Rattle.fs_nlri.specs.Rule.{IsRule};
-ghost use Rattle.fs_order.specs.Comparison.{rule_cmp, Before};
-ghost use Rattle.fs_order.specs.Laws.{DestinationsFirst};
+ghost use Rattle.std.specs.{Prelude.{◌≡◌, ◌↔◌}, declared.cmp.Ordering.TheVariants.{Less, Equal}};
+ghost use Rattle.fs_nlri.specs.{Parts.{Ruled}, Rule.{IsRule}};
+ghost use Rattle.fs_order.specs.{Comparison.{rule_cmp, Before}, Laws.{DestinationsFirst}};
 
 /// A law of the order: only the same rule is equal.
 pub fn equal_only_itself()

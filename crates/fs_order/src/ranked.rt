@@ -11,11 +11,8 @@ pub struct Ranked {
 }
 
 impl PartialEq for Ranked {
-    ghost use Rattle.std.specs.Ordering.{on, eq_by_cmp};
-    ghost use Rattle.std.specs.Cmp.{on_equiv, partial_equiv_from_equiv};
-    ghost use Rattle.fs_order.specs.Comparison.{rule_cmp};
-    ghost use Rattle.fs_order.specs.Ranked.{rule_equivalence};
-    ghost use Rattle.fs_order.specs.declared.ranked.Ranked.{Ranked};
+    ghost use Rattle.std.specs.{Ordering.{on, eq_by_cmp}, Cmp.{on_equiv, partial_equiv_from_equiv}};
+    ghost use Rattle.fs_order.specs.{Comparison.{rule_cmp}, Ranked.{rule_equivalence}, declared.ranked.Ranked.{Ranked}};
 
     ghost eq = { on (λ r. r.rule) (eq_by_cmp rule_cmp) };
 
@@ -28,18 +25,14 @@ impl PartialEq for Ranked {
 
 impl Eq for Ranked {
     ghost use Rattle.std.specs.Cmp.{on_equiv};
-    ghost use Rattle.fs_order.specs.Ranked.{rule_equivalence};
-    ghost use Rattle.fs_order.specs.declared.ranked.Ranked.{Ranked};
+    ghost use Rattle.fs_order.specs.{Ranked.{rule_equivalence}, declared.ranked.Ranked.{Ranked}};
 
     ghost laws = { on_equiv (λ (r : Ranked). r.rule) rule_equivalence };
 }
 
 impl PartialOrd for Ranked {
-    ghost use Rattle.std.specs.Ordering.{on, as_partial_cmp};
-    ghost use Rattle.std.specs.Cmp.{on_total, partial_order_from_total};
-    ghost use Rattle.fs_order.specs.Comparison.{rule_cmp};
-    ghost use Rattle.fs_order.specs.Ranked.{rule_total};
-    ghost use Rattle.fs_order.specs.declared.ranked.Ranked.{Ranked};
+    ghost use Rattle.std.specs.{Ordering.{on, as_partial_cmp}, Cmp.{on_total, partial_order_from_total}};
+    ghost use Rattle.fs_order.specs.{Comparison.{rule_cmp}, Ranked.{rule_total}, declared.ranked.Ranked.{Ranked}};
 
     ghost partial_cmp = { as_partial_cmp (on (λ r. r.rule) rule_cmp) };
 
@@ -51,12 +44,8 @@ impl PartialOrd for Ranked {
 }
 
 impl Ord for Ranked {
-    ghost use Rattle.std.specs.Prelude.{refl};
-    ghost use Rattle.std.specs.Ordering.{on};
-    ghost use Rattle.std.specs.Cmp.{on_total};
-    ghost use Rattle.fs_order.specs.Comparison.{rule_cmp};
-    ghost use Rattle.fs_order.specs.Ranked.{rule_total};
-    ghost use Rattle.fs_order.specs.declared.ranked.Ranked.{Ranked};
+    ghost use Rattle.std.specs.{Prelude.{refl}, Ordering.{on}, Cmp.{on_total}};
+    ghost use Rattle.fs_order.specs.{Comparison.{rule_cmp}, Ranked.{rule_total}, declared.ranked.Ranked.{Ranked}};
 
     ghost cmp = { on (λ r. r.rule) rule_cmp };
 

@@ -1,9 +1,6 @@
 -- What an end in memory has left, and what it shows.
 use Rattle.std.specs.Prelude.{ℕ, List, [], Bool, true, false, drop}
-use Rattle.fs_outside.specs.Wire.{WireEnd}
-use Rattle.fs_outside.specs.declared.cable.Origin.{Origin}
-use Rattle.fs_outside.specs.declared.cable.Origin.TheVariants.{Nothing, Own, Other}
-use Rattle.fs_outside.specs.declared.cable.MemEnd.{MemEnd}
+use Rattle.fs_outside.specs.{Wire.{WireEnd}, declared.cable.{Origin.{Origin, TheVariants.{Nothing, Own, Other}}, MemEnd.{MemEnd}}}
 
 -- what the end's octets are taken from: what it is to receive, or what was written through the other end
 abbrev pub source_of : Origin → List ℕ → List ℕ → List ℕ
@@ -21,6 +18,6 @@ abbrev pub end_of : MemEnd → List ℕ → WireEnd
 end_of end others = record {
   to_receive = end.to_receive.items;
   left = drop end.taken (source_of end.origin end.to_receive.items others);
-  written = end.written.items;
+  written = end.written.octets.items;
   joined = is_other end.origin;
 }

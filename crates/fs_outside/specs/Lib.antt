@@ -1,5 +1,6 @@
 pub mod Outside
 pub mod Files
+pub mod Tallies
 pub mod Noted
 pub mod Sink
 pub mod Wire

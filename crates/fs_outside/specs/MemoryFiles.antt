@@ -1,12 +1,6 @@
 -- Files in memory: what each name holds, and what each slot has left to be read.
-use Rattle.std.specs.Prelude.{ℕ, List, [], ◌∷◌, Option, Some, None, Bool, ◌≡◌, if◌then◌else◌, is_some, position, drop, slice_get, slice_index_or, string_bytes}
-use Rattle.std.specs.Str.{bytes_eq}
-use Rattle.fs_outside.specs.Files.{Opened}
-use Rattle.fs_outside.specs.declared.shelf.HeldFile.{HeldFile}
-use Rattle.fs_outside.specs.declared.shelf.Slot.{Slot}
-use Rattle.fs_outside.specs.declared.shelf.Shelf.{Shelf}
-use Rattle.fs_outside.specs.declared.memory_files.MemFiles.{MemFiles}
-use Rattle.fs_outside.specs.declared.memory_files.CalmFiles.{CalmFiles}
+use Rattle.std.specs.{Prelude.{ℕ, List, [], ◌∷◌, Option, Some, None, Result, Bool, ◌≡◌, if◌then◌else◌, OnOk, OnErr, is_some, position, drop, slice_get, slice_index_or, string_bytes}, Str.{bytes_eq}}
+use Rattle.fs_outside.specs.{Files.{LeavesOthers, Opened}, Tallies.{Tallied, tallied}, declared.{calm_files.{HeldFile.{HeldFile}, Slot.{Slot}, CalmFiles.{CalmFiles}}, memory_files.MemFiles.{MemFiles}}}
 
 abbrev pub has_name : List ℕ → HeldFile → Bool
 has_name name file = bytes_eq (string_bytes file.name) name
@@ -32,45 +26,42 @@ slot_left files slot = drop slot.taken (content_of files slot.place)
 abbrev pub slot_at : List Slot → ℕ → Slot
 slot_at slots place = slice_index_or slots place (record { place = None; taken = 0 })
 
-abbrev pub shelf_left : Shelf → ℕ → List ℕ
-shelf_left shelf slot = slot_left shelf.files.items (slot_at shelf.slots slot)
+-- what each name holds, what each slot has left to be read, and the openings
+pub record FilesShown : Type 0 where
+  pub holds : List ℕ → Option (List ℕ)
+  pub left : ℕ → List ℕ
+  pub opened : Option (List Opened)
+
+abbrev pub calm_files_shown : CalmFiles → FilesShown
+calm_files_shown files = record {
+  holds = content_named files.files.items;
+  left = λ slot. slot_left files.files.items (slot_at files.slots slot);
+  opened = files.openings;
+}
+
+abbrev pub mem_files_shown : MemFiles → FilesShown
+mem_files_shown files = calm_files_shown files.files
+
+abbrev pub mem_files_tally : MemFiles → Tallied
+mem_files_tally files = tallied files.tally
+
+-- no file, each slot at its end, and no opening
+pub record NoFiles (shown : FilesShown) : Type 0 where
+  pub holds : (name : List ℕ) → shown.holds name ≡ None
+  pub left : (slot : ℕ) → shown.left slot ≡ []
+  pub opened : shown.opened ≡ Some []
+
+-- the other slots have left what they had, and each name holds what it held
+abbrev pub LeavesRest : ℕ → FilesShown → FilesShown → Type 0
+LeavesRest slot before now = LeavesOthers slot before.left now.left before.holds now.holds
 
 -- a name that held nothing holds this content now, and the other names hold what they held
 abbrev pub AddsFile : (List ℕ → Option (List ℕ)) → (List ℕ → Option (List ℕ)) → List ℕ → List ℕ → Type 0
 AddsFile old new name content =
     (other : List ℕ) → new other ≡ (if is_some (old other) then old other else if bytes_eq name other then Some content else None)
 
--- what each name holds
-abbrev pub mem_files_holds : MemFiles → List ℕ → Option (List ℕ)
-mem_files_holds files name = content_named files.shelf.files.items name
-
--- what each slot has left to be read
-abbrev pub mem_files_left : MemFiles → ℕ → List ℕ
-mem_files_left files slot = shelf_left files.shelf slot
-
-abbrev pub mem_files_opened : MemFiles → Option (List Opened)
-mem_files_opened files = files.openings
-
--- the calls that fail, by their numbers
-abbrev pub mem_files_failing : MemFiles → List ℕ
-mem_files_failing files = files.failing.items
-
--- the calls so far
-abbrev pub mem_files_calls : MemFiles → ℕ
-mem_files_calls files = files.calls
-
-abbrev pub mem_files_faults : MemFiles → ℕ
-mem_files_faults files = files.faults
-
--- a read gives at most so many octets
-abbrev pub mem_files_most : MemFiles → ℕ
-mem_files_most files = files.most
-
-abbrev pub calm_files_holds : CalmFiles → List ℕ → Option (List ℕ)
-calm_files_holds files name = content_named files.shelf.files.items name
-
-abbrev pub calm_files_left : CalmFiles → ℕ → List ℕ
-calm_files_left files slot = shelf_left files.shelf slot
-
-abbrev pub calm_files_opened : CalmFiles → Option (List Opened)
-calm_files_opened files = files.openings
+-- a file was added, or nothing changed
+pub record Adds {T E : Type 0} (name content : List ℕ) (result : Result T E) (before now : FilesShown) : Type 0 where
+  pub ok : OnOk result (AddsFile before.holds now.holds name content)
+  pub err : OnErr result ((other : List ℕ) → now.holds other ≡ before.holds other)
+  pub opened : now.opened ≡ before.opened

@@ -1,14 +1,13 @@
 -- What wires in memory show.
 use Rattle.std.specs.Prelude.{ℕ, List, [], Option, Some, None, Bool, false, ◌+◌, ◌||◌, ◌==◌, nat_lt, min, length, if◌then◌else◌}
-use Rattle.fs_outside.specs.Outside.{fails_at}
-use Rattle.fs_outside.specs.Wire.{WireEnd, WireEnds, end_at}
-use Rattle.fs_outside.specs.Cabled.{end_of}
-use Rattle.fs_outside.specs.declared.cable.Cable.{Cable}
-use Rattle.fs_outside.specs.declared.memory_wires.MemWire.{MemWire}
-use Rattle.fs_outside.specs.declared.memory_wires.CalmWire.{CalmWire}
+use Rattle.fs_outside.specs.{Tallies.{Tallied, fails, tallied}, Wire.{WireEnd, WireEnds, end_at}, Cabled.{end_of}, declared.{cable.Cable.{Cable}, memory_wires.{MemWire.{MemWire}, CalmWire.{CalmWire}}}}
 
 abbrev pub ends_of : Cable → WireEnds
-ends_of cable = record { first = end_of cable.first cable.second.written.items; second = end_of cable.second cable.first.written.items }
+ends_of cable = record { first = end_of cable.first cable.second.written.octets.items; second = end_of cable.second cable.first.written.octets.items }
+
+-- through each end so many octets can be written
+abbrev pub room_of : Cable → ℕ
+room_of cable = cable.first.written.room
 
 -- an end that isn't open: it is to receive these octets, and has none of them left yet
 abbrev pub fresh_end : List ℕ → WireEnd → WireEnd
@@ -31,36 +30,19 @@ passes room ends place count = nat_lt room (length (end_at place ends).written +
 abbrev pub mem_wire_ends : MemWire → WireEnds
 mem_wire_ends wire = ends_of wire.cable
 
--- through each end so many octets can be written
 abbrev pub mem_wire_room : MemWire → ℕ
-mem_wire_room wire = wire.cable.room
+mem_wire_room wire = room_of wire.cable
 
--- the calls that fail, by their numbers
-abbrev pub mem_wire_failing : MemWire → List ℕ
-mem_wire_failing wire = wire.failing.items
-
--- the calls so far
-abbrev pub mem_wire_calls : MemWire → ℕ
-mem_wire_calls wire = wire.calls
-
-abbrev pub mem_wire_faults : MemWire → ℕ
-mem_wire_faults wire = wire.faults
-
--- a call gives or takes at most so many octets
-abbrev pub mem_wire_most : MemWire → ℕ
-mem_wire_most wire = wire.most
-
--- the call that fails: its number is listed
-abbrev pub mem_wire_fails : MemWire → Bool
-mem_wire_fails wire = fails_at wire.failing.items wire.calls
+abbrev pub mem_wire_tally : MemWire → Tallied
+mem_wire_tally wire = tallied wire.tally
 
 -- the write that fails: its number is listed, or what it would take goes past the room
 abbrev pub mem_wire_refuses : MemWire → ℕ → List ℕ → Bool
 mem_wire_refuses wire place piece =
-    mem_wire_fails wire || passes wire.cable.room (ends_of wire.cable) place (min (length piece) wire.most)
+    fails (tallied wire.tally) || passes (room_of wire.cable) (ends_of wire.cable) place (min (length piece) wire.tally.most)
 
 abbrev pub calm_wire_ends : CalmWire → Option WireEnds
 calm_wire_ends wire = if wire.tells then Some (ends_of wire.cable) else None
 
 abbrev pub calm_wire_room : CalmWire → ℕ
-calm_wire_room wire = wire.cable.room
+calm_wire_room wire = room_of wire.cable

@@ -1,7 +1,6 @@
 -- What clocks in memory answer.
 use Rattle.std.specs.Prelude.{ℕ, List, ◌++◌, Option, Some, None, ◌-◌, ◌^◌, length, nat_lt, if◌then◌else◌, take, replicate, get_or}
-use Rattle.fs_outside.specs.declared.clocks.MemClock.{MemClock}
-use Rattle.fs_outside.specs.declared.clocks.StillClock.{StillClock}
+use Rattle.fs_outside.specs.declared.clocks.{MemClock.{MemClock}, StillClock.{StillClock}}
 
 -- the last of the moments, 0 where there is none
 abbrev pub last_of : List ℕ → ℕ

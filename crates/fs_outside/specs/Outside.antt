@@ -1,6 +1,5 @@
 -- What the calls on files, a sink and a wire have in common. Each of these counts its faults, up to 2^64 - 1.
-use Rattle.std.specs.Prelude.{ℕ, List, Result, Bool, ◌≤◌, ◌+◌, ◌-◌, ◌^◌, ◌==◌, min, OnErr}
-use Rattle.std.specs.List.{list_any}
+use Rattle.std.specs.{Prelude.{ℕ, List, Result, Bool, ◌≤◌, ◌+◌, ◌-◌, ◌^◌, ◌==◌, min, OnErr}, List.{list_any}}
 
 -- The count rose; at its greatest value it can't, and stands.
 abbrev pub Rose : ℕ → ℕ → Type 0

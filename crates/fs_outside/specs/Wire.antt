@@ -1,8 +1,6 @@
 -- The two ends of a wire, as it tells them, and what each call does to them.
 use Rattle.std.specs.Prelude.{ℕ, List, [], ◌++◌, Option, Some, None, Result, Bool, true, false, ◌≡◌, ◌==◌, take, ⊤, if◌then◌else◌, MatchResult}
-use Rattle.fs_outside.specs.Files.{ReadTakes}
-use Rattle.fs_outside.specs.declared.wire.Opening.{Opening}
-use Rattle.fs_outside.specs.declared.wire.Opening.TheVariants.{Listen, Dial, Both}
+use Rattle.fs_outside.specs.{Files.{ReadTakes}, declared.wire.Opening.{Opening, TheVariants.{Listen, Dial, Both}}}
 
 -- What one end is to receive once it is opened, what it has left to be read, and what was written through it. An end that
 -- is joined has left what is written through the other.

@@ -1,7 +1,6 @@
 //! A file that is read in blocks.
 
-ghost use Rattle.std.specs.Prelude.{◌≡◌, ◌≤◌, length, vec_len};
-ghost use Rattle.std.specs.Io.{ReadsAtMost};
+ghost use Rattle.std.specs.{Prelude.{◌≡◌, ◌≤◌, length, vec_len}, Io.{ReadsAtMost}};
 
 use crate::Failed;
 use std::alloc::{AllocError, Global};

@@ -1,9 +1,10 @@
 //! Two ends in memory.
 
-ghost use Rattle.std.specs.Prelude.{◌≡◌, ◌≤◌, ◌+◌, ◌++◌, [], IfOk, IsTrue, false, not, nat_lt, if◌then◌else◌, length, min, take, drop, vec_capacity, vec_len};
+ghost use Rattle.std.specs.Prelude.{◌≡◌, ◌≤◌, [], IfOk, IsTrue, false, not, length, min, take, drop};
 ghost use Rattle.fs_outside.specs.Cabled.{end_of, source_of};
 
-use crate::shelf::copy_behind;
+use crate::calm_files::copy_behind;
+use crate::text::Text;
 use crate::{Memory, Opening};
 use std::alloc::Global;
 
@@ -24,7 +25,7 @@ pub struct MemEnd {
     pub to_receive: Vec<u8>,
     pub origin: Origin,
     pub taken: usize,
-    pub written: Vec<u8>,
+    pub written: Text,
 }
 
 impl MemEnd {
@@ -32,14 +33,14 @@ impl MemEnd {
         ensures to_receive { IfOk result (λ end. end.to_receive.items ≡ []) }
         ensures origin { IfOk result (λ end. end.origin ≡ Origin.Nothing) }
         ensures taken { IfOk result (λ end. end.taken ≡ 0) }
-        ensures written { IfOk result (λ end. end.written.items ≡ []) }
-        ensures room { IfOk result (λ end. room ≤ vec_capacity end.written) }
+        ensures written { IfOk result (λ end. end.written.octets.items ≡ []) }
+        ensures room { IfOk result (λ end. end.written.room ≡ room) }
     {
         Ok(MemEnd {
             to_receive: Vec::new(alloc),
             origin: Origin::Nothing,
             taken: 0,
-            written: Vec::with_capacity(alloc, room)?,
+            written: Text::new(alloc, room)?,
         })
     }
 
@@ -87,47 +88,29 @@ impl MemEnd {
     }
 }
 
-/// Two ends, through each of which `room` octets can be written.
+/// Two ends, each with the same room for what is written through it.
 #[derive(Drop)]
 pub struct Cable {
     pub first: MemEnd,
     pub second: MemEnd,
-    pub room: usize,
-    pub ghost first_room: { room ≤ vec_capacity first.written },
-    pub ghost second_room: { room ≤ vec_capacity second.written },
-    pub ghost first_size: { vec_len first.written ≤ room },
-    pub ghost second_size: { vec_len second.written ≤ room },
+    pub ghost same_room: { second.written.room ≡ first.written.room },
     pub ghost first_taken: { first.taken
-        ≤ length (source_of first.origin first.to_receive.items second.written.items) },
+        ≤ length (source_of first.origin first.to_receive.items second.written.octets.items) },
     pub ghost second_taken: { second.taken
-        ≤ length (source_of second.origin second.to_receive.items first.written.items) },
-}
-
-/// Appends octets, where they go within the room.
-fn append(written: &mut Vec<u8>, room: usize, piece: &[u8]) -> bool
-    requires reserved { room ≤ vec_capacity written.old }
-    requires within { vec_len written.old ≤ room }
-    ensures fits { result ≡ not (nat_lt room (length written.old.items + length piece.now)) }
-    ensures items { written.new.items ≡ (if result then written.old.items ++ piece.now else written.old.items) }
-    ensures reserved { room ≤ vec_capacity written.new }
-    ensures within { vec_len written.new ≤ room }
-{
-    piece.len() <= room - written.len() && written.extend_from_slice(piece).is_ok()
+        ≤ length (source_of second.origin second.to_receive.items first.written.octets.items) },
 }
 
 impl Cable {
-    ghost use Rattle.fs_outside.specs.Wire.{TakesIn, end_at, opened, other_than};
-    ghost use Rattle.fs_outside.specs.MemoryWires.{ends_of, fresh_end, new_ends, passes, with_end};
+    ghost use Rattle.fs_outside.specs.{Wire.{TakesIn, end_at, opened, other_than}, MemoryWires.{ends_of, fresh_end, new_ends, passes, room_of, with_end}};
 
     /// Ends that aren't open.
     pub fn new(alloc: Global, room: usize) -> Result<Cable, Memory>
         ensures ends { IfOk result (λ cable. ends_of cable ≡ new_ends) }
-        ensures room { IfOk result (λ cable. cable.room ≡ room) }
+        ensures room { IfOk result (λ cable. room_of cable ≡ room) }
     {
         Ok(Cable {
             first: MemEnd::new(alloc, room)?,
             second: MemEnd::new(alloc, room)?,
-            room,
         })
     }
 
@@ -135,7 +118,7 @@ impl Cable {
     pub fn give(&mut self, end: u8, octets: Vec<u8>)
         requires { end ≤ 1 }
         ensures ends { ends_of self.new ≡ with_end end (fresh_end octets.items) (ends_of self.old) }
-        ensures room { self.new.room ≡ self.old.room }
+        ensures room { room_of self.new ≡ room_of self.old }
     {
         if end == 0 {
             self.first.give(octets);
@@ -147,14 +130,16 @@ impl Cable {
     /// Opens an end, or joins both.
     pub fn open(&mut self, how: Opening<'_>)
         ensures ends { ends_of self.new ≡ opened how.entry (ends_of self.old) }
-        ensures room { self.new.room ≡ self.old.room }
+        ensures room { room_of self.new ≡ room_of self.old }
     {
         match how {
             Opening::Listen(_) => self.first.begin(Origin::Own, 0),
             Opening::Dial(_) => self.second.begin(Origin::Own, 0),
             Opening::Both => {
-                self.first.begin(Origin::Other, self.second.written.len());
-                self.second.begin(Origin::Other, self.first.written.len());
+                self.first
+                    .begin(Origin::Other, self.second.written.octets.len());
+                self.second
+                    .begin(Origin::Other, self.first.written.octets.len());
             }
         }
     }
@@ -169,27 +154,27 @@ impl Cable {
         ensures wrote { (end_at end (ends_of self.new)).written ≡ (end_at end (ends_of self.old)).written }
         ensures tied { (end_at end (ends_of self.new)).joined ≡ (end_at end (ends_of self.old)).joined }
         ensures other { other_than end (ends_of self.new) ≡ other_than end (ends_of self.old) }
-        ensures room { self.new.room ≡ self.old.room }
+        ensures room { room_of self.new ≡ room_of self.old }
     {
         if end == 0 {
-            self.first.read(&self.second.written, most, into)
+            self.first.read(&self.second.written.octets, most, into)
         } else {
-            self.second.read(&self.first.written, most, into)
+            self.second.read(&self.first.written.octets, most, into)
         }
     }
 
     /// Writes all of `piece` through the end, or nothing where that would go past the room; answers whether it did.
     pub fn write(&mut self, end: u8, piece: &[u8]) -> bool
         requires { end ≤ 1 }
-        ensures fits { result ≡ not (passes self.old.room (ends_of self.old) end (length piece.now)) }
+        ensures fits { result ≡ not (passes (room_of self.old) (ends_of self.old) end (length piece.now)) }
         ensures taken { IsTrue result → TakesIn end piece.now (ends_of self.old) (ends_of self.new) }
         ensures stays { result ≡ false → ends_of self.new ≡ ends_of self.old }
-        ensures room { self.new.room ≡ self.old.room }
+        ensures room { room_of self.new ≡ room_of self.old }
     {
         if end == 0 {
-            append(&mut self.first.written, self.room, piece)
+            self.first.written.append(piece)
         } else {
-            append(&mut self.second.written, self.room, piece)
+            self.second.written.append(piece)
         }
     }
 
@@ -199,9 +184,9 @@ impl Cable {
         ensures { result.now ≡ (end_at end (ends_of self.now)).written }
     {
         if end == 0 {
-            &self.first.written
+            &self.first.written.octets
         } else {
-            &self.second.written
+            &self.second.written.octets
         }
     }
 }

@@ -1,8 +1,7 @@
 //! Clocks in memory.
 
 ghost use Rattle.std.specs.Prelude.{◌≡◌, ◌+◌, ◌-◌, ◌^◌, ◌∷◌, [], min};
-ghost use Rattle.fs_outside.specs.Sink.{Grew};
-ghost use Rattle.fs_outside.specs.Moments.{answer_at, told_answers};
+ghost use Rattle.fs_outside.specs.{Sink.{Grew}, Moments.{answer_at, told_answers}};
 
 use crate::Clock;
 

@@ -1,10 +1,7 @@
 //! The files of the outside, as a trait.
 
-ghost use Rattle.std.specs.Prelude.{◌≡◌, ◌≢◌, ◌↔◌, ◌≤◌, ℕ, Bool, List, Option, IsTrue, IsSome, IfOk};
-ghost use Rattle.std.specs.Io.{ReadsAtMost};
-ghost use Rattle.fs_outside.specs.Files.{OnlySlot, Opened, ReadTakes, one_opening, opened_content};
-ghost use Rattle.fs_outside.specs.Outside.{HasCause};
-ghost use Rattle.fs_outside.specs.Sink.{Grew};
+ghost use Rattle.std.specs.{Prelude.{◌≡◌, ◌≢◌, ◌↔◌, ◌≤◌, ℕ, Bool, List, Option, IsTrue, IsSome, IfOk}, Io.{ReadsAtMost}};
+ghost use Rattle.fs_outside.specs.{Files.{OnlySlot, Opened, ReadTakes, one_opening, opened_content}, Outside.{HasCause}, Sink.{Grew}};
 
 /// A call on the outside failed. It took and gave nothing where the content is known, and the fault is counted.
 #[derive(Clone, Copy, Debug, PartialEq, Eq, Drop)]

@@ -3,6 +3,7 @@
 
 mod blocks;
 mod cable;
+mod calm_files;
 mod clock;
 mod clocks;
 mod files;
@@ -14,15 +15,17 @@ mod openings;
 mod real;
 mod real_clock;
 mod real_wire;
-mod shelf;
 mod sink;
+mod tally;
+mod text;
 mod wire;
 
+pub use calm_files::CalmFiles;
 pub use clock::Clock;
 pub use clocks::{MemClock, StillClock};
 pub use files::{Failed, Files};
 pub use memory::Memory;
-pub use memory_files::{CalmFiles, MemFiles};
+pub use memory_files::MemFiles;
 pub use memory_sinks::{CalmSink, MemSink};
 pub use memory_wires::{CalmWire, MemWire};
 pub use real::{RealFiles, RealOut};

@@ -1,9 +1,10 @@
 //! Sinks in memory: one whose writes can be made to fail, and one that never fails.
 
-ghost use Rattle.std.specs.Prelude.{◌≡◌, ◌≤◌, ◌<◌, ◌+◌, ◌-◌, ◌^◌, ◌++◌, ◌||◌, [], ℕ, List, Option, Some, None, true, IfOk, is_err, min, nat_lt, length, option_copied, vec_len, vec_capacity};
-ghost use Rattle.fs_outside.specs.Outside.{HasCause, fails_at};
-ghost use Rattle.fs_outside.specs.Sink.{WriteGrew};
+ghost use Rattle.std.specs.Prelude.{◌≡◌, ◌≤◌, ◌<◌, [], Some, IfOk, min, length, option_copied};
+ghost use Rattle.fs_outside.specs.{Outside.{HasCause}, Sink.{WriteGrew}};
 
+use crate::tally::{Tally, fault};
+use crate::text::Text;
 use crate::{Failed, Memory, Sink};
 use std::alloc::Global;
 
@@ -11,19 +12,12 @@ use std::alloc::Global;
 /// names fail, as does a write past the room.
 #[derive(Drop)]
 pub struct MemSink {
-    text: Vec<u8>,
-    room: usize,
-    failing: Vec<u64>,
-    calls: u64,
-    faults: u64,
-    most: usize,
-    ghost reserved: { room ≤ vec_capacity text },
-    ghost within: { vec_len text ≤ room },
-    ghost some: { 0 < most },
+    text: Text,
+    tally: Tally,
 }
 
 impl MemSink {
-    ghost use Rattle.fs_outside.specs.MemorySinks.{mem_sink_calls, mem_sink_failing, mem_sink_faults, mem_sink_most, mem_sink_room, mem_sink_text};
+    ghost use Rattle.fs_outside.specs.{MemorySinks.{mem_sink_room, mem_sink_tally, mem_sink_text}, Tallies.{narrowed, no_calls}};
 
     /// An empty sink with room for `room` octets. The writes of these numbers will fail.
     ///
@@ -33,70 +27,50 @@ impl MemSink {
     pub fn new(alloc: Global, room: usize, failing: Vec<u64>) -> Result<MemSink, Memory>
         ensures text { IfOk result (λ sink. mem_sink_text sink ≡ []) }
         ensures room { IfOk result (λ sink. mem_sink_room sink ≡ room) }
-        ensures failing { IfOk result (λ sink. mem_sink_failing sink ≡ failing.items) }
-        ensures calls { IfOk result (λ sink. mem_sink_calls sink ≡ 0) }
-        ensures faults { IfOk result (λ sink. mem_sink_faults sink ≡ 0) }
-        ensures most { IfOk result (λ sink. mem_sink_most sink ≡ 2 ^ 64 - 1) }
+        ensures tally { IfOk result (λ sink. mem_sink_tally sink ≡ no_calls failing.items) }
     {
         Ok(MemSink {
-            text: Vec::with_capacity(alloc, room)?,
-            room,
-            failing,
-            calls: 0,
-            faults: 0,
-            most: usize::MAX,
+            text: Text::new(alloc, room)?,
+            tally: Tally::new(failing),
         })
     }
 
     /// From now on no write takes more than `count` octets.
     pub fn narrow(&mut self, count: usize)
         requires { 1 ≤ count }
-        ensures most { mem_sink_most self.new ≡ min (mem_sink_most self.old) count }
+        ensures tally { mem_sink_tally self.new ≡ narrowed count (mem_sink_tally self.old) }
         ensures text { mem_sink_text self.new ≡ mem_sink_text self.old }
         ensures room { mem_sink_room self.new ≡ mem_sink_room self.old }
-        ensures failing { mem_sink_failing self.new ≡ mem_sink_failing self.old }
-        ensures calls { mem_sink_calls self.new ≡ mem_sink_calls self.old }
-        ensures faults { mem_sink_faults self.new ≡ mem_sink_faults self.old }
     {
-        self.most = self.most.min(count);
+        self.tally.narrow(count);
     }
 
     /// What was written.
     pub fn text(&self) -> &[u8]
         ensures { result.now ≡ mem_sink_text self.now }
     {
-        &self.text
+        &self.text.octets
     }
 }
 
 impl Sink for MemSink {
-    ghost use Rattle.fs_outside.specs.MemorySinks.{mem_sink_calls, mem_sink_failing, mem_sink_faults, mem_sink_most, mem_sink_refuses, mem_sink_room, mem_sink_text};
+    ghost use Rattle.fs_outside.specs.{MemorySinks.{mem_sink_refuses, mem_sink_room, mem_sink_tally, mem_sink_text}, Tallies.{Counts}};
 
     ghost written = { λ sink. Some (mem_sink_text sink) };
 
-    ghost faults = { mem_sink_faults };
+    ghost faults = { λ sink. (mem_sink_tally sink).faults };
 
     fn write(&mut self, piece: &[u8]) -> Result<usize, Failed>
-        ensures cause { HasCause (mem_sink_faults self.old) (mem_sink_faults self.new) result }
         ensures bound { IfOk result (λ n. n ≤ length piece.now) }
         ensures taken { 0 < length piece.now → IfOk result (λ n. 0 < n) }
         ensures written { WriteGrew (Some (mem_sink_text self.old)) (Some (mem_sink_text self.new)) result piece.now }
-        ensures refuses { is_err result ≡ mem_sink_refuses self.old piece.now }
-        ensures count { IfOk result (λ n. n ≡ min (length piece.now) (mem_sink_most self.old)) }
-        ensures most { mem_sink_most self.new ≡ mem_sink_most self.old }
+        ensures counts { Counts (mem_sink_refuses self.old piece.now) (mem_sink_tally self.old) (mem_sink_tally self.new) result }
+        ensures count { IfOk result (λ n. n ≡ min (length piece.now) (mem_sink_tally self.old).most) }
         ensures room { mem_sink_room self.new ≡ mem_sink_room self.old }
-        ensures failing { mem_sink_failing self.new ≡ mem_sink_failing self.old }
-        ensures calls { mem_sink_calls self.new ≡ min (mem_sink_calls self.old + 1) (2 ^ 64 - 1) }
     {
-        self.calls = self.calls.saturating_add(1);
-        let listed = self.failing.contains(&self.calls);
-        let count = piece.len().min(self.most);
-        if listed
-            || self.room - self.text.len() < count
-            || self.text.extend_from_slice(&piece[..count]).is_err()
-        {
-            self.faults = self.faults.saturating_add(1);
-            return Err(Failed);
+        let count = piece.len().min(self.tally.most);
+        if self.tally.is_listed() || !self.text.append(&piece[..count]) {
+            return Err(fault(&mut self.tally.faults));
         }
         Ok(count)
     }
@@ -106,11 +80,8 @@ impl Sink for MemSink {
 /// and the sink tells nothing from then on.
 #[derive(Drop)]
 pub struct CalmSink {
-    text: Vec<u8>,
-    room: usize,
+    text: Text,
     tells: bool,
-    ghost reserved: { room ≤ vec_capacity text },
-    ghost within: { vec_len text ≤ room },
 }
 
 impl CalmSink {
@@ -126,8 +97,7 @@ impl CalmSink {
         ensures room { IfOk result (λ sink. calm_sink_room sink ≡ room) }
     {
         Ok(CalmSink {
-            text: Vec::with_capacity(alloc, room)?,
-            room,
+            text: Text::new(alloc, room)?,
             tells: true,
         })
     }
@@ -136,7 +106,11 @@ impl CalmSink {
     pub fn text(&self) -> Option<&[u8]>
         ensures { option_copied result ≡ calm_sink_written self.now }
     {
-        if self.tells { Some(&self.text) } else { None }
+        if self.tells {
+            Some(&self.text.octets)
+        } else {
+            None
+        }
     }
 }
 
@@ -157,13 +131,9 @@ impl Sink for CalmSink {
         ensures tells { calm_sink_written self.new
             ≡ calm_sink_after (calm_sink_room self.old) (calm_sink_written self.old) piece.now }
     {
-        if !self.tells || self.room - self.text.len() < piece.len() {
+        if !self.tells || !self.text.append(piece) {
             self.tells = false;
-            return Ok(piece.len());
         }
-        match self.text.extend_from_slice(piece) {
-            Ok(()) => Ok(piece.len()),
-            Err(_) => Err(Failed),
-        }
+        Ok(piece.len())
     }
 }

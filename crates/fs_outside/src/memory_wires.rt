@@ -1,11 +1,10 @@
 //! Wires in memory: one whose calls can be made to fail, and one that never fails.
 
-ghost use Rattle.std.specs.Prelude.{◌≡◌, ◌≤◌, ◌<◌, ◌+◌, ◌-◌, ◌^◌, [], ℕ, List, Option, Some, None, IsTrue, false, IfOk, is_err, min, length, option_copied, option_map};
-ghost use Rattle.std.specs.Io.{ReadsAtMost};
-ghost use Rattle.fs_outside.specs.Outside.{HasCause, Rose, fails_at};
-ghost use Rattle.fs_outside.specs.Wire.{EndCloses, EndOpens, EndReads, EndWrites, Told, WireEnds, end_at};
+ghost use Rattle.std.specs.{Prelude.{◌≡◌, ◌≤◌, ◌<◌, Some, IfOk, min, length, option_copied, option_map}, Io.{ReadsAtMost}};
+ghost use Rattle.fs_outside.specs.Wire.{EndCloses, EndOpens, EndReads, EndWrites, end_at};
 
 use crate::cable::Cable;
+use crate::tally::{Tally, fault};
 use crate::{Failed, Memory, Opening, Wire};
 use std::alloc::Global;
 
@@ -15,15 +14,11 @@ use std::alloc::Global;
 #[derive(Drop)]
 pub struct MemWire {
     cable: Cable,
-    failing: Vec<u64>,
-    calls: u64,
-    faults: u64,
-    most: usize,
-    ghost some: { 0 < most },
+    tally: Tally,
 }
 
 impl MemWire {
-    ghost use Rattle.fs_outside.specs.MemoryWires.{fresh_end, mem_wire_calls, mem_wire_ends, mem_wire_failing, mem_wire_faults, mem_wire_most, mem_wire_room, new_ends, with_end};
+    ghost use Rattle.fs_outside.specs.{MemoryWires.{fresh_end, mem_wire_ends, mem_wire_room, mem_wire_tally, new_ends, with_end}, Tallies.{narrowed, no_calls}};
 
     /// A wire that isn't open, with room for `room` octets through each end. The calls of these numbers will fail.
     ///
@@ -33,17 +28,11 @@ impl MemWire {
     pub fn new(alloc: Global, room: usize, failing: Vec<u64>) -> Result<MemWire, Memory>
         ensures ends { IfOk result (λ wire. mem_wire_ends wire ≡ new_ends) }
         ensures room { IfOk result (λ wire. mem_wire_room wire ≡ room) }
-        ensures failing { IfOk result (λ wire. mem_wire_failing wire ≡ failing.items) }
-        ensures calls { IfOk result (λ wire. mem_wire_calls wire ≡ 0) }
-        ensures faults { IfOk result (λ wire. mem_wire_faults wire ≡ 0) }
-        ensures most { IfOk result (λ wire. mem_wire_most wire ≡ 2 ^ 64 - 1) }
+        ensures tally { IfOk result (λ wire. mem_wire_tally wire ≡ no_calls failing.items) }
     {
         Ok(MemWire {
             cable: Cable::new(alloc, room)?,
-            failing,
-            calls: 0,
-            faults: 0,
-            most: usize::MAX,
+            tally: Tally::new(failing),
         })
     }
 
@@ -52,10 +41,7 @@ impl MemWire {
         requires { end ≤ 1 }
         ensures ends { mem_wire_ends self.new ≡ with_end end (fresh_end octets.items) (mem_wire_ends self.old) }
         ensures room { mem_wire_room self.new ≡ mem_wire_room self.old }
-        ensures failing { mem_wire_failing self.new ≡ mem_wire_failing self.old }
-        ensures calls { mem_wire_calls self.new ≡ mem_wire_calls self.old }
-        ensures faults { mem_wire_faults self.new ≡ mem_wire_faults self.old }
-        ensures most { mem_wire_most self.new ≡ mem_wire_most self.old }
+        ensures tally { mem_wire_tally self.new ≡ mem_wire_tally self.old }
     {
         self.cable.give(end, octets);
     }
@@ -63,14 +49,11 @@ impl MemWire {
     /// From now on no call gives or takes more than `count` octets.
     pub fn narrow(&mut self, count: usize)
         requires { 1 ≤ count }
-        ensures most { mem_wire_most self.new ≡ min (mem_wire_most self.old) count }
+        ensures tally { mem_wire_tally self.new ≡ narrowed count (mem_wire_tally self.old) }
         ensures ends { mem_wire_ends self.new ≡ mem_wire_ends self.old }
         ensures room { mem_wire_room self.new ≡ mem_wire_room self.old }
-        ensures failing { mem_wire_failing self.new ≡ mem_wire_failing self.old }
-        ensures calls { mem_wire_calls self.new ≡ mem_wire_calls self.old }
-        ensures faults { mem_wire_faults self.new ≡ mem_wire_faults self.old }
     {
-        self.most = self.most.min(count);
+        self.tally.narrow(count);
     }
 
     /// What was written through the end.
@@ -83,57 +66,26 @@ impl MemWire {
 
     /// So many calls were made.
     pub fn calls(&self) -> u64
-        ensures { result ≡ mem_wire_calls self.now }
+        ensures { result ≡ (mem_wire_tally self.now).calls }
     {
-        self.calls
-    }
-
-    /// Counts a fault.
-    fn fault(&mut self) -> Failed
-        ensures rose { Rose self.old.faults self.new.faults }
-        ensures later { self.old.faults ≤ self.new.faults }
-        ensures cable { self.new.cable ≡ self.old.cable }
-        ensures failing { self.new.failing ≡ self.old.failing }
-        ensures calls { self.new.calls ≡ self.old.calls }
-        ensures most { self.new.most ≡ self.old.most }
-    {
-        self.faults = self.faults.saturating_add(1);
-        Failed
-    }
-
-    /// Counts a call, and answers whether the list names it.
-    fn is_listed(&mut self) -> bool
-        ensures listed { result ≡ fails_at self.old.failing.items self.old.calls }
-        ensures calls { self.new.calls ≡ min (self.old.calls + 1) (2 ^ 64 - 1) }
-        ensures faults { self.new.faults ≡ self.old.faults }
-        ensures cable { self.new.cable ≡ self.old.cable }
-        ensures failing { self.new.failing ≡ self.old.failing }
-        ensures most { self.new.most ≡ self.old.most }
-    {
-        self.calls = self.calls.saturating_add(1);
-        let listed = self.failing.contains(&self.calls);
-        listed
+        self.tally.calls()
     }
 }
 
 impl Wire for MemWire {
-    ghost use Rattle.fs_outside.specs.MemoryWires.{mem_wire_calls, mem_wire_ends, mem_wire_failing, mem_wire_fails, mem_wire_faults, mem_wire_most, mem_wire_refuses, mem_wire_room};
+    ghost use Rattle.fs_outside.specs.{MemoryWires.{mem_wire_ends, mem_wire_refuses, mem_wire_room, mem_wire_tally}, Tallies.{Counts, fails}};
 
     ghost tells = { λ wire. Some (mem_wire_ends wire) };
 
-    ghost faults = { mem_wire_faults };
+    ghost faults = { λ wire. (mem_wire_tally wire).faults };
 
     fn open_end(&mut self, how: Opening<'_>) -> Result<(), Failed>
-        ensures cause { HasCause (mem_wire_faults self.old) (mem_wire_faults self.new) result }
         ensures opened { EndOpens how.entry result (mem_wire_ends self.old) (mem_wire_ends self.new) }
-        ensures fails { is_err result ≡ mem_wire_fails self.old }
-        ensures calls { mem_wire_calls self.new ≡ min (mem_wire_calls self.old + 1) (2 ^ 64 - 1) }
-        ensures failing { mem_wire_failing self.new ≡ mem_wire_failing self.old }
+        ensures counts { Counts (fails (mem_wire_tally self.old)) (mem_wire_tally self.old) (mem_wire_tally self.new) result }
         ensures room { mem_wire_room self.new ≡ mem_wire_room self.old }
-        ensures most { mem_wire_most self.new ≡ mem_wire_most self.old }
     {
-        if self.is_listed() {
-            return Err(self.fault());
+        if self.tally.is_listed() {
+            return Err(fault(&mut self.tally.faults));
         }
         self.cable.open(how);
         Ok(())
@@ -142,55 +94,47 @@ impl Wire for MemWire {
     fn read(&mut self, end: u8, into: &mut [u8]) -> Result<usize, Failed>
         requires { end ≤ 1 }
         ensures bound { ReadsAtMost result into.new }
-        ensures cause { HasCause (mem_wire_faults self.old) (mem_wire_faults self.new) result }
         ensures reads { EndReads end result into.new (mem_wire_ends self.old) (mem_wire_ends self.new) }
-        ensures fails { is_err result ≡ mem_wire_fails self.old }
+        ensures counts { Counts (fails (mem_wire_tally self.old)) (mem_wire_tally self.old) (mem_wire_tally self.new) result }
         ensures count { IfOk result (λ n. n ≡ min
             (length (end_at end (mem_wire_ends self.old)).left)
-            (min (length into.new) (mem_wire_most self.old))) }
-        ensures calls { mem_wire_calls self.new ≡ min (mem_wire_calls self.old + 1) (2 ^ 64 - 1) }
-        ensures failing { mem_wire_failing self.new ≡ mem_wire_failing self.old }
+            (min (length into.new) (mem_wire_tally self.old).most)) }
         ensures room { mem_wire_room self.new ≡ mem_wire_room self.old }
-        ensures most { mem_wire_most self.new ≡ mem_wire_most self.old }
     {
-        if self.is_listed() {
-            return Err(self.fault());
+        if self.tally.is_listed() {
+            return Err(fault(&mut self.tally.faults));
         }
-        Ok(self.cable.read(end, self.most, into))
+        Ok(self.cable.read(end, self.tally.most, into))
     }
 
     fn write(&mut self, end: u8, piece: &[u8]) -> Result<usize, Failed>
         requires { end ≤ 1 }
-        ensures cause { HasCause (mem_wire_faults self.old) (mem_wire_faults self.new) result }
         ensures bound { IfOk result (λ n. n ≤ length piece.now) }
         ensures taken { 0 < length piece.now → IfOk result (λ n. 0 < n) }
         ensures writes { EndWrites end result piece.now (mem_wire_ends self.old) (mem_wire_ends self.new) }
-        ensures refuses { is_err result ≡ mem_wire_refuses self.old end piece.now }
-        ensures count { IfOk result (λ n. n ≡ min (length piece.now) (mem_wire_most self.old)) }
-        ensures calls { mem_wire_calls self.new ≡ min (mem_wire_calls self.old + 1) (2 ^ 64 - 1) }
-        ensures failing { mem_wire_failing self.new ≡ mem_wire_failing self.old }
+        ensures counts { Counts
+            (mem_wire_refuses self.old end piece.now)
+            (mem_wire_tally self.old)
+            (mem_wire_tally self.new)
+            result }
+        ensures count { IfOk result (λ n. n ≡ min (length piece.now) (mem_wire_tally self.old).most) }
         ensures room { mem_wire_room self.new ≡ mem_wire_room self.old }
-        ensures most { mem_wire_most self.new ≡ mem_wire_most self.old }
     {
-        let count = piece.len().min(self.most);
-        if self.is_listed() || !self.cable.write(end, &piece[..count]) {
-            return Err(self.fault());
+        let count = piece.len().min(self.tally.most);
+        if self.tally.is_listed() || !self.cable.write(end, &piece[..count]) {
+            return Err(fault(&mut self.tally.faults));
         }
         Ok(count)
     }
 
     fn close(&mut self, end: u8) -> Result<(), Failed>
         requires { end ≤ 1 }
-        ensures cause { HasCause (mem_wire_faults self.old) (mem_wire_faults self.new) result }
         ensures closes { EndCloses (mem_wire_ends self.old) (mem_wire_ends self.new) }
-        ensures fails { is_err result ≡ mem_wire_fails self.old }
-        ensures calls { mem_wire_calls self.new ≡ min (mem_wire_calls self.old + 1) (2 ^ 64 - 1) }
-        ensures failing { mem_wire_failing self.new ≡ mem_wire_failing self.old }
+        ensures counts { Counts (fails (mem_wire_tally self.old)) (mem_wire_tally self.old) (mem_wire_tally self.new) result }
         ensures room { mem_wire_room self.new ≡ mem_wire_room self.old }
-        ensures most { mem_wire_most self.new ≡ mem_wire_most self.old }
     {
-        if self.is_listed() {
-            return Err(self.fault());
+        if self.tally.is_listed() {
+            return Err(fault(&mut self.tally.faults));
         }
         Ok(())
     }

@@ -1,9 +1,7 @@
 //! The openings of files in memory.
 
 ghost use Rattle.std.specs.Prelude.{◌≡◌, ◌++◌, [], Some, IsTrue, map};
-ghost use Rattle.fs_outside.specs.Files.{one_opening};
-ghost use Rattle.fs_outside.specs.Noted.{opening_of};
-ghost use Rattle.fs_outside.specs.Sink.{Grew};
+ghost use Rattle.fs_outside.specs.{Files.{one_opening}, Noted.{opening_of}, Sink.{Grew}};
 
 use std::alloc::Global;
 use std::marker::Model;
@@ -24,8 +22,7 @@ pub struct Openings {
 
 impl Model for Openings {
     ghost use Rattle.std.specs.Prelude.{List, Option, Some, None, if◌then◌else◌, map};
-    ghost use Rattle.fs_outside.specs.Files.{Opened};
-    ghost use Rattle.fs_outside.specs.Noted.{opening_of};
+    ghost use Rattle.fs_outside.specs.{Files.{Opened}, Noted.{opening_of}};
 
     ghost Value = { Option (List Opened) };
 

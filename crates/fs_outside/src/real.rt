@@ -1,22 +1,13 @@
 //! The real outside: files of the system, and a writer for the program's lines.
-ghost use Rattle.std.specs.Prelude.{◌≡◌, ◌≤◌, IfOk};
-ghost use Rattle.std.specs.Io.{ReadsAtMost};
-ghost use Rattle.fs_outside.specs.Outside.{HasCause, Rose};
+ghost use Rattle.std.specs.{Prelude.{◌≡◌, ◌≤◌, IfOk}, Io.{ReadsAtMost}};
+ghost use Rattle.fs_outside.specs.Outside.{HasCause};
 
 use crate::blocks::Blocks;
+use crate::tally::fault;
 use crate::{Failed, Files, Sink};
 use std::alloc::Global;
 use std::io::{ErrorKind, Read, Write};
 use std::{fs, io, rt};
-
-/// Counts a fault.
-pub fn fault(faults: &mut u64) -> Failed
-    ensures rose { Rose faults.old faults.new }
-    ensures later { faults.old ≤ faults.new }
-{
-    *faults = faults.saturating_add(1);
-    Failed
-}
 
 /// The three slots and the faults so far.
 #[derive(Drop)]

@@ -1,10 +1,9 @@
 //! A wire of TCP connections.
 
-ghost use Rattle.std.specs.Prelude.{◌≡◌, ◌≤◌, ◌<◌, IfOk, length};
-ghost use Rattle.std.specs.Io.{ReadsAtMost};
+ghost use Rattle.std.specs.{Prelude.{◌≡◌, ◌≤◌, ◌<◌, IfOk, length}, Io.{ReadsAtMost}};
 ghost use Rattle.fs_outside.specs.Outside.{HasCause};
 
-use crate::real::fault;
+use crate::tally::fault;
 use crate::{Failed, Opening, Wire};
 use std::io;
 use std::io::{ErrorKind, Read, Write};

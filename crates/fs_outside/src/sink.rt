@@ -1,8 +1,7 @@
 //! Where lines go, as a trait.
 
 ghost use Rattle.std.specs.Prelude.{◌<◌, ◌≤◌, ℕ, List, Option, IfOk, length};
-ghost use Rattle.fs_outside.specs.Outside.{HasCause};
-ghost use Rattle.fs_outside.specs.Sink.{WriteGrew};
+ghost use Rattle.fs_outside.specs.{Outside.{HasCause}, Sink.{WriteGrew}};
 
 use crate::Failed;
 

@@ -1,9 +1,7 @@
 //! A wire with two ends, as a trait.
 
-ghost use Rattle.std.specs.Prelude.{◌<◌, ◌≤◌, ℕ, Option, IfOk, length};
-ghost use Rattle.std.specs.Io.{ReadsAtMost};
-ghost use Rattle.fs_outside.specs.Outside.{HasCause};
-ghost use Rattle.fs_outside.specs.Wire.{WireEnds, Told, EndOpens, EndReads, EndWrites, EndCloses};
+ghost use Rattle.std.specs.{Prelude.{◌<◌, ◌≤◌, ℕ, Option, IfOk, length}, Io.{ReadsAtMost}};
+ghost use Rattle.fs_outside.specs.{Outside.{HasCause}, Wire.{WireEnds, Told, EndOpens, EndReads, EndWrites, EndCloses}};
 
 use crate::Failed;
 

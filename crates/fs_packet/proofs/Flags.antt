@@ -1,10 +1,8 @@
 -- One number serves TCP flag values of either width.
 use Rattle.fs_packet.proofs.Words.{◌≡◌, ℕ, ◌-◌, ◌<◌, ◌%◌, ◌^◌, List, [], ◌∷◌, Bool, true, false, not, ◌==◌, if◌then◌else◌, refl, sym, ap, ◌∙◌, arith, bit_and, subst, AllByRecursion, list_all, eqb-true, groups_of, has_bit, holds, masks, onto_group, IsSoundBody, tcp_flags}
-use Rattle.std.proofs.lemmas.Nat.{and_assoc, and_comm, and_mask}
-use Rattle.std.proofs.Math.Nat.{mod-eq_of_lt}
+use Rattle.std.proofs.{lemmas.Nat.{and_assoc, and_comm, and_mask}, Math.Nat.{mod-eq_of_lt}}
 use Rattle.fs_base.proofs.Lists.{all_on, any_on}
-use Rattle.fs_ops.specs.Operator.{joins, meant_bits, width_of}
-use Rattle.fs_ops.specs.OperatorList.{AreNormal}
+use Rattle.fs_ops.specs.{Operator.{joins, meant_bits, width_of}, OperatorList.{AreNormal}}
 use Rattle.fs_nlri.specs.Parts.{ListBody}
 
 -- each value fits its width

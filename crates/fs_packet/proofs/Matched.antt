@@ -1,7 +1,6 @@
 -- The components of a rule are tested one by one.
 use Rattle.fs_packet.proofs.Words.{◌≡◌, ℕ, List, drop, list_all, AreSound, Viewed, part_matches}
-use Rattle.fs_nlri.specs.declared.component.Component.{Component}
-use Rattle.fs_nlri.specs.Component.{parts_of}
+use Rattle.fs_nlri.specs.{declared.component.Component.{Component}, Component.{parts_of}}
 
 -- the components before the index match
 pub record Matching (view : Viewed) (components : List Component) (index : ℕ) : Type 0 where

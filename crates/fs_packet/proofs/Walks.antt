@@ -1,8 +1,7 @@
 -- The walk over headers finds the headers' chain.
 use Rattle.fs_packet.proofs.Words.{◌≡◌, ℕ, ◌/◌, ◌<◌, ◌≤◌, List, [], ◌∷◌, length, drop, Option, Some, None, refl, sym, ap, ◌∙◌, arith, slice_index, Bool, true, false, ◌&&◌, ◌==◌, nat_le, if◌then◌else◌, subst, unwrap_or, nat_tests, leb-true, number_at, behind_fragment, chain_of, extension_size, first_header, header_of, is_extension, last_field}
 use Rattle.std.proofs.lemmas.List.{length-drop}
-use Rattle.fs_base.specs.Parts.{Shrinks, parts_of, with_part}
-use Rattle.fs_base.proofs.Parts.{parts_end, parts_step}
+use Rattle.fs_base.{specs.Parts.{Shrinks, parts_of, with_part}, proofs.Parts.{parts_end, parts_step}}
 
 -- what is left of the walk gives what the whole gives
 pub record Walking (number : ℕ) (octets : List ℕ) (next : ℕ) (rest : List ℕ) (field : ℕ) : Type 0 where

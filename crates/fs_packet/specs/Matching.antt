@@ -1,11 +1,7 @@
 -- When a packet matches a rule (RFC 8955 section 4.2, RFC 8956 section 3): every component matches.
-use Rattle.std.specs.Prelude.{ℕ, ◌-◌, ◌*◌, ◌%◌, ◌^◌, ◌==◌, Bool, false, ◌&&◌, ◌||◌, List, if◌then◌else◌, Option, Some, None}
-use Rattle.std.specs.List.{list_all}
-use Rattle.fs_base.specs.declared.config.Address.{Address}
-use Rattle.fs_base.specs.declared.config.Address.TheVariants.{V4, V6}
-use Rattle.fs_base.specs.Bits.{afi_of, cleared}
-use Rattle.fs_ops.specs.Operator.{width_of}
-use Rattle.fs_ops.specs.Evaluation.{holds, compares, masks}
+use Rattle.std.specs.{Prelude.{ℕ, ◌-◌, ◌*◌, ◌%◌, ◌^◌, ◌==◌, Bool, false, ◌&&◌, ◌||◌, List, if◌then◌else◌, Option, Some, None}, List.{list_all}}
+use Rattle.fs_base.specs.{declared.config.Address.{Address, TheVariants.{V4, V6}}, Bits.{afi_of, cleared}}
+use Rattle.fs_ops.specs.{Operator.{width_of}, Evaluation.{holds, compares, masks}}
 use Rattle.fs_nlri.specs.Parts.{Body, V4Body, V6Body, ListBody, Part, Ruled}
 use Rattle.fs_packet.specs.Fields.{Viewed}
 

@@ -1,6 +1,5 @@
 -- What a view tells of its packet: all of it.
-use Rattle.fs_packet.specs.Fields.{Viewed}
-use Rattle.fs_packet.specs.declared.told.Told.{Told}
+use Rattle.fs_packet.specs.{Fields.{Viewed}, declared.told.Told.{Told}}
 
 abbrev pub told_of : Viewed → Told
 told_of v = record {

@@ -1,11 +1,8 @@
 //! Whether a rule matches a packet.
 
-ghost use Rattle.std.specs.Prelude.{◌≡◌, ◌≤◌, ◌==◌, ◌&&◌};
-ghost use Rattle.std.specs.List.{list_all};
+ghost use Rattle.std.specs.{Prelude.{◌≡◌, ◌≤◌, ◌==◌, ◌&&◌}, List.{list_all}};
 ghost use Rattle.fs_base.specs.Bits.{cleared, width_of};
-ghost use Rattle.fs_nlri.specs.Component.{body_of, part_of, parts_of};
-ghost use Rattle.fs_nlri.specs.Parts.{ListBody};
-ghost use Rattle.fs_nlri.specs.Sound.{AreSound, IsSoundBody};
+ghost use Rattle.fs_nlri.specs.{Component.{body_of, part_of, parts_of}, Parts.{ListBody}, Sound.{AreSound, IsSoundBody}};
 ghost use Rattle.fs_packet.specs.Matching.{flags_hold, holds_of, is_match, is_prefix_of, part_matches};
 
 use crate::fields::View;

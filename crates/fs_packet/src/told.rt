@@ -47,11 +47,8 @@ fn fields_of(view: &View<'_>) -> Told
 
 /// Two views are equal where each field is the same, whatever else the octets of the packets are.
 impl PartialEq for View<'_> {
-    ghost use Rattle.std.specs.Ordering.{on};
-    ghost use Rattle.std.specs.Cmp.{on_equiv, partial_equiv_from_equiv};
-    ghost use Rattle.fs_packet.specs.Told.{told_of};
-    ghost use Rattle.fs_packet.specs.contracts.told.ToldPartialEq.TheImpl.{ghosts};
-    ghost use Rattle.fs_packet.specs.contracts.told.ToldEq.TheImpl.Laws.{laws-law};
+    ghost use Rattle.std.specs.{Ordering.{on}, Cmp.{on_equiv, partial_equiv_from_equiv}};
+    ghost use Rattle.fs_packet.specs.{Told.{told_of}, contracts.told.{ToldPartialEq.TheImpl.{ghosts}, ToldEq.TheImpl.Laws.{laws-law}}};
 
     ghost eq = { on told_of ghosts.eq };
 
@@ -64,8 +61,7 @@ impl PartialEq for View<'_> {
 
 impl Eq for View<'_> {
     ghost use Rattle.std.specs.Cmp.{on_equiv};
-    ghost use Rattle.fs_packet.specs.Told.{told_of};
-    ghost use Rattle.fs_packet.specs.contracts.told.ToldEq.TheImpl.Laws.{laws-law};
+    ghost use Rattle.fs_packet.specs.{Told.{told_of}, contracts.told.ToldEq.TheImpl.Laws.{laws-law}};
 
     ghost laws = { on_equiv told_of laws-law };
 }

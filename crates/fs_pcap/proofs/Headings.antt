@@ -1,14 +1,8 @@
 -- What a header says, exactly where its octets are its text.
-use Rattle.fs_pcap.proofs.Words.{◌≡◌, ℕ, List, [], ◌++◌, Option, Some, None, Bool, true, false, ◌<◌, ◌≤◌, ◌%◌, ◌^◌, ◌==◌, not, length, take, drop, refl, ap, sym, subst, ◌∙◌, arith, append-nil, length-append, take-append-drop, eqb-true, nat_lt, if◌then◌else◌, drop-drop, drop_at, length-drop, length-take, nat_tests, common_steps, IsOctets, octets_drop, Whole, Wrong, Partial, header_of, link_field, ordered_header, HeaderWords, IsHeaderOf, header_text, octets_of, number, order_of, CaptureReason, Magic, Version, Heading, Link, Endian, Big, Little}
-use Rattle.byteorder.specs.Endian.{big_bytes, big_number}
-use Rattle.byteorder.specs.Numbers.{big_number-reads_back, length-bytes_high_first, length-bytes_low_first, little_number-reads_back}
-use Rattle.fs_base.proofs.Digits.{big_below, big_written, little_below, little_written}
+use Rattle.fs_pcap.{proofs.Words.{◌≡◌, ℕ, List, [], ◌++◌, Option, Some, None, Bool, true, false, ◌<◌, ◌≤◌, ◌%◌, ◌^◌, ◌==◌, not, length, take, drop, refl, ap, sym, subst, ◌∙◌, arith, append-nil, length-append, take-append-drop, eqb-true, nat_lt, if◌then◌else◌, drop-drop, drop_at, length-drop, length-take, nat_tests, common_steps, IsOctets, octets_drop, Whole, Wrong, Partial, header_of, link_field, ordered_header, HeaderWords, IsHeaderOf, header_text, octets_of, number, order_of, CaptureReason, Magic, Version, Heading, Link, Endian, Big, Little}, specs.declared.{fault.CaptureReason.TheVariants.{Link as UnreadLink}, order.Unit.{Unit as FractionUnit, TheVariants.{Microseconds, Nanoseconds}}}}
+use Rattle.byteorder.specs.{Endian.{big_bytes, big_number}, Numbers.{big_number-reads_back, length-bytes_high_first, length-bytes_low_first, little_number-reads_back}}
+use Rattle.fs_base.{proofs.{Digits.{big_below, big_written, little_below, little_written}, Bools.{true_of_not}}, specs.Link.{link_of}}
 use Rattle.fs_input.specs.declared.head.Head.{Head}
-use Rattle.fs_base.specs.Link.{link_of}
-use Rattle.fs_pcap.specs.declared.fault.CaptureReason.TheVariants.{Link as UnreadLink}
-use Rattle.fs_base.proofs.Bools.{true_of_not}
-use Rattle.fs_pcap.specs.declared.order.Unit.{Unit as FractionUnit}
-use Rattle.fs_pcap.specs.declared.order.Unit.TheVariants.{Microseconds, Nanoseconds}
 
 -- numbers in either order
 

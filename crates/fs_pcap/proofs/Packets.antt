@@ -1,18 +1,14 @@
 -- What a record says, exactly where its octets are its packet's text.
-use Rattle.fs_pcap.proofs.Words.{◌≡◌, ℕ, List, [], ◌∷◌, ◌++◌, Bool, true, false, ◌<◌, ◌≤◌, ◌+◌, ◌^◌, length, take, drop, refl, ap, sym, subst, ◌∙◌, arith, append-nil, append_assoc, length-append, take-append-drop, flat_map, max, nat_le, nat_lt, if◌then◌else◌, drop-drop, drop_at, length-drop, length-take, take_at, nat_tests, common_steps, IsOctets, octets_drop, octets_take, first_record, Whole, Wrong, Partial, record_found, Captured, packet_of, records, Fits, after, octets_of, packet_text, stands, number, time_of, RecordTooLong, Context, Endian}
+use Rattle.fs_pcap.{proofs.{Words.{◌≡◌, ℕ, List, [], ◌∷◌, ◌++◌, Bool, true, false, ◌<◌, ◌≤◌, ◌+◌, ◌^◌, length, take, drop, refl, ap, sym, subst, ◌∙◌, arith, append-nil, append_assoc, length-append, take-append-drop, flat_map, max, nat_le, nat_lt, if◌then◌else◌, drop-drop, drop_at, length-drop, length-take, take_at, nat_tests, common_steps, IsOctets, octets_drop, octets_take, first_record, Whole, Wrong, Partial, record_found, Captured, packet_of, records, Fits, after, octets_of, packet_text, stands, number, time_of, RecordTooLong, Context, Endian}, Headings.{number_below, number_read, number_written, octets_count}}, specs.{Head.{head_of, said_in}, declared.{capture.Caught.{Caught}, order.Unit.{Unit as FractionUnit}}}}
 use Rattle.fs_input.specs.Parts.{At, ReadsText, SpellsText, text_from}
-use Rattle.fs_pcap.specs.Head.{head_of, said_in}
-use Rattle.fs_pcap.specs.declared.head.Said.{Said}
-use Rattle.fs_pcap.specs.declared.order.Unit.{Unit as FractionUnit}
-use Rattle.fs_pcap.proofs.Headings.{number_below, number_read, number_written, octets_count}
 
 -- the fields of a whole head
-record IsHeadOf (now : Context) (head : List ℕ) (said : Said) (size : ℕ) : Type 0 where
+record IsHeadOf (now : Context) (head : List ℕ) (said : Caught) (size : ℕ) : Type 0 where
   pub said_is : said_in now head ≡ said
   pub size_is : number now.order 4 (drop 8 head) ≡ size
   pub small : size ≤ 262144
 
-head_told : (now : Context) (head : List ℕ) (said : Said) (size : ℕ) → head_of now head ≡ Whole said size → IsHeadOf now head said size
+head_told : (now : Context) (head : List ℕ) (said : Caught) (size : ℕ) → head_of now head ≡ Whole said size → IsHeadOf now head said size
 head_told now head said size h =
     by (nat_lt (length head) 12) (nat_lt 262144 (number now.order 4 (drop 8 head))) (nat_lt (length head) 16) refl h
   where
@@ -31,12 +27,12 @@ head_told now head said size h =
         let most : number now.order 4 (drop 8 head) ≤ 262144 = grind (arith, nat_tests) in
         record { said_is = (cc); size_is = same; small = (omega (arith, same, most)) }
 
-head_known : (now : Context) (head : List ℕ) (said : Said) (size : ℕ) → length head ≡ 16 → IsHeadOf now head said size
+head_known : (now : Context) (head : List ℕ) (said : Caught) (size : ℕ) → length head ≡ 16 → IsHeadOf now head said size
     → head_of now head ≡ Whole said size
 head_known now head said size sixteen h =
     let small : size ≤ 262144 = h.small in
     let short : nat_lt 262144 size ≡ false = grind (arith, nat_tests) in
-    rw (sixteen, h.size_is, short, h.said_is) refl
+    rw (h.said_is, sixteen, h.size_is, short) refl
 
 -- a head, written by its four numbers
 head_written : (order : Endian) (head : List ℕ) → length head ≡ 16 → IsOctets head
@@ -69,7 +65,7 @@ rejoined : (a b c d payload rest : List ℕ) → (a ++ (b ++ (c ++ d))) ++ (payl
 rejoined a b c d payload rest = simp append_assoc refl
 
 -- the text of a packet by what its head says
-said_text : (order : Endian) (said : Said) (size : ℕ) (payload : List ℕ) → length payload ≡ size
+said_text : (order : Endian) (said : Caught) (size : ℕ) (payload : List ℕ) → length payload ≡ size
     → packet_text order (packet_of said payload)
     ≡ octets_of order 4 said.seconds
     ++ (octets_of order 4 said.fraction ++ (octets_of order 4 size ++ (octets_of order 4 said.original ++ payload)))
@@ -139,7 +135,7 @@ numbers_read : (now : Context) (seconds fraction size original moment : ℕ) →
     → original < 256 ^ 4 → moment ≡ max now.moment (time_of now.unit seconds fraction)
     → (head : List ℕ)
     → head ≡ octets_of now.order 4 seconds ++ (octets_of now.order 4 fraction ++ (octets_of now.order 4 size ++ octets_of now.order 4 original))
-    → IsHeadOf now head (record { seconds = seconds; fraction = fraction; original = original; moment = moment }) size
+    → IsHeadOf now head (record { seconds = seconds; fraction = fraction; taken = size; original = original; moment = moment }) size
 numbers_read now seconds fraction size original moment a b c d m head is =
     let order = now.order in
     let one : number order 4 head ≡ seconds =
@@ -160,7 +156,7 @@ numbers_read now seconds fraction size original moment a b c d m head is =
     let five : max now.moment (time_of now.unit (number order 4 head) (number order 4 (drop 4 head))) ≡ moment =
     (λ i. max now.moment (time_of now.unit (one i) (two i))) ∙ sym m in
     record {
-      said_is = λ i. record { seconds = one i; fraction = two i; original = four i; moment = five i };
+      said_is = λ i. record { seconds = one i; fraction = two i; taken = three i; original = four i; moment = five i };
       size_is = three;
       small = c;
     }
@@ -174,9 +170,10 @@ packet_read now packet rest fits =
     (octets_of order 4 packet.original) packet.octets rest
     (octets_count order 4 packet.seconds) (octets_count order 4 packet.fraction) (octets_count order 4 (length packet.octets))
     (octets_count order 4 packet.original) in
-    let said : Said = record {
+    let said : Caught = record {
       seconds = packet.seconds;
       fraction = packet.fraction;
+      taken = length packet.octets;
       original = packet.original;
       moment = packet.moment;
     } in

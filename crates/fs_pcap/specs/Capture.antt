@@ -1,19 +1,8 @@
 -- A capture of the libpcap file format, version 2.4: a header, and records. A record has a head and the captured
 -- octets.
 use Rattle.std.specs.Prelude.{ℕ, List, [], Option, Some, None, Result, Ok, Err, ◌≡◌, ◌≤◌, take, drop}
-use Rattle.fs_input.specs.NextRecord.{Grows as GrowsBy}
-use Rattle.fs_input.specs.Opening.{opening}
-use Rattle.fs_input.specs.Records.{End, Format, records_to_come}
-use Rattle.fs_input.specs.declared.fault.Ended.{Ended}
-use Rattle.fs_input.specs.declared.fault.Fault.{Fault}
-use Rattle.fs_pcap.specs.Head.{head_of, longest_record}
-use Rattle.fs_pcap.specs.Header.{header_of}
-use Rattle.fs_pcap.specs.declared.capture.Caught.{Caught}
-use Rattle.fs_pcap.specs.declared.fault.CaptureReason.{CaptureReason}
-use Rattle.fs_pcap.specs.declared.fault.CaptureReason.TheVariants.{Cut}
-use Rattle.fs_pcap.specs.declared.head.Said.{Said}
-use Rattle.fs_pcap.specs.declared.head.Context.{Context}
-use Rattle.fs_pcap.specs.declared.header.Heading.{Heading}
+use Rattle.fs_input.specs.{NextRecord.{Grows as GrowsBy}, Opening.{opening}, Records.{End, Format, records_to_come}, declared.fault.{Ended.{Ended}, Fault.{Fault}}}
+use Rattle.fs_pcap.specs.{Head.{head_of, longest_record}, Header.{header_of}, declared.{capture.Caught.{Caught}, fault.CaptureReason.{CaptureReason, TheVariants.{Cut}}, head.Context.{Context}, header.Heading.{Heading}}}
 use Rattle.fs_base.specs.declared.link.Link.{Link}
 
 -- A captured packet. Its moment, in nanoseconds since the start of 1970, is the greatest time of the records up to and
@@ -25,16 +14,14 @@ pub record Captured : Type 0 where
   pub moment : ℕ
   pub octets : List ℕ
 
-abbrev pub packet_of : Said → List ℕ → Captured
-packet_of said octets = record {
-  seconds = said.seconds;
-  fraction = said.fraction;
-  original = said.original;
-  moment = said.moment;
-  octets = octets;
-}
+abbrev pub packet : (seconds fraction original moment : ℕ) → List ℕ → Captured
+packet seconds fraction original moment octets =
+    record { seconds = seconds; fraction = fraction; original = original; moment = moment; octets = octets }
 
-abbrev pub records : Format Context Said Captured CaptureReason
+abbrev pub packet_of : Caught → List ℕ → Captured
+packet_of caught octets = packet caught.seconds caught.fraction caught.original caught.moment octets
+
+abbrev pub records : Format Context Caught Captured CaptureReason
 records = record {
   head_size = λ now. 16;
   head_of = head_of;
@@ -85,13 +72,7 @@ coming capture left = packets_to_come capture.heading capture.limit capture.plac
 
 -- a packet as its record tells it; its octets stand at the front of the buffer
 abbrev pub packet_from : Caught → List ℕ → Captured
-packet_from caught into = record {
-  seconds = caught.seconds;
-  fraction = caught.fraction;
-  original = caught.original;
-  moment = caught.moment;
-  octets = take caught.taken into;
-}
+packet_from caught into = packet_of caught (take caught.taken into)
 
 -- A record raises the place, up to the limit at most. Its octets are those that were captured, and none too many.
 abbrev pub Grows : (old new limit : ℕ) → Result (Option Caught) (Fault CaptureReason) → Type 0

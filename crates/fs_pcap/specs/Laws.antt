@@ -1,18 +1,9 @@
 -- A capture is done exactly where it is the text of its packets, behind a header.
 use Rattle.std.specs.Prelude.{ℕ, List, ◌++◌, Some, ◌≡◌, ◌↔◌, ◌<◌, ◌≤◌, ◌%◌, ◌^◌, length, flat_map, max}
 use Rattle.byteorder.specs.Endian.{big_bytes, little_bytes}
-use Rattle.fs_base.specs.Language.{IsOctets}
-use Rattle.fs_input.specs.Parts.{AllFrom}
-use Rattle.fs_input.specs.Records.{done}
-use Rattle.fs_pcap.specs.Capture.{Captured, capture_of}
-use Rattle.fs_pcap.specs.Head.{longest_record}
-use Rattle.fs_base.specs.Link.{link_of}
-use Rattle.fs_pcap.specs.Order.{order_of, time_of}
-use Rattle.fs_pcap.specs.declared.head.Context.{Context}
-use Rattle.fs_base.specs.declared.link.Link.{Link}
-use Rattle.fs_pcap.specs.declared.order.Endian.{Endian}
-use Rattle.fs_pcap.specs.declared.order.Endian.TheVariants.{Big, Little}
-use Rattle.fs_pcap.specs.declared.order.Unit.{Unit as FractionUnit}
+use Rattle.fs_base.specs.{Language.{IsOctets}, Link.{link_of}, declared.link.Link.{Link}}
+use Rattle.fs_input.specs.{Parts.{AllFrom}, Records.{done}}
+use Rattle.fs_pcap.specs.{Capture.{Captured, capture_of}, Head.{longest_record}, Order.{order_of, time_of}, declared.{head.Context.{Context}, order.{Endian.{Endian, TheVariants.{Big, Little}}, Unit.{Unit as FractionUnit}}}}
 
 abbrev pub octets_of : Endian → ℕ → ℕ → List ℕ
 octets_of Big size number = big_bytes size number

@@ -1,10 +1,7 @@
 -- What a capture's magic tells: the order of the octets in its numbers, and the unit of the fractions of a second.
 use Rattle.std.specs.Prelude.{ℕ, List, Option, Some, None, ◌+◌, ◌*◌, ◌==◌, if◌then◌else◌}
 use Rattle.byteorder.specs.Endian.{big_number, little_number}
-use Rattle.fs_pcap.specs.declared.order.Endian.{Endian}
-use Rattle.fs_pcap.specs.declared.order.Endian.TheVariants.{Big, Little}
-use Rattle.fs_pcap.specs.declared.order.Unit.{Unit as FractionUnit}
-use Rattle.fs_pcap.specs.declared.order.Unit.TheVariants.{Microseconds, Nanoseconds}
+use Rattle.fs_pcap.specs.declared.order.{Endian.{Endian, TheVariants.{Big, Little}}, Unit.{Unit as FractionUnit, TheVariants.{Microseconds, Nanoseconds}}}
 
 -- the number in the first octets
 abbrev pub number : Endian → ℕ → List ℕ → ℕ

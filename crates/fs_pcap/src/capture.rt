@@ -1,17 +1,11 @@
 //! A capture, read record by record.
-ghost use Rattle.std.specs.Prelude.{◌≡◌, ◌≤◌, ◌++◌, [], None, IsTrue, IfOk, drop, length};
-ghost use Rattle.std.specs.Result.{IsErrOf};
-ghost use Rattle.fs_base.specs.Files.{OnlySlot};
-ghost use Rattle.fs_base.specs.Link.{link_number};
-ghost use Rattle.fs_base.specs.Outside.{Rose};
-ghost use Rattle.fs_base.specs.Parts.{with_part};
-ghost use Rattle.fs_input.specs.Opening.{Opens};
-ghost use Rattle.fs_input.specs.NextRecord.{GivesNext};
-ghost use Rattle.fs_pcap.specs.Head.{longest_record};
-ghost use Rattle.fs_pcap.specs.Capture.{Grows, Times, heading_of, packet_from};
+ghost use Rattle.std.specs.{Prelude.{◌≡◌, ◌≤◌, ◌++◌, [], None, IsTrue, IfOk, drop, length}, Result.{IsErrOf}};
+ghost use Rattle.fs_base.specs.{Files.{OnlySlot}, Link.{link_number}, Outside.{Rose}, Parts.{with_part}};
+ghost use Rattle.fs_input.specs.{Opening.{Opens}, NextRecord.{GivesNext}};
+ghost use Rattle.fs_pcap.specs.{Head.{longest_record}, Capture.{Grows, Times, heading_of, packet_from}};
 
 use crate::fault::{CaptureFault, CaptureReason};
-use crate::head::{Context, Said};
+use crate::head::Context;
 use crate::header::{HEADER_SIZE, Heading, read_header};
 use fs_base::{Counted, Files, Link, fill};
 use fs_input::{Ended, next_record, opened};
@@ -151,28 +145,13 @@ impl Capture {
         match next_record(&context, &mut self.counted, &mut self.end, files, into) {
             Ok(Some(found)) => {
                 self.moment = found.said.moment;
-                Ok(Some(caught_of(found.said, found.size)))
+                Ok(Some(Caught {
+                    taken: found.size,
+                    ..found.said
+                }))
             }
             Ok(None) => Ok(None),
             Err(fault) => Err(fault),
         }
-    }
-}
-
-fn caught_of(said: Said, taken: usize) -> Caught
-    ensures { result ≡ record {
-      seconds = said.seconds;
-      fraction = said.fraction;
-      taken = taken;
-      original = said.original;
-      moment = said.moment;
-    } }
-{
-    Caught {
-        seconds: said.seconds,
-        fraction: said.fraction,
-        taken,
-        original: said.original,
-        moment: said.moment,
     }
 }

@@ -1,6 +1,7 @@
 //! The head of a record, each field judged as soon as it stands whole.
 ghost use Rattle.std.specs.Prelude.{◌≡◌, length};
 
+use crate::capture::Caught;
 use crate::fault::CaptureReason;
 use crate::order::{Endian, Unit};
 use fs_input::{Head, Heads};
@@ -11,16 +12,6 @@ pub(crate) const HEAD_SIZE: usize = 16;
 /// The octets of the longest record of a capture.
 pub const LONGEST_RECORD: usize = 262144;
 
-/// What a record's head says beside the captured length. The moment, in nanoseconds since the start of 1970, is the
-/// greatest time of the records up to and with this one.
-#[derive(Clone, Copy, Debug, PartialEq, Eq, Drop)]
-pub(crate) struct Said {
-    pub(crate) seconds: u32,
-    pub(crate) fraction: u32,
-    pub(crate) original: u32,
-    pub(crate) moment: u64,
-}
-
 /// What the reading of a head depends on: what the capture's magic tells, and the moment of the record before.
 #[derive(Clone, Copy, Debug, PartialEq, Eq, Drop)]
 pub(crate) struct Context {
@@ -30,12 +21,10 @@ pub(crate) struct Context {
 }
 
 impl Heads for Context {
-    ghost use Rattle.std.specs.Prelude.{◌≤◌, ◌<◌};
-    ghost use Rattle.std.proofs.Common.{rules};
-    ghost use Rattle.fs_pcap.specs.Capture.{Captured, records};
-    ghost use Rattle.fs_pcap.specs.Head.{longest_record};
+    ghost use Rattle.std.{specs.Prelude.{◌≤◌, ◌<◌}, proofs.Common.{rules}};
+    ghost use Rattle.fs_pcap.specs.{Capture.{Captured, records}, Head.{longest_record}};
 
-    type Said = Said;
+    type Said = Caught;
 
     type Reason = CaptureReason;
 
@@ -51,7 +40,7 @@ impl Heads for Context {
         HEAD_SIZE
     }
 
-    fn read_head(&self, octets: &[u8]) -> Head<Said, CaptureReason> {
+    fn read_head(&self, octets: &[u8]) -> Head<Caught, CaptureReason> {
         if octets.len() < 12 {
             return Head::Partial;
         }
@@ -66,7 +55,7 @@ impl Heads for Context {
             return Head::Partial;
         }
         Head::Whole {
-            said: self.read_said(octets),
+            said: self.read_said(size, octets),
             size,
         }
     }
@@ -79,20 +68,22 @@ impl Heads for Context {
 }
 
 impl Context {
-    ghost use Rattle.std.specs.Prelude.{◌≤◌};
-    ghost use Rattle.fs_pcap.specs.Head.{said_in};
+    ghost use Rattle.std.specs.Prelude.{◌≤◌, drop};
+    ghost use Rattle.fs_pcap.specs.{Head.{said_in}, Order.{number}};
 
-    /// Reads what a whole head says beside the captured length.
-    fn read_said(&self, octets: &[u8]) -> Said
-        requires { 16 ≤ length octets.now }
+    /// Reads a whole head, of which the captured length was read.
+    fn read_said(&self, taken: usize, octets: &[u8]) -> Caught
+        requires held { 16 ≤ length octets.now }
+        requires size { taken ≡ number self.now.order 4 (drop 8 octets.now) }
         ensures { result ≡ said_in self.now octets.now }
     {
         let seconds = self.order.read_u32(octets);
         let fraction = self.order.read_u32(&octets[4..]);
         let time = self.unit.time(seconds, fraction);
-        Said {
+        Caught {
             seconds,
             fraction,
+            taken,
             original: self.order.read_u32(&octets[12..]),
             moment: self.moment.max(time),
         }

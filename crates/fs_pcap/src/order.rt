@@ -14,7 +14,8 @@ pub enum Endian {
 
 impl Endian {
     /// Reads the first two octets.
-    pub(crate) fn read_u16(self, octets: &[u8]) -> u16
+    #[inline(always)]
+    pub fn read_u16(self, octets: &[u8]) -> u16
         requires { 2 ≤ length octets.now }
         ensures { result ≡ number self 2 octets.now }
     {
@@ -25,7 +26,8 @@ impl Endian {
     }
 
     /// Reads the first four octets.
-    pub(crate) fn read_u32(self, octets: &[u8]) -> u32
+    #[inline(always)]
+    pub fn read_u32(self, octets: &[u8]) -> u32
         requires { 4 ≤ length octets.now }
         ensures { result ≡ number self 4 octets.now }
     {

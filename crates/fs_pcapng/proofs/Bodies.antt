@@ -1,8 +1,6 @@
 -- The body of a block, and what it gives.
-use Rattle.fs_pcapng.proofs.Words.{◌≡◌, ◌≢◌, ℕ, List, Bool, true, false, Option, Some, None, Result, Ok, Err, ◌≤◌, ◌+◌, ◌==◌, drop, length, ap, sym, ◌∙◌, arith, if◌then◌else◌, nat_lt, slice_get, nat_tests, big_number, Counted, number, Endian, Calls, Reads, Scanner, and, field, gives, gives_for, reads_as, reads_ends, reads_then, Packet, Stands, behind_packet, body_in, cut_to, described_in, fitting, kind_behind, octets_in, opened, packet, plain_in, section_in, simple_behind, simple_by, simple_in, with_interface, padded, Fault, seen_from, Kind, Described, NgReason, Cut, TooMany, Frame, needs_true, Interface}
+use Rattle.fs_pcapng.{proofs.{Words.{◌≡◌, ◌≢◌, ℕ, List, Bool, true, false, Option, Some, None, Result, Ok, Err, ◌≤◌, ◌+◌, ◌-◌, ◌==◌, drop, length, take, take_all, ap, sym, subst, ◌∙◌, arith, if◌then◌else◌, nat_lt, slice_get, nat_tests, big_number, Counted, number, Endian, Calls, Reads, Scanner, and, field, gives, needs, gives_for, reads_as, reads_ends, reads_then, whole, Packet, Stands, allows, behind_packet, body_in, cut_to, described_in, end_in, fitting, frame_of, kind_behind, magic_behind, octets_in, opened, order_of, ordered_in, packet, plain_in, section_in, simple_behind, simple_by, simple_in, version_in, with_interface, padded, Fault, seen_from, Kind, Described, NgReason, Cut, Length, TooMany, Version, Frame, needs_true, Interface}, Fitting.{fits}}, specs.declared.caught.Seen.{Seen}}
 use Rattle.std.specs.Option.{option_map}
-use Rattle.fs_pcapng.specs.declared.caught.Seen.{Seen}
-use Rattle.fs_pcapng.proofs.Fitting.{fits}
 
 -- a section header, or a block that is none
 pub header_kind : (now : Stands) (start : ℕ) (kind : List ℕ) → big_number 4 kind ≡ 0x0a0d0d0a → (place : ℕ) (octets : List ℕ)
@@ -16,6 +14,39 @@ pub plain_kind : (now : Stands) (start : ℕ) (kind : List ℕ) → big_number 4
 plain_kind now start kind is place octets =
     let test : (big_number 4 kind == 0x0a0d0d0a) ≡ false = let s = is in grind (arith, nat_tests) in
     ap (λ t. (if t then and (section_in start) (λ order. gives (None, opened order now.moment)) else plain_in start now now.order kind) place octets) (sym test)
+
+-- a section header, where its magic told the order, and so its total length; `scanner` is what stands behind these
+pub header_reads : {T V : Type 0} {told : Bool} {calls one two late : Calls} {left left1 left2 left3 : ℕ → List ℕ}
+    {holds holds1 holds2 holds3 : List ℕ → Option (List ℕ)} {old mid now new : Counted} {first : T} {magic total : ℕ}
+    {order : Endian} {scanner : Scanner Endian NgReason} {tells : V → Endian} {result : Result V (Fault NgReason)} (start : ℕ) (octets : List ℕ)
+    → length octets ≡ 4 → total ≡ number order 4 octets → Some order ≡ order_of magic
+    → Reads told calls one left left1 holds holds1 (field 4 whole) Cut old mid (λ (_ : T). take 4 octets) (Ok first)
+    → Reads told one two left1 left2 holds1 holds2 (field 4 (big_number 4)) Cut mid now (λ (n : ℕ). n) (Ok magic)
+    → ((rest : List ℕ) → scanner now.taken rest ≡ needs (allows 28 total) Length (start + 4) (version_in (frame_of order start total)) now.taken rest)
+    → Reads told two late left2 left3 holds2 holds3 scanner Cut now new tells result
+    → Reads told calls late left left3 holds holds3 (section_in start) Cut old new tells result
+header_reads {now = now} {magic = magic} {order = order} {tells = tells} start octets four total_is found first second goes last =
+    let front : take 4 octets ≡ octets = take_all 4 octets (omega (arith, four)) in
+    let read = total_is ∙ ap (λ l. number order 4 l) (sym front) in
+    reads_then (magic_behind start) tells first
+    (reads_then (λ magic. ordered_in start (take 4 octets) (order_of magic)) tells second
+    (reads_as (ordered_in start (take 4 octets) (order_of magic))
+    (λ rest. goes rest
+    ∙ ap (λ n. needs (allows 28 n) Length (start + 4) (version_in (frame_of order start n)) now.taken rest) read
+    ∙ ap (λ o. ordered_in start (take 4 octets) o now.taken rest) found)
+    last))
+
+-- a section header behind its magic, of the version that is read
+pub version_reads : {V : Type 0} {told : Bool} {calls mid late : Calls} {left left' left'' : ℕ → List ℕ}
+    {holds holds' holds'' : List ℕ → Option (List ℕ)} {old now new : Counted} {major : ℕ} {tells : V → Endian} {result : Result V (Fault NgReason)}
+    (frame : Frame) → Reads told calls mid left left' holds holds' (field 2 (number frame.order 2)) Cut old now (λ (n : ℕ). n) (Ok major) → major ≡ 1
+    → Reads told mid late left' left'' holds' holds'' (and (end_in frame (frame.total - 18)) (λ _. gives frame.order)) Cut now new tells result
+    → Reads told calls late left left'' holds holds'' (version_in frame) Cut old new tells result
+version_reads {now = now} {major = major} {tells = tells} frame first one more =
+    let rest_of = and (end_in frame (frame.total - 18)) (λ _. gives frame.order) in
+    let test : (major == 1) ≡ true = grind (arith, nat_tests, one) in
+    reads_then (λ major. needs (major == 1) Version (frame.start + 12) rest_of) tells first
+    (reads_as (needs (major == 1) Version (frame.start + 12) rest_of) (needs_true (major == 1) Version (frame.start + 12) rest_of test now.taken) more)
 
 -- what the head of a description and its options tell
 abbrev pub interface_of : Endian → List ℕ → (unit : ℕ) → Interface
@@ -36,20 +67,20 @@ body_as {old = old} {other = other} frame now same h =
 -- a simple packet's octets, behind its length
 pub simple_reads : {T : Type 0} {told : Bool} {calls mid late : Calls} {left left' left'' : ℕ → List ℕ}
     {holds holds' holds'' : List ℕ → Option (List ℕ)} {old now new : Counted} {tells : T → Packet} {result : Result T (Fault NgReason)}
-    (frame : Frame) (stands : Stands) (interface : Interface) (original captured : ℕ)
+    (frame : Frame) (stands : Stands) (interface : Interface) (original captured room : ℕ)
     → Some interface ≡ slice_get stands.interfaces 0 → captured ≡ cut_to interface.snap original
-    → captured ≤ 262144 → 16 + padded captured ≤ frame.total
+    → captured ≤ 262144 → room ≡ padded captured → 16 + room ≤ frame.total
     → Reads told calls mid left left' holds holds' (field 4 (number frame.order 4)) Cut old now (λ (n : ℕ). n) (Ok original)
     → Reads told mid late left' left'' holds' holds''
     (and (octets_in frame 16 captured) (λ octets. gives (packet stands.moment interface.link original octets))) Cut now new tells result
     → Reads told calls late left left'' holds holds'' (simple_in frame stands) Cut old new tells result
-simple_reads {old = old} {now = now} {tells = tells} frame stands interface original captured found cut few room first more =
+simple_reads {old = old} {now = now} {tells = tells} frame stands interface original captured room found cut few is within first more =
     let rest : ℕ → Scanner Packet NgReason = λ n.
     and (octets_in frame 16 n) (λ octets. gives (packet stands.moment interface.link original octets)) in
     reads_as (simple_in frame stands) (λ octets. ap (λ s. simple_by frame stands.moment s old.taken octets) found)
     (reads_then (simple_behind frame interface stands.moment) tells first
     (reads_as (simple_behind frame interface stands.moment original)
-    (λ octets. fits frame 16 captured (frame.start + 8) (rest captured) few room now.taken octets
+    (λ octets. fits frame 16 captured (frame.start + 8) (rest captured) few (subst (λ n. 16 + n ≤ frame.total) is within) now.taken octets
     ∙ ap (λ n. fitting frame 16 n (frame.start + 8) (rest n) now.taken octets) cut)
     more))
 

@@ -1,6 +1,5 @@
 -- Powers that are taken step by step.
-use Rattle.std.proofs.Common.{◌≡◌, ℕ, suc, ◌<◌, ◌≤◌, ◌/◌, ◌^◌, ◌*◌, ◌+◌, arith, ap, sym, ◌∙◌}
-use Rattle.std.proofs.Math.Nat.{div-eq_of_lt, mul-le-mul, pow-le-pow_right, pow-suc}
+use Rattle.std.proofs.{Common.{◌≡◌, ℕ, suc, ◌<◌, ◌≤◌, ◌/◌, ◌^◌, ◌*◌, ◌+◌, arith, ap, sym, ◌∙◌}, Math.Nat.{div-eq_of_lt, mul-le-mul, pow-le-pow_right, pow-suc}}
 
 -- what is divided by a power above it is nothing
 pub nothing_left : (scaled base power n m : ℕ) → 2 ≤ base → power ≡ base ^ n → scaled < power → n ≤ m → 0 ≡ scaled / base ^ m

@@ -53,7 +53,7 @@ merged frame captured rest place octets = by (nat_le (captured + rest + 4) (leng
     by false h = rw h (short (nat_le captured (length octets)) (nat_le rest (length (drop captured octets))) refl refl h)
 
 -- the last four octets of so many
-pub last_four : (captured rest : ℕ) (into : List ℕ)
+last_four : (captured rest : ℕ) (into : List ℕ)
     → take (captured + rest + 4 - (captured + rest + 4 - 4)) (drop (captured + rest + 4 - 4) into) ≡ drop (captured + rest) (take (captured + rest + 4) into)
 last_four captured rest into =
     let one : captured + rest + 4 - 4 ≡ captured + rest = omega arith in
@@ -62,6 +62,12 @@ last_four captured rest into =
 
 pub first_of : (captured rest : ℕ) (into : List ℕ) → take captured (take (captured + rest + 4) into) ≡ take captured into
 first_of captured rest into = take-take captured (captured + rest + 4) into (omega arith)
+
+-- where the total length was read so again, which stands last: its test is that of all three
+pub closes : (frame : Frame) (captured rest read : ℕ) (into : List ℕ)
+    → read ≡ number frame.order 4 (take (captured + rest + 4 - (captured + rest + 4 - 4)) (drop (captured + rest + 4 - 4) into))
+    → (number frame.order 4 (drop (captured + rest) (take (captured + rest + 4) into)) == frame.total) ≡ (read == frame.total)
+closes frame captured rest read into is = sym (ap (λ n. n == frame.total) (is ∙ ap (λ l. number frame.order 4 l) (last_four captured rest into)))
 
 pub is_equal : (a b : ℕ) → a ≡ b → (a == b) ≡ true
 is_equal a b h = grind (arith, nat_tests, h)

@@ -1,10 +1,9 @@
 -- Blocks as they stand in a capture: what is read is spelled so.
-use Rattle.fs_pcapng.proofs.Words.{◌≡◌, ℕ, zero, suc, List, [], ◌∷◌, ◌++◌, Option, Some, None, Bool, true, false, ◌<◌, ◌≤◌, ◌+◌, ◌-◌, ◌*◌, ◌%◌, ◌==◌, ◌&&◌, max, length, drop, refl, ap, sym, subst, ◌∙◌, arith, append-nil, append_assoc, length-append, if◌then◌else◌, flat_map, nat_le, nat_lt, slice_get, slice_index, AllByRecursion, drop_at, nat_tests, big_number, longest_record, number, Endian, Takes, whole, Scanner, and, field, gives, needs, skips, Part, Spells, and_spells, cut_at, fails_spells, field_reads, field_spells, gives_spells, map_reads, map_spells, needs_spells, part_spells, skips_reads, skips_spells, weaker_spells, IsSpelled, spelled_takes, Packet, Stands, allows, behind_packet, block_in, body_in, close_in, cut_to, described_behind, described_in, end_in, enhanced_in, fitting, frame_of, kind_behind, kind_of, least_of, magic_behind, octets_in, opened, order_of, ordered_in, original_in, packet, plain_in, section_header, section_in, simple_behind, simple_by, simple_in, timed_behind, timed_in, total_behind, version_in, with_interface, cursor, option_behind, option_in, options_in, padded, unit_in, value_in, time_of, Block, Choice, Description, Fits, IsBlock, IsChoice, IsPlain, Outer, Record, Section, Short, Written, block_gives, block_text, body_text, choice_text, described, enhanced, gives_by, packet_of, section, short_of, simple, skipped, unit_behind, unit_of, Kind, Described, Enhanced, Simple, Other, NgReason, Length, Magic, RecordTooLong, TooMany, Version, Frame, Cursor, Interface}
+use Rattle.fs_pcapng.{proofs.Words.{◌≡◌, ℕ, zero, suc, List, [], ◌∷◌, ◌++◌, Option, Some, None, Bool, true, false, ◌<◌, ◌≤◌, ◌+◌, ◌-◌, ◌*◌, ◌%◌, ◌==◌, ◌&&◌, max, length, drop, refl, ap, sym, subst, ◌∙◌, arith, append-nil, append_assoc, length-append, if◌then◌else◌, flat_map, nat_le, nat_lt, slice_get, slice_index, AllByRecursion, drop_at, nat_tests, big_number, longest_record, number, Endian, Takes, whole, Scanner, and, field, gives, needs, skips, Part, Spells, and_spells, cut_at, fails_spells, field_reads, field_spells, gives_spells, map_reads, map_spells, needs_spells, part_spells, skips_reads, skips_spells, weaker_spells, IsSpelled, spelled_takes, Packet, Stands, allows, behind_packet, block_in, body_in, close_in, cut_to, described_behind, described_in, end_in, enhanced_in, fitting, frame_of, kind_behind, kind_of, least_of, magic_behind, octets_in, opened, order_of, ordered_in, original_in, packet, plain_in, section_header, section_in, simple_behind, simple_by, simple_in, timed_behind, timed_in, total_behind, version_in, with_interface, cursor, option_behind, option_in, options_in, padded, unit_in, value_in, time_of, Block, Choice, Description, Fits, IsBlock, IsChoice, IsPlain, IsSection, Outer, Record, Section, Short, Written, block_gives, block_text, body_text, choice_text, described, enhanced, gives_by, packet_of, section, short_of, simple, skipped, unit_behind, unit_of, Kind, Described, Enhanced, Simple, Other, NgReason, Length, Magic, RecordTooLong, TooMany, Version, Frame, Cursor, Interface}, specs.declared.fault.NgReason.TheVariants.{Interface as WrongInterface}}
 use Rattle.fs_base.proofs.Bools.{and_parts}
 use Rattle.byteorder.specs.Numbers.{big_from-append, little_from-append}
 use Rattle.fs_pcap.specs.declared.order.Endian.TheVariants.{Big, Little}
 use Rattle.fs_input.proofs.Spelling.{Reads}
-use Rattle.fs_pcapng.specs.declared.fault.NgReason.TheVariants.{Interface as WrongInterface}
 
 -- octets in three parts
 record CutTwice (n m : ℕ) (octets : List ℕ) : Type 0 where
@@ -204,11 +203,7 @@ record SectionRead (total : List ℕ) (order : Endian) (octets : List ℕ) : Typ
   pub body : Section
   pub again : List ℕ
   pub is : octets ≡ (body.magic ++ (body.major ++ body.rest)) ++ again
-  pub magic_size : length body.magic ≡ 4
-  pub magic_is : order_of (big_number 4 body.magic) ≡ Some order
-  pub major_size : length body.major ≡ 2
-  pub major_is : number order 2 body.major ≡ 1
-  pub rest_size : 10 ≤ length body.rest
+  pub body_is : IsSection order body
   pub size_is : number order 4 total ≡ 12 + length (body.magic ++ (body.major ++ body.rest))
   pub groups : number order 4 total % 4 ≡ 0
   pub closing : Closing order (number order 4 total) again
@@ -224,11 +219,13 @@ section_found order total magic major more m told_so least groups size one e =
       is =
           ap (λ l. magic ++ (major ++ l)) e.is ∙ ap (λ l. magic ++ l) (sym (append_assoc major e.rest e.again))
           ∙ sym (append_assoc magic body e.again);
-      magic_size = m;
-      magic_is = told_so;
-      major_size = size;
-      major_is = one;
-      rest_size = omega (arith, e.long, least);
+      body_is = record {
+        magic_size = m;
+        magic_is = told_so;
+        major_size = size;
+        major_is = one;
+        rest_size = omega (arith, e.long, least);
+      };
       size_is = omega (arith, length-append magic body, length-append major e.rest, m, size, e.long, least);
       groups = groups;
       closing = e.closing;
@@ -631,14 +628,7 @@ section_given now kind total more order long is size s = record {
       again_is = s.closing.is ∙ s.size_is;
       groups = ap (λ k. k % 4) (sym s.size_is) ∙ s.groups;
     };
-    block_is = record {
-      kind_is = is;
-      magic_size = s.magic_size;
-      magic_is = s.magic_is;
-      major_size = s.major_size;
-      major_is = s.major_is;
-      rest_size = s.rest_size;
-    };
+    block_is = (is, s.body_is);
   };
   text_is = ap (λ l. kind ++ (total ++ l)) s.is;
   value_is = refl;

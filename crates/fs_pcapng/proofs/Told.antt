@@ -1,12 +1,7 @@
 -- What stands before an enhanced packet's octets, judged as a chain of its own.
-use Rattle.fs_pcapng.proofs.Words.{◌≡◌, ℕ, List, Bool, true, false, Option, Some, None, ◌≤◌, ◌+◌, ◌*◌, max, length, take, drop, refl, ap, sym, ◌∙◌, subst, arith, IfErr, nat_le, slice_get, drop-drop, number, window, le_true, Read, scan_of, settled, Scanned, whole, Scan, Scanner, and, and_then, behind, field, gives, got, needs, partial, wrong, behind_more, behind_none, Packet, Stands, enhanced_in, fitting, octets_in, original_in, packet, timed_behind, timed_in, told_behind, told_by, told_in, told_of, told_timed, padded, time_of, NgReason, Cut, Length, RecordTooLong, Frame, Interface}
+use Rattle.fs_pcapng.{proofs.Words.{◌≡◌, ℕ, List, Bool, true, false, Option, Some, None, ◌≤◌, ◌+◌, ◌*◌, max, length, take, drop, refl, ap, sym, ◌∙◌, subst, arith, IfErr, nat_le, slice_get, drop-drop, number, window, le_true, Read, scan_of, settled, Scanned, whole, Scan, Scanner, and, and_then, behind, field, gives, got, needs, partial, wrong, behind_more, behind_none, Packet, Stands, enhanced_in, fitting, octets_in, original_in, packet, timed_behind, timed_in, told_behind, told_by, told_in, told_of, told_timed, padded, time_of, NgReason, Cut, Length, RecordTooLong, Frame, Interface}, specs.declared.{fault.NgReason.TheVariants.{Interface as WrongInterface}, packets.Told.{Told}}}
 use Rattle.fs_base.specs.Filling.{Fills}
-use Rattle.fs_input.specs.declared.judging.Judged.{Judged}
-use Rattle.fs_input.specs.declared.judging.Judged.TheVariants.{Whole, Wrong, Partial}
-use Rattle.fs_input.proofs.Fixed.{IsFixed, and_fixed, fails_fixed, field_fixed, gives_fixed, judged_reads, needs_fixed}
-use Rattle.fs_input.proofs.CutShort.{short_reads}
-use Rattle.fs_pcapng.specs.declared.fault.NgReason.TheVariants.{Interface as WrongInterface}
-use Rattle.fs_pcapng.specs.declared.packets.Told.{Told}
+use Rattle.fs_input.{specs.declared.judging.Judged.{Judged, TheVariants.{Whole, Wrong, Partial}}, proofs.{Fixed.{IsFixed, and_fixed, fails_fixed, field_fixed, gives_fixed, judged_reads, needs_fixed}, CutShort.{short_reads}}}
 
 -- chains in chains
 
@@ -126,10 +121,11 @@ module _ (frame : Frame) where
       (field_fixed 4 (number frame.order 4)) (λ which. by_fixed now.moment (slice_get now.interfaces which))
 
 -- what is said of the octets in hand
-pub field_said : {A B : Type 0} (size : ℕ) (read : List ℕ → A) (next : A → Scanner B NgReason) (place : ℕ) (octets : List ℕ) (scan : Scan B NgReason)
-    → size ≤ length octets → scan ≡ next (read (take size octets)) (place + size) (drop size octets)
-    → behind size scan ≡ and (field size read) next place octets
-field_said size read next place octets scan held h = rw (le_true size (length octets) held) (ap (behind size) h)
+-- the first of them, which interface it is, and what stands behind it
+pub which_said : (frame : Frame) (now : Stands) (octets : List ℕ) (scan : Scan Told NgReason) → 4 ≤ length octets
+    → scan ≡ told_by frame now.moment (slice_get now.interfaces (number frame.order 4 (take 4 octets))) (frame.start + 8 + 4) (drop 4 octets)
+    → behind 4 scan ≡ told_in frame now (frame.start + 8) octets
+which_said frame now octets scan held h = rw (le_true 4 (length octets) held) (ap (behind 4) h)
 
 pub four_more : (judged : Judged Told NgReason) → scan_of 20 judged ≡ behind 4 (scan_of 16 judged)
 four_more (Whole told) = refl

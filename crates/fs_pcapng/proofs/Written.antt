@@ -1,9 +1,6 @@
 -- Blocks as they stand in a capture: what was written is read, and no other octets are.
-use Rattle.fs_pcapng.proofs.Words.{◌≡◌, ℕ, zero, suc, List, [], ◌∷◌, ◌++◌, Option, Some, None, Bool, true, false, ◌<◌, ◌≤◌, ◌+◌, ◌-◌, ◌*◌, ◌%◌, ◌==◌, ◌&&◌, not, max, length, drop, refl, ap, sym, subst, ◌∙◌, ◌↔◌, arith, append-nil, append_assoc, length-append, if◌then◌else◌, flat_map, nat_le, nat_lt, slice_get, slice_index, AllByRecursion, drop_at, length-take, nat_tests, big_number, at_limit, window, longest_record, number, Endian, End, bad, done, IsTextOf, whole, Scanner, and, field, gives, needs, skips, and_reads, field_reads, gives_reads, map_reads, needs_reads, skips_reads, told_text, Packet, Stands, allows, behind_packet, block_in, body_in, close_in, cut_to, described_behind, described_in, end_in, enhanced_in, fitting, frame_of, kind_behind, kind_of, least_of, magic_behind, octets_in, opened, order_of, ordered_in, original_in, packet, plain_in, section_header, section_in, simple_behind, simple_by, simple_in, timed_behind, timed_in, total_behind, version_in, with_interface, cursor, option_behind, option_in, options_in, padded, sized_in, value_in, nothing, packets_to_come, time_of, Block, Choice, Description, Fits, IsBlock, IsChoice, IsDescription, IsFramed, IsPlain, IsRecord, IsSection, IsShort, Outer, Record, Section, Short, Written, block_gives, block_text, body_text, choice_text, described, enhanced, gives_by, interface_of, packet_of, section, short_of, simple, skipped, unit_behind, unit_of, Kind, Described, Enhanced, Simple, Other, NgReason, Cut, Length, RecordTooLong, TooMany, Version, Frame, Cursor, Interface}
+use Rattle.fs_pcapng.{proofs.{Words.{◌≡◌, ℕ, zero, suc, List, [], ◌∷◌, ◌++◌, Option, Some, None, Bool, true, false, ◌<◌, ◌≤◌, ◌+◌, ◌-◌, ◌*◌, ◌%◌, ◌==◌, ◌&&◌, not, max, length, drop, refl, ap, sym, subst, ◌∙◌, ◌↔◌, arith, append-nil, append_assoc, length-append, if◌then◌else◌, flat_map, nat_le, nat_lt, slice_get, slice_index, AllByRecursion, drop_at, length-take, nat_tests, big_number, at_limit, window, longest_record, number, Endian, End, bad, done, IsTextOf, whole, Scanner, and, field, gives, needs, skips, and_reads, field_reads, gives_reads, map_reads, needs_reads, skips_reads, told_text, Packet, Stands, allows, behind_packet, block_in, body_in, close_in, cut_to, described_behind, described_in, end_in, enhanced_in, fitting, frame_of, kind_behind, kind_of, least_of, magic_behind, octets_in, opened, order_of, ordered_in, original_in, packet, plain_in, section_header, section_in, simple_behind, simple_by, simple_in, timed_behind, timed_in, total_behind, version_in, with_interface, cursor, option_behind, option_in, options_in, padded, sized_in, value_in, nothing, packets_to_come, time_of, Block, Choice, Description, Fits, IsBlock, IsChoice, IsDescription, IsFramed, IsPlain, IsRecord, IsSection, IsShort, Outer, Record, Section, Short, Written, block_gives, block_text, body_text, choice_text, described, enhanced, gives_by, interface_of, packet_of, section, short_of, simple, skipped, unit_behind, unit_of, Kind, Described, Enhanced, Simple, Other, NgReason, Cut, Length, RecordTooLong, TooMany, Version, Frame, Cursor, Interface}, Spelled.{block_takes, Closing, block_spells, choice_size, is_one, joined, number_first, second_is, snap_is, third_is, timed_moment, value_reads}}, specs.Laws.{ReadsBack}}
 use Rattle.fs_input.proofs.Spelling.{Reads}
-use Rattle.fs_pcapng.specs.Laws.{ReadsBack}
-use Rattle.fs_pcapng.proofs.Spelled.{block_takes}
-use Rattle.fs_pcapng.proofs.Spelled.{Closing, block_spells, choice_size, is_one, joined, number_first, second_is, snap_is, third_is, timed_moment, value_reads}
 
 option_read : (order : Endian) (now : Cursor) (choice : Choice) → IsChoice order choice → length (choice_text choice) ≤ now.left
     → Reads (option_in order now) (choice_text choice) (cursor (now.left - length (choice_text choice)) (unit_behind order now.unit choice))
@@ -173,9 +170,9 @@ module _ (order : Endian) (now : Stands) (start total : ℕ) (again : List ℕ) 
   skipped_read octets size =
       map_reads (end_in within (total - 12)) (λ _. (None, now)) (octets ++ again) total (end_read (total - 12) octets (omega (arith, size)))
 
-  section_read : (outer : Outer) (s : Section) → IsSection order outer s → total ≡ 12 + length (body_text (section s)) → total % 4 ≡ 0
+  section_read : (s : Section) → IsSection order s → total ≡ 12 + length (body_text (section s)) → total % 4 ≡ 0
       → (total_text : List ℕ) → number order 4 total_text ≡ total → Reads (magic_behind start total_text) (body_text (section s) ++ again) order
-  section_read outer s is size groups total_text total_is =
+  section_read s is size groups total_text total_is =
       let body = s.major ++ s.rest in
       let magic = big_number 4 s.magic in
       let major = number order 2 s.major in
@@ -222,7 +219,7 @@ behind_read : (order : Endian) (now : Stands) (start : ℕ) (outer : Outer) (blo
 behind_read order now start outer (section s) f is =
     let total = 12 + length (body_text (section s)) in
     let c : Closing order total outer.again = record { long = f.again; is = f.again_is } in
-    let is_kind = is.kind_is in
+    let is_kind = is.0 in
     let header : (big_number 4 outer.kind == section_header) ≡ true = grind (arith, nat_tests, is_kind) in
     let octets = body_text (section s) ++ outer.again in
     let by_kind : Bool → Type 0 = λ b.
@@ -231,7 +228,7 @@ behind_read order now start outer (section s) f is =
     subst by_kind (sym header)
     (map_reads (section_in start) (λ order. (None, opened order now.moment)) (outer.total ++ octets) order
     (and_reads (field 4 whole) (magic_behind start) outer.total octets outer.total order (field_reads 4 whole outer.total f.total)
-    (section_read order now start total outer.again c outer s is refl f.groups outer.total f.total_is)))
+    (section_read order now start total outer.again c s is.1 refl f.groups outer.total f.total_is)))
 behind_read order now start outer (described d) f is =
     let body = body_text (described d) in
     let c : Closing order (12 + length body) outer.again = record { long = f.again; is = f.again_is } in

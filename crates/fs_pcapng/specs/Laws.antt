@@ -1,10 +1,7 @@
 -- A capture is done exactly where it is the text of its blocks.
 use Rattle.std.specs.Prelude.{ℕ, List, ◌≡◌, ◌↔◌, ◌<◌, length}
-use Rattle.fs_input.specs.Records.{done}
-use Rattle.fs_input.specs.Coming.{IsTextOf}
-use Rattle.fs_pcapng.specs.Block.{Packet}
-use Rattle.fs_pcapng.specs.Pcapng.{nothing, pcapng_of}
-use Rattle.fs_pcapng.specs.Written.{Fits, block_gives, block_text}
+use Rattle.fs_input.specs.{Records.{done}, Coming.{IsTextOf}}
+use Rattle.fs_pcapng.specs.{Block.{Packet}, Pcapng.{nothing, pcapng_of}, Written.{Fits, block_gives, block_text}}
 
 abbrev pub ReadsBack : Type 0
 ReadsBack =

@@ -2,13 +2,9 @@
 -- pcapng draft's section 'Options'). The one that is read, of code 9, tells the unit of times ('if_tsresol' in its
 -- section 'Interface Description Block').
 use Rattle.std.specs.Prelude.{ℕ, suc, zero, List, ◌+◌, ◌-◌, ◌*◌, ◌/◌, ◌==◌, ◌&&◌, drop, nat_le, slice_index, if◌then◌else◌}
-use Rattle.fs_pcap.specs.Order.{number}
-use Rattle.fs_pcap.specs.declared.order.Endian.{Endian}
-use Rattle.fs_input.specs.Reads.{whole}
-use Rattle.fs_input.specs.Scan.{Scanner, and, field, gives, needs, skips}
-use Rattle.fs_pcapng.specs.declared.fault.NgReason.{NgReason}
-use Rattle.fs_pcapng.specs.declared.fault.NgReason.TheVariants.{Length}
-use Rattle.fs_pcapng.specs.declared.options.Cursor.{Cursor}
+use Rattle.fs_pcap.specs.{Order.{number}, declared.order.Endian.{Endian}}
+use Rattle.fs_input.specs.{Reads.{whole}, Scan.{Scanner, and, field, gives, needs, skips}}
+use Rattle.fs_pcapng.specs.declared.{fault.NgReason.{NgReason, TheVariants.{Length}}, options.Cursor.{Cursor}}
 
 -- so many octets, and those that pad them to a multiple of four
 abbrev pub padded : ℕ → ℕ

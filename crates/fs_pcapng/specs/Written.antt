@@ -1,18 +1,10 @@
 -- A block as it stands in a capture, field by field (the pcapng draft's sections 'General Block Structure', 'Section
 -- Header Block', 'Interface Description Block', 'Options', 'Enhanced Packet Block' and 'Simple Packet Block'), and what it
 -- gives.
-use Rattle.std.specs.Prelude.{ℕ, List, [], ◌∷◌, ◌++◌, Option, Some, None, Bool, true, false, ◌≡◌, ◌≤◌, ◌<◌, ◌+◌, ◌*◌, ◌%◌, ◌==◌, ◌&&◌, length, max, flat_map, slice_get, slice_index, if◌then◌else◌}
-use Rattle.std.specs.List.{AllByRecursion}
+use Rattle.std.specs.{Prelude.{ℕ, List, [], ◌∷◌, ◌++◌, Option, Some, None, Bool, true, false, ◌≡◌, ◌≤◌, ◌<◌, ◌+◌, ◌*◌, ◌%◌, ◌==◌, ◌&&◌, length, max, flat_map, slice_get, slice_index, if◌then◌else◌}, List.{AllByRecursion}}
 use Rattle.byteorder.specs.Endian.{big_number}
-use Rattle.fs_pcap.specs.Head.{longest_record}
-use Rattle.fs_pcap.specs.Order.{number}
-use Rattle.fs_pcap.specs.declared.order.Endian.{Endian}
-use Rattle.fs_pcapng.specs.Block.{Packet, Stands, behind_packet, cut_to, kind_of, opened, order_of, packet, section_header, with_interface}
-use Rattle.fs_pcapng.specs.Options.{padded}
-use Rattle.fs_pcapng.specs.Time.{time_of}
-use Rattle.fs_pcapng.specs.declared.block.Kind.{Kind}
-use Rattle.fs_pcapng.specs.declared.block.Kind.TheVariants.{Described, Enhanced, Simple, Other}
-use Rattle.fs_pcapng.specs.declared.section.Interface.{Interface}
+use Rattle.fs_pcap.specs.{Head.{longest_record}, Order.{number}, declared.order.Endian.{Endian}}
+use Rattle.fs_pcapng.specs.{Block.{Packet, Stands, behind_packet, cut_to, kind_of, opened, order_of, packet, section_header, with_interface}, Options.{padded}, Time.{time_of}, declared.{block.Kind.{Kind, TheVariants.{Described, Enhanced, Simple, Other}}, section.Interface.{Interface}}}
 
 -- what stands round the body of each block: type and total length before it, the total length again behind it
 pub record Outer : Type 0 where
@@ -114,8 +106,7 @@ pub record Holds (captured : ℕ) (octets rest : List ℕ) : Type 0 where
   pub most : captured ≤ longest_record
   pub padding : padded captured ≤ captured + length rest
 
-pub record IsSection (order : Endian) (outer : Outer) (s : Section) : Type 0 where
-  pub kind_is : big_number 4 outer.kind ≡ section_header
+pub record IsSection (order : Endian) (s : Section) : Type 0 where
   pub magic_size : length s.magic ≡ 4
   pub magic_is : order_of (big_number 4 s.magic) ≡ Some order
   pub major_size : length s.major ≡ 2
@@ -151,7 +142,7 @@ pub record IsPlain (order : Endian) (now : Stands) (outer : Outer) (kind : Kind)
   pub kind_is : kind_of (number order 4 outer.kind) ≡ kind
 
 abbrev pub IsBlock : Endian → Stands → Outer → Block → Type 0
-IsBlock order now outer (section s) = IsSection order outer s
+IsBlock order now outer (section s) = (big_number 4 outer.kind ≡ section_header) × IsSection order s
 IsBlock order now outer (described d) = IsPlain order now outer Described × IsDescription order now d
 IsBlock order now outer (enhanced interface r) = IsPlain order now outer Enhanced × IsRecord order now interface r
 IsBlock order now outer (simple interface s) = IsPlain order now outer Simple × IsShort order now interface s

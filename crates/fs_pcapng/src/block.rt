@@ -1,16 +1,12 @@
 //! Blocks.
-ghost use Rattle.std.specs.Prelude.{◌≡◌, ◌≤◌, ◌<◌, ◌+◌, [], IfOk, length};
-ghost use Rattle.std.specs.Option.{option_map};
+ghost use Rattle.std.specs.{Prelude.{◌≡◌, ◌≤◌, ◌<◌, ◌+◌, [], IfOk, length}, Option.{option_map}};
 ghost use Rattle.fs_pcap.specs.Head.{longest_record};
-ghost use Rattle.fs_input.specs.Reading.{answer_told};
-ghost use Rattle.fs_input.specs.Reads.{Scans};
-ghost use Rattle.fs_pcapng.specs.Block.{body_in, kind_behind, kind_of, least_of, plain_in};
-ghost use Rattle.fs_pcapng.specs.Pcapng.{Moves, seen_from};
-ghost use Rattle.fs_pcapng.specs.declared.fault.NgReason.TheVariants.{Cut};
+ghost use Rattle.fs_input.specs.{Reading.{answer_told}, Reads.{Scans}};
+ghost use Rattle.fs_pcapng.specs.{Block.{body_in, kind_behind, kind_of, least_of}, Pcapng.{Moves, seen_from}, declared.fault.NgReason.TheVariants.{Cut}};
 
 use crate::caught::Seen;
-use crate::fault::{NgFault, NgReason};
-use crate::fields::{Frame, end_block, read_u32, take_number};
+use crate::fault::{Got, NgFault, NgReason};
+use crate::fields::{Frame, end_block, take_number};
 use crate::header::{allows, take_header};
 use crate::packets::{take_described, take_enhanced, take_simple};
 use crate::section::Section;
@@ -67,7 +63,7 @@ pub(crate) fn take_block<F: Files>(
     counted: &mut Counted,
     files: &mut F,
     into: &mut [u8],
-) -> Result<Option<Seen>, NgFault>
+) -> Got<Option<Seen>>
     requires kind { 4 ≤ length kind.now }
     requires room { longest_record ≤ length into.old }
     requires none { counted.old.back ≡ [] }
@@ -88,36 +84,13 @@ pub(crate) fn take_block<F: Files>(
             Err(fault) => Err(fault),
         };
     }
-    take_plain(start, kind, section, counted, files, into)
-}
-
-/// Reads a block that is no section header.
-fn take_plain<F: Files>(
-    start: u64,
-    kind: &[u8],
-    section: &mut Section,
-    counted: &mut Counted,
-    files: &mut F,
-    into: &mut [u8],
-) -> Result<Option<Seen>, NgFault>
-    requires kind { 4 ≤ length kind.now }
-    requires room { longest_record ≤ length into.old }
-    requires none { counted.old.back ≡ [] }
-    requires place { counted.old.taken ≡ start + 4 }
-    ensures none { counted.new.back ≡ [] }
-    ensures room { length into.new ≡ length into.old }
-    ensures grows { IfOk result (λ _. start < counted.new.taken) }
-    ensures moves { Moves section.old section.new (answer_told result) }
-    ensures reads { Scans F.Files files.old files.new (plain_in start section.old section.old.order kind.now) Cut
-        counted.old counted.new (λ found. (option_map (seen_from into.new) found, section.new)) result }
-{
     let Some(order) = section.order() else {
         return Err(NgFault::Bad {
             reason: NgReason::Magic,
             place: start,
         });
     };
-    let kind = kind_of(read_u32(order, kind));
+    let kind = kind_of(order.read_u32(kind));
     let total = match take_number(order, counted, files) {
         Ok(total) => total,
         Err(fault) => return Err(fault),
@@ -144,7 +117,7 @@ fn take_body<F: Files>(
     counted: &mut Counted,
     files: &mut F,
     into: &mut [u8],
-) -> Result<Option<Seen>, NgFault>
+) -> Got<Option<Seen>>
     requires room { longest_record ≤ length into.old }
     requires none { counted.old.back ≡ [] }
     requires place { counted.old.taken ≡ frame.start + 8 }

@@ -2,7 +2,7 @@
 
 use crate::block::take_block;
 use crate::caught::Seen;
-use crate::fault::{NgFault, NgReason};
+use crate::fault::{Got, NgReason};
 use crate::section::Section;
 use fs_base::{Counted, Files};
 use fs_input::Parts;
@@ -11,12 +11,9 @@ use fs_input::Parts;
 const KIND_SIZE: usize = 4;
 
 impl Parts for Section {
-    ghost use Rattle.std.specs.Prelude.{Some, None};
-    ghost use Rattle.std.proofs.Common.{rules};
+    ghost use Rattle.std.{specs.Prelude.{Some, None}, proofs.Common.{rules}};
     ghost use Rattle.fs_pcap.specs.Head.{longest_record};
-    ghost use Rattle.fs_pcapng.specs.Block.{Packet, kind_behind};
-    ghost use Rattle.fs_pcapng.specs.Pcapng.{Moves, seen_from};
-    ghost use Rattle.fs_pcapng.specs.declared.fault.NgReason.TheVariants.{Cut};
+    ghost use Rattle.fs_pcapng.specs.{Block.{Packet, kind_behind}, Pcapng.{Moves, seen_from}, declared.fault.NgReason.TheVariants.{Cut}};
 
     type Given = ();
 
@@ -53,7 +50,7 @@ impl Parts for Section {
         counted: &mut Counted,
         files: &mut F,
         into: &mut [u8],
-    ) -> Result<Option<Seen>, NgFault> {
+    ) -> Got<Option<Seen>> {
         take_block(counted.taken - 4, kind, self, counted, files, into)
     }
 

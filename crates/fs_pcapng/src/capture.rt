@@ -1,22 +1,13 @@
 //! A capture, read packet by packet.
-ghost use Rattle.std.specs.Prelude.{◌≡◌, ◌≤◌, ◌+◌, ◌++◌, [], None, IsTrue, IfOk, IfSome, OnErr, length};
-ghost use Rattle.std.specs.Result.{IsErrOf};
-ghost use Rattle.fs_base.specs.Files.{OnlySlot};
-ghost use Rattle.fs_base.specs.Outside.{Rose};
-ghost use Rattle.fs_base.specs.Parts.{with_part};
+ghost use Rattle.std.specs.{Prelude.{◌≡◌, ◌≤◌, ◌+◌, ◌++◌, [], None, IsTrue, IfOk, IfSome, OnErr, length}, Result.{IsErrOf}};
+ghost use Rattle.fs_base.specs.{Files.{OnlySlot}, Outside.{Rose}, Parts.{with_part}};
 ghost use Rattle.fs_pcap.specs.Head.{longest_record};
-ghost use Rattle.fs_input.specs.NextRecord.{GivesNext};
-ghost use Rattle.fs_input.specs.declared.fault.Fault.TheVariants.{Read};
-ghost use Rattle.fs_input.specs.Reads.{ScansAgain, whole};
-ghost use Rattle.fs_input.specs.Scan.{field};
-ghost use Rattle.fs_pcapng.specs.Block.{block_in};
-ghost use Rattle.fs_input.specs.Opening.{Begins};
-ghost use Rattle.fs_pcapng.specs.Pcapng.{Grows, nothing, packet_from, pcapng_of};
-ghost use Rattle.fs_pcapng.specs.declared.fault.NgReason.TheVariants.{Cut};
+ghost use Rattle.fs_input.specs.{NextRecord.{GivesNext}, declared.fault.Fault.TheVariants.{Read}, Reads.{ScansAgain, whole}, Scan.{field}, Opening.{Begins}};
+ghost use Rattle.fs_pcapng.specs.{Block.{block_in}, Pcapng.{Grows, nothing, packet_from, pcapng_of}, declared.fault.NgReason.TheVariants.{Cut}};
 
 use crate::block::SECTION_HEADER;
 use crate::caught::NgCaught;
-use crate::fault::{NgFault, NgReason};
+use crate::fault::{Got, NgFault, NgReason};
 use crate::header::take_header;
 use crate::section::Section;
 use byteorder::{BigEndian, ByteOrder};
@@ -148,11 +139,7 @@ impl Ng {
 }
 
 /// Reads the first block of a capture.
-fn take_opening<F: Files>(
-    section: &mut Section,
-    counted: &mut Counted,
-    files: &mut F,
-) -> Result<(), NgFault>
+fn take_opening<F: Files>(section: &mut Section, counted: &mut Counted, files: &mut F) -> Got<()>
     requires nothing { section.old ≡ nothing }
     requires start { counted.old.taken ≡ 0 }
     requires few { length counted.old.back ≤ 4 }
@@ -181,7 +168,7 @@ fn take_opening<F: Files>(
 }
 
 /// Takes the type of the first block.
-fn take_kind<F: Files>(counted: &mut Counted, files: &mut F, kind: &mut [u8]) -> Result<(), NgFault>
+fn take_kind<F: Files>(counted: &mut Counted, files: &mut F, kind: &mut [u8]) -> Got<()>
     requires room { length kind.old ≡ 4 }
     requires few { length counted.old.back ≤ 4 }
     ensures none { IfOk result (λ _. counted.new.back ≡ []) }

@@ -26,3 +26,6 @@ pub enum NgReason {
 /// 0; for `TooMany`, and for `Interface` of a simple packet, that of the block; for an option that overruns its block
 /// that of the option; for `Cut` the capture's length.
 pub type NgFault = Fault<NgReason>;
+
+/// What a call that takes the fields of a capture answers.
+pub(crate) type Got<T> = Result<T, NgFault>;

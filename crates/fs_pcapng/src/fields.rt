@@ -1,13 +1,10 @@
 //! Taking the fields of blocks.
-ghost use Rattle.std.specs.Prelude.{◌≡◌, ◌≤◌, ◌+◌, [], IfOk, length, take, drop};
+ghost use Rattle.std.specs.Prelude.{◌≡◌, ◌≤◌, ◌+◌, [], IfOk, length, take};
 ghost use Rattle.fs_pcap.specs.Order.{number};
-ghost use Rattle.fs_input.specs.Reads.{Scans, whole};
-ghost use Rattle.fs_input.specs.Scan.{field, skips};
-ghost use Rattle.fs_pcapng.specs.Block.{close_in, end_in};
-ghost use Rattle.fs_pcapng.specs.declared.fault.NgReason.TheVariants.{Cut};
+ghost use Rattle.fs_input.specs.{Reads.{Scans, whole}, Scan.{field, skips}};
+ghost use Rattle.fs_pcapng.specs.{Block.{close_in, end_in}, declared.fault.NgReason.TheVariants.{Cut}};
 
-use crate::fault::{NgFault, NgReason};
-use byteorder::{BigEndian, ByteOrder, LittleEndian};
+use crate::fault::{Got, NgFault, NgReason};
 use fs_base::{Counted, Files};
 use fs_input::{skip_octets, take_octets};
 use fs_pcap::Endian;
@@ -20,35 +17,13 @@ pub(crate) struct Frame {
     pub(crate) total: u32,
 }
 
-/// The number in the first two octets.
-pub(crate) fn read_u16(order: Endian, octets: &[u8]) -> u16
-    requires { 2 ≤ length octets.now }
-    ensures { result ≡ number order 2 octets.now }
-{
-    match order {
-        Endian::Big => BigEndian::read_u16(octets),
-        Endian::Little => LittleEndian::read_u16(octets),
-    }
-}
-
-/// The number in the first four octets.
-pub(crate) fn read_u32(order: Endian, octets: &[u8]) -> u32
-    requires { 4 ≤ length octets.now }
-    ensures { result ≡ number order 4 octets.now }
-{
-    match order {
-        Endian::Big => BigEndian::read_u32(octets),
-        Endian::Little => LittleEndian::read_u32(octets),
-    }
-}
-
 /// Takes so many octets into the front of `into`.
 pub(crate) fn take_front<F: Files>(
     size: usize,
     counted: &mut Counted,
     files: &mut F,
     into: &mut [u8],
-) -> Result<(), NgFault>
+) -> Got<()>
     requires room { size ≤ length into.old }
     requires none { counted.old.back ≡ [] }
     ensures none { counted.new.back ≡ [] }
@@ -60,31 +35,8 @@ pub(crate) fn take_front<F: Files>(
     take_octets(NgReason::Cut, counted, files, &mut into[..size])
 }
 
-/// Takes a number of two octets.
-pub(crate) fn take_short<F: Files>(
-    order: Endian,
-    counted: &mut Counted,
-    files: &mut F,
-) -> Result<u16, NgFault>
-    requires none { counted.old.back ≡ [] }
-    ensures none { counted.new.back ≡ [] }
-    ensures taken { IfOk result (λ _. counted.new.taken ≡ counted.old.taken + 2) }
-    ensures reads { Scans F.Files files.old files.new (field 2 (number order 2)) Cut counted.old counted.new (λ n. n)
-        result }
-{
-    let mut octets = [0u8; 2];
-    if let Err(fault) = take_front(2, counted, files, &mut octets) {
-        return Err(fault);
-    }
-    Ok(read_u16(order, &octets))
-}
-
 /// Takes a number of four octets.
-pub(crate) fn take_number<F: Files>(
-    order: Endian,
-    counted: &mut Counted,
-    files: &mut F,
-) -> Result<u32, NgFault>
+pub(crate) fn take_number<F: Files>(order: Endian, counted: &mut Counted, files: &mut F) -> Got<u32>
     requires none { counted.old.back ≡ [] }
     ensures none { counted.new.back ≡ [] }
     ensures taken { IfOk result (λ _. counted.new.taken ≡ counted.old.taken + 4) }
@@ -95,15 +47,11 @@ pub(crate) fn take_number<F: Files>(
     if let Err(fault) = take_front(4, counted, files, &mut octets) {
         return Err(fault);
     }
-    Ok(read_u32(order, &octets))
+    Ok(order.read_u32(&octets))
 }
 
 /// Takes the total length again.
-pub(crate) fn close_block<F: Files>(
-    frame: Frame,
-    counted: &mut Counted,
-    files: &mut F,
-) -> Result<(), NgFault>
+pub(crate) fn close_block<F: Files>(frame: Frame, counted: &mut Counted, files: &mut F) -> Got<()>
     requires none { counted.old.back ≡ [] }
     requires place { counted.old.taken + 4 ≡ frame.start + frame.total }
     ensures none { counted.new.back ≡ [] }
@@ -127,7 +75,7 @@ pub(crate) fn close_block<F: Files>(
 }
 
 /// Skips so many octets.
-pub(crate) fn skip<F: Files>(size: u64, counted: &mut Counted, files: &mut F) -> Result<(), NgFault>
+pub(crate) fn skip<F: Files>(size: u64, counted: &mut Counted, files: &mut F) -> Got<()>
     requires none { counted.old.back ≡ [] }
     ensures none { counted.new.back ≡ [] }
     ensures taken { IfOk result (λ _. counted.new.taken ≡ counted.old.taken + size) }
@@ -143,7 +91,7 @@ pub(crate) fn end_block<F: Files>(
     size: u64,
     counted: &mut Counted,
     files: &mut F,
-) -> Result<(), NgFault>
+) -> Got<()>
     requires none { counted.old.back ≡ [] }
     requires place { counted.old.taken + size + 4 ≡ frame.start + frame.total }
     ensures none { counted.new.back ≡ [] }

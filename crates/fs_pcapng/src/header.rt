@@ -1,11 +1,10 @@
 //! Section headers.
 ghost use Rattle.std.specs.Prelude.{◌≡◌, ◌≤◌, ◌<◌, ◌+◌, ◌-◌, ◌%◌, [], IfOk, length};
 ghost use Rattle.fs_input.specs.Reads.{Scans};
-ghost use Rattle.fs_pcapng.specs.Block.{allows, order_of, section_in, version_in};
-ghost use Rattle.fs_pcapng.specs.declared.fault.NgReason.TheVariants.{Cut};
+ghost use Rattle.fs_pcapng.specs.{Block.{allows, order_of, section_in, version_in}, declared.fault.NgReason.TheVariants.{Cut}};
 
-use crate::fault::{NgFault, NgReason};
-use crate::fields::{Frame, end_block, read_u32, take_front, take_number, take_short};
+use crate::fault::{Got, NgFault, NgReason};
+use crate::fields::{Frame, end_block, take_front, take_number};
 use fs_base::{Counted, Files};
 use fs_pcap::Endian;
 
@@ -28,11 +27,7 @@ pub(crate) fn allows(least: u32, total: u32) -> bool
 }
 
 /// Reads a section header behind its type: the order that it tells.
-pub(crate) fn take_header<F: Files>(
-    start: u64,
-    counted: &mut Counted,
-    files: &mut F,
-) -> Result<Endian, NgFault>
+pub(crate) fn take_header<F: Files>(start: u64, counted: &mut Counted, files: &mut F) -> Got<Endian>
     requires none { counted.old.back ≡ [] }
     requires place { counted.old.taken ≡ start + 4 }
     ensures none { counted.new.back ≡ [] }
@@ -54,7 +49,7 @@ pub(crate) fn take_header<F: Files>(
             place: counted.taken - 4,
         });
     };
-    let total = read_u32(order, &octets);
+    let total = order.read_u32(&octets);
     if !allows(28, total) {
         return Err(NgFault::Bad {
             reason: NgReason::Length,
@@ -73,11 +68,7 @@ pub(crate) fn take_header<F: Files>(
 }
 
 /// Reads a section header behind its magic.
-fn take_version<F: Files>(
-    frame: Frame,
-    counted: &mut Counted,
-    files: &mut F,
-) -> Result<Endian, NgFault>
+fn take_version<F: Files>(frame: Frame, counted: &mut Counted, files: &mut F) -> Got<Endian>
     requires none { counted.old.back ≡ [] }
     requires place { counted.old.taken ≡ frame.start + 12 }
     requires long { 28 ≤ frame.total }
@@ -87,19 +78,18 @@ fn take_version<F: Files>(
         result }
 {
     let place = counted.taken;
-    match take_short(frame.order, counted, files) {
-        Ok(major) => {
-            if major != 1 {
-                return Err(NgFault::Bad {
-                    reason: NgReason::Version,
-                    place,
-                });
-            }
-            match end_block(frame, frame.total as u64 - 18, counted, files) {
-                Ok(()) => Ok(frame.order),
-                Err(fault) => Err(fault),
-            }
-        }
+    let mut major = [0u8; 2];
+    if let Err(fault) = take_front(2, counted, files, &mut major) {
+        return Err(fault);
+    }
+    if frame.order.read_u16(&major) != 1 {
+        return Err(NgFault::Bad {
+            reason: NgReason::Version,
+            place,
+        });
+    }
+    match end_block(frame, frame.total as u64 - 18, counted, files) {
+        Ok(()) => Ok(frame.order),
         Err(fault) => Err(fault),
     }
 }

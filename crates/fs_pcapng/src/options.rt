@@ -2,11 +2,10 @@
 ghost use Rattle.std.specs.Prelude.{◌≡◌, ◌≤◌, ◌<◌, ◌+◌, ◌-◌, ◌/◌, ◌*◌, [], IfOk, length};
 ghost use Rattle.fs_pcap.specs.Head.{longest_record};
 ghost use Rattle.fs_input.specs.Reads.{Scans};
-ghost use Rattle.fs_pcapng.specs.Options.{option_in, options_in, padded, unit_in, value_in, cursor};
-ghost use Rattle.fs_pcapng.specs.declared.fault.NgReason.TheVariants.{Cut};
+ghost use Rattle.fs_pcapng.specs.{Options.{option_in, options_in, padded, unit_in, value_in, cursor}, declared.fault.NgReason.TheVariants.{Cut}};
 
-use crate::fault::{NgFault, NgReason};
-use crate::fields::{read_u16, skip, take_front};
+use crate::fault::{Got, NgFault, NgReason};
+use crate::fields::{skip, take_front};
 use fs_base::{Counted, Files};
 use fs_pcap::Endian;
 
@@ -31,7 +30,7 @@ pub(crate) fn read_options<F: Files>(
     size: u32,
     counted: &mut Counted,
     files: &mut F,
-) -> Result<u8, NgFault>
+) -> Got<u8>
     requires none { counted.old.back ≡ [] }
     ensures none { counted.new.back ≡ [] }
     ensures taken { IfOk result (λ _. counted.new.taken ≡ counted.old.taken + size) }
@@ -57,7 +56,7 @@ fn take_option<F: Files>(
     now: Cursor,
     counted: &mut Counted,
     files: &mut F,
-) -> Result<Cursor, NgFault>
+) -> Got<Cursor>
     requires none { counted.old.back ≡ [] }
     ensures none { counted.new.back ≡ [] }
     ensures less { IfOk result (λ later. later.left < now.left) }
@@ -70,8 +69,8 @@ fn take_option<F: Files>(
     if let Err(fault) = take_front(4, counted, files, &mut head) {
         return Err(fault);
     }
-    let code = read_u16(order, &head);
-    let size = read_u16(order, &head[2..]);
+    let code = order.read_u16(&head);
+    let size = order.read_u16(&head[2..]);
     if 4 + padded(size as u32) > now.left {
         return Err(NgFault::Bad {
             reason: NgReason::Length,
@@ -88,7 +87,7 @@ fn take_value<F: Files>(
     size: u16,
     counted: &mut Counted,
     files: &mut F,
-) -> Result<Cursor, NgFault>
+) -> Got<Cursor>
     requires none { counted.old.back ≡ [] }
     requires room { 4 + padded size ≤ now.left }
     ensures none { counted.new.back ≡ [] }
@@ -111,7 +110,7 @@ fn take_value<F: Files>(
 }
 
 /// Reads the unit, an octet and three that pad it.
-fn take_unit<F: Files>(now: Cursor, counted: &mut Counted, files: &mut F) -> Result<Cursor, NgFault>
+fn take_unit<F: Files>(now: Cursor, counted: &mut Counted, files: &mut F) -> Got<Cursor>
     requires none { counted.old.back ≡ [] }
     requires room { 8 ≤ now.left }
     ensures none { counted.new.back ≡ [] }

@@ -2,16 +2,12 @@
 ghost use Rattle.std.specs.Prelude.{◌≡◌, ◌≤◌, ◌<◌, ◌+◌, ◌-◌, ◌*◌, [], IfOk, Some, length, max, min, take};
 ghost use Rattle.fs_pcap.specs.Head.{longest_record};
 ghost use Rattle.fs_base.specs.Link.{link_of};
-ghost use Rattle.fs_input.specs.Judging.{scan_of};
-ghost use Rattle.fs_input.specs.Reads.{Scans};
-ghost use Rattle.fs_pcapng.specs.Block.{cut_to, described_in, enhanced_in, octets_in, simple_in};
-ghost use Rattle.fs_pcapng.specs.Packets.{Suits, told_by, told_in};
-ghost use Rattle.fs_pcapng.specs.Pcapng.{seen_from};
-ghost use Rattle.fs_pcapng.specs.declared.fault.NgReason.TheVariants.{Cut};
+ghost use Rattle.fs_input.specs.{Judging.{scan_of}, Reads.{Scans}};
+ghost use Rattle.fs_pcapng.specs.{Block.{cut_to, described_in, enhanced_in, octets_in, simple_in}, Packets.{Suits, told_by, told_in}, Pcapng.{seen_from}, declared.fault.NgReason.TheVariants.{Cut}};
 
 use crate::caught::{NgCaught, Seen};
-use crate::fault::{NgFault, NgReason};
-use crate::fields::{Frame, close_block, end_block, read_u16, read_u32, take_front, take_number};
+use crate::fault::{Got, NgFault, NgReason};
+use crate::fields::{Frame, close_block, end_block, take_front, take_number};
 use crate::options::{padded, read_options};
 use crate::section::{Interface, Section};
 use crate::time::time_of;
@@ -37,7 +33,7 @@ pub(crate) fn take_described<F: Files>(
     frame: Frame,
     counted: &mut Counted,
     files: &mut F,
-) -> Result<Interface, NgFault>
+) -> Got<Interface>
     requires none { counted.old.back ≡ [] }
     requires place { counted.old.taken ≡ frame.start + 8 }
     requires long { 20 ≤ frame.total }
@@ -56,8 +52,8 @@ pub(crate) fn take_described<F: Files>(
     };
     match close_block(frame, counted, files) {
         Ok(()) => Ok(Interface {
-            link: read_u16(frame.order, &head),
-            snap: read_u32(frame.order, &head[4..]),
+            link: frame.order.read_u16(&head),
+            snap: frame.order.read_u32(&head[4..]),
             unit,
         }),
         Err(fault) => Err(fault),
@@ -73,7 +69,7 @@ fn take_captured<F: Files>(
     counted: &mut Counted,
     files: &mut F,
     into: &mut [u8],
-) -> Result<(), NgFault>
+) -> Got<()>
     requires room { longest_record ≤ length into.old }
     requires size { captured ≤ longest_record }
     requires long { fixed + captured ≤ frame.total }
@@ -99,7 +95,7 @@ fn take_captured<F: Files>(
     if let Err(fault) = take_front(size, counted, files, into) {
         return Err(fault);
     }
-    if read_u32(frame.order, &into[size - 4..size]) != frame.total {
+    if frame.order.read_u32(&into[size - 4..size]) != frame.total {
         return Err(NgFault::Bad {
             reason: NgReason::Length,
             place: counted.taken - 4,
@@ -141,7 +137,7 @@ fn judge_timed(
         return Judged::Partial;
     }
     let head = &octets[..12];
-    let captured = read_u32(frame.order, &head[8..]);
+    let captured = frame.order.read_u32(&head[8..]);
     if captured > LONGEST_PACKET {
         return Judged::Wrong {
             reason: NgReason::RecordTooLong,
@@ -157,14 +153,14 @@ fn judge_timed(
     if octets.len() < 16 {
         return Judged::Partial;
     }
-    let high = read_u32(frame.order, head);
-    let low = read_u32(frame.order, &head[4..]);
+    let high = frame.order.read_u32(head);
+    let low = frame.order.read_u32(&head[4..]);
     let time = time_of(interface.unit, high as u64 * 4294967296 + low as u64);
     Judged::Whole(Told {
         link: interface.link,
         moment: moment.max(time),
         captured,
-        original: read_u32(frame.order, &octets[12..16]),
+        original: frame.order.read_u32(&octets[12..16]),
     })
 }
 
@@ -179,7 +175,7 @@ fn judge_told(frame: Frame, section: &Section, taken: u64, octets: &[u8]) -> Jud
         return Judged::Partial;
     }
     let at = taken - octets.len() as u64;
-    match section.interface(read_u32(frame.order, &octets[..4])) {
+    match section.interface(frame.order.read_u32(&octets[..4])) {
         Some(interface) => judge_timed(frame, interface, section.moment(), at, &octets[4..]),
         None => Judged::Wrong {
             reason: NgReason::Interface,
@@ -194,7 +190,7 @@ fn take_told<F: Files>(
     section: &Section,
     counted: &mut Counted,
     files: &mut F,
-) -> Result<Told, NgFault>
+) -> Got<Told>
     requires none { counted.old.back ≡ [] }
     requires place { counted.old.taken ≡ frame.start + 8 }
     ensures none { counted.new.back ≡ [] }
@@ -220,7 +216,7 @@ pub(crate) fn take_enhanced<F: Files>(
     counted: &mut Counted,
     files: &mut F,
     into: &mut [u8],
-) -> Result<Seen, NgFault>
+) -> Got<Seen>
     requires room { longest_record ≤ length into.old }
     requires none { counted.old.back ≡ [] }
     requires place { counted.old.taken ≡ frame.start + 8 }
@@ -260,7 +256,7 @@ pub(crate) fn take_simple<F: Files>(
     counted: &mut Counted,
     files: &mut F,
     into: &mut [u8],
-) -> Result<Seen, NgFault>
+) -> Got<Seen>
     requires room { longest_record ≤ length into.old }
     requires none { counted.old.back ≡ [] }
     requires place { counted.old.taken ≡ frame.start + 8 }

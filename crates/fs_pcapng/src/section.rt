@@ -43,8 +43,7 @@ impl Model for Section {
 
 impl Section {
     ghost use Rattle.std.specs.Prelude.{ℕ, ◌<◌, length, nat_lt, slice_get};
-    ghost use Rattle.fs_pcapng.specs.Block.{opened, with_interface};
-    ghost use Rattle.fs_pcapng.specs.Pcapng.{nothing};
+    ghost use Rattle.fs_pcapng.specs.{Block.{opened, with_interface}, Pcapng.{nothing}};
 
     /// Before the first section header.
     pub(crate) fn nothing() -> Section

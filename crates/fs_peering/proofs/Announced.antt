@@ -1,14 +1,5 @@
 -- How what an announcing end says over a wire follows from how it stands.
-use Rattle.fs_peering.proofs.Words.{Announcing, Closed, Config, Lined, Machine, Peer, Phase, Sending, Told, WireEnds, is_established, machine_in, open_sent, state_in, text_sent, ◌≡◌, ◌<◌, ◌≤◌, ℕ, ◌+◌, ◌-◌, List, [], ◌++◌, length, IsTrue, Bool, true, false, if◌then◌else◌, Option, Some, None, refl, ap, sym, ◌∙◌, subst, arith, append_assoc, append-nil, flat_map, is_some, length-map, take_all, none_there, EndsSo, HeardOut, HearsOut, Part, Pieces, Spoken, Stance, moments_in, octets_in, Stopped, All, Over, Ending, Done, AtLimit, course, CountsTo, SaysUpTo, ClosesSo, HasHeard, ahead_of, before_all, is_settled, rules_of, Tells, TellsOver, TellsSo, answers_to, begins_with}
-use Rattle.fs_peering.specs.declared.listening.Stopped.TheVariants.{AtLimit as MetIt}
-use Rattle.fs_peering.proofs.Composing.{part_then}
-use Rattle.fs_peering.proofs.WrittenInParts.{told_and}
-use Rattle.fs_peering.specs.declared.tell.Ending.TheVariants.{Ended, Closed as HasClosed}
-use Rattle.fs_peering.specs.Teller.{is_over}
-use Rattle.fs_peering.specs.Tell.{SaidAll}
-use Rattle.fs_peering.proofs.Counting.{Opens, ends_by, met_by, opens_so}
-use Rattle.fs_peering.proofs.Hearing.{no_rules, unsettled}
-use Rattle.fs_peering.proofs.Settled.{settled_up, state_open, state_shut}
+use Rattle.fs_peering.{proofs.{Words.{Announcing, Closed, Config, Lined, Machine, Peer, Phase, Sending, Told, WireEnds, is_established, machine_in, open_sent, state_in, text_sent, ◌≡◌, ◌<◌, ◌≤◌, ℕ, ◌+◌, ◌-◌, List, [], ◌++◌, length, IsTrue, Bool, true, false, if◌then◌else◌, Option, Some, None, refl, ap, sym, ◌∙◌, subst, arith, append_assoc, append-nil, flat_map, is_some, length-map, take_all, none_there, EndsSo, HeardOut, HearsOut, Part, Pieces, Spoken, Stance, moments_in, octets_in, Stopped, All, Over, Ending, Done, AtLimit, course, CountsTo, SaysUpTo, ClosesSo, HasHeard, ahead_of, before_all, is_settled, rules_of, Teller, Tells, TellsOver, TellsSo, answers_to, begins_with}, Composing.{part_then}, WrittenInParts.{told_and}, Counting.{Opens, ends_by, met_by, opens_so}, Hearing.{no_rules, unsettled}, Sending.{says_start}, Settled.{settled_up, state_open, state_shut}}, specs.{declared.{listening.Stopped.TheVariants.{AtLimit as MetIt}, tell.Ending.TheVariants.{Ended, Closed as HasClosed}}, Teller.{is_over}, Tell.{SaidAll}}}
 
 -- whose it is
 pub record IsOf (end : Announcing) (config : Config) (peer : Peer) (sending : Sending) : Type 0 where
@@ -131,25 +122,46 @@ module _ (ending : Ending) (config : Config) (peer : Peer) (sending : Sending) (
         ends = ends w.heard w.said w.some h;
       })))
 
+-- what stays of an end
+abbrev own_of : Teller → Teller
+own_of t = record { announcer = before_all t.announcer; hears_on = t.hears_on; started = false; count = 0 }
+
 -- what an end is that hears more, and how it then stands
-module _ (config : Config) (peer : Peer) (sending : Sending) (limit : ℕ) (s0 : Stance) (on1 on : Bool) (spoke end : Announcing) (started started1 : Bool) (count count1 : ℕ)
-    (t0 t1 t2 : Option WireEnds) (answers answers' : Option (List ℕ)) (off1 : on1 ≡ false) (off : on ≡ false) (start : s0 [] [])
-    (first : Told (Spoken s0 (SaysUpTo on1 spoke started1 count1) 1) t0 t1) (open_before : is_over on1 spoke.line ≡ false) (of : IsOf end config peer sending) where
+module _ (config : Config) (peer : Peer) (sending : Sending) (limit : ℕ) (first spoke now : Teller) (t0 t1 t2 : Option WireEnds) (answers answers' : Option (List ℕ))
+    (own_spoke : own_of spoke ≡ own_of first) (own_now : own_of now ≡ own_of spoke) (early : first.hears_on ≡ false) (e : first.announcer ≡ begins_with config peer sending)
+    (unstarted : first.started ≡ false) (fresh : first.count ≡ 0)
+    (told : Told (Spoken (SaysUpTo first.hears_on first.announcer first.started first.count) (SaysUpTo spoke.hears_on spoke.announcer spoke.started spoke.count) 1) t0 t1)
+    (open_before : is_over spoke.hears_on spoke.announcer.line ≡ false) where
+  abbrev end : Announcing
+  end = now.announcer
+
+  abbrev s0 : Stance
+  s0 = SaysUpTo first.hears_on first.announcer first.started first.count
+
   abbrev s1 : Stance
-  s1 = SaysUpTo on1 spoke started1 count1
+  s1 = SaysUpTo spoke.hears_on spoke.announcer spoke.started spoke.count
 
   abbrev s2 : Stance
-  s2 = SaysUpTo on end started count
+  s2 = SaysUpTo now.hears_on end now.started now.count
+
+  off_spoke : spoke.hears_on ≡ false
+  off_spoke = ap (λ (t : Teller). t.hears_on) own_spoke ∙ early
+
+  off : now.hears_on ≡ false
+  off = ap (λ (t : Teller). t.hears_on) own_now ∙ off_spoke
+
+  start : s0 [] []
+  start = says_start first.hears_on first.announcer first.started first.count config peer sending e unstarted fresh
 
   -- no rule was said before the end heard
-  unsent : (a b : WireEnds) → Spoken s0 s1 1 a b → spoke.appended ≡ 0
+  unsent : (a b : WireEnds) → Spoken s0 s1 1 a b → spoke.announcer.appended ≡ 0
   unsent a b f =
-      (subst (λ (x : Bool). SaysUpTo x spoke started1 count1 [] ([] ++ f.out)) off1 (f.part.stands [] [] start)).0.none
-      (unsettled spoke.line (subst (λ (x : Bool). is_over x spoke.line ≡ false) off1 open_before)).1
+      (subst (λ (x : Bool). SaysUpTo x spoke.announcer spoke.started spoke.count [] ([] ++ f.out)) off_spoke (f.part.stands [] [] start)).0.none
+      (unsettled spoke.announcer.line (subst (λ (x : Bool). is_over x spoke.announcer.line ≡ false) off_spoke open_before)).1
 
   pub at_end : (ending : Ending) (heard : Stopped) (over : Bool) (so_far : ℕ) → HearsOut heard s1 s2 over so_far 1 limit t1 t2 answers answers'
-      → end.appended ≡ spoke.appended
-      → ((pieces : Pieces) (said left : List ℕ) → end.appended ≡ 0 → EndsSo heard over so_far limit left → 0 < length pieces → SaysUpTo false end started count pieces said
+      → end.appended ≡ spoke.announcer.appended
+      → ((pieces : Pieces) (said left : List ℕ) → end.appended ≡ 0 → EndsSo heard over so_far limit left → 0 < length pieces → SaysUpTo false end now.started now.count pieces said
       → TellsSo ending end.config end.peer end.sending limit pieces said left)
       → TellsOver ending config peer sending limit t0 t2 answers answers'
   at_end ending heard over so_far hears same ends = record {
@@ -157,41 +169,41 @@ module _ (config : Config) (peer : Peer) (sending : Sending) (limit : ℕ) (s0 :
     grew = hears.grew;
     told = told_and (Spoken s0 s1 1) (HeardOut heard s1 s2 over so_far 1 limit hears.given) (Tells ending config peer sending limit hears.given)
         (λ a b c f l.
-        told_so ending config peer sending limit on end started count off of hears.given s0 a c start
+        told_so ending config peer sending limit now.hears_on end now.started now.count off (is_of end first.announcer config peer sending (ap (λ (t : Teller). t.announcer) (own_now ∙ own_spoke)) e) hears.given s0 a c start
         (λ pieces said some h. ends pieces said c.second.left (same ∙ unsent a b f) l.ends some h)
         (first_heard heard s0 s1 s2 over so_far limit hears.given a b c f l))
-        t0 t1 t2 first hears.told;
+        t0 t1 t2 told hears.told;
   }
 
-  pub over_so : (why : Closed) (over : Bool) (so_far : ℕ) → HearsOut Over s1 s2 over so_far 1 limit t1 t2 answers answers' → end.appended ≡ spoke.appended
+  pub over_so : (why : Closed) (over : Bool) (so_far : ℕ) → HearsOut Over s1 s2 over so_far 1 limit t1 t2 answers answers' → end.appended ≡ spoke.announcer.appended
       → end.line.closed ≡ Some why → TellsOver (HasClosed why) config peer sending limit t0 t2 answers answers'
   over_so why over so_far hears same shut =
-      at_end (HasClosed why) Over over so_far hears same (λ pieces said left none e some h. closed_so end started count pieces said h.0 h.1 why some shut)
+      at_end (HasClosed why) Over over so_far hears same (λ pieces said left none e some h. closed_so end now.started now.count pieces said h.0 h.1 why some shut)
 
-  limit_end : (alive : end.line.closed ≡ None) → limit ≤ count → (pieces : Pieces) (said left : List ℕ) → end.appended ≡ 0 → 0 < length pieces → SaysUpTo false end started count pieces said
+  limit_end : (alive : end.line.closed ≡ None) → limit ≤ now.count → (pieces : Pieces) (said left : List ℕ) → end.appended ≡ 0 → 0 < length pieces → SaysUpTo false end now.started now.count pieces said
       → TellsSo AtLimit end.config end.peer end.sending limit pieces said left
   limit_end alive met pieces said left none some h =
-      (met_by (opens end started count pieces said h.0 h.1 alive) limit met, said_none end started count pieces said h.0 h.1 some none)
+      (met_by (opens end now.started now.count pieces said h.0 h.1 alive) limit met, said_none end now.started now.count pieces said h.0 h.1 some none)
 
-  pub over_limit : (over : Bool) (so_far : ℕ) → HearsOut Over s1 s2 over so_far 1 limit t1 t2 answers answers' → end.appended ≡ spoke.appended
-      → end.line.closed ≡ None → limit ≤ count → TellsOver AtLimit config peer sending limit t0 t2 answers answers'
+  pub over_limit : (over : Bool) (so_far : ℕ) → HearsOut Over s1 s2 over so_far 1 limit t1 t2 answers answers' → end.appended ≡ spoke.announcer.appended
+      → end.line.closed ≡ None → limit ≤ now.count → TellsOver AtLimit config peer sending limit t0 t2 answers answers'
   over_limit over so_far hears same alive met =
       at_end AtLimit Over over so_far hears same (λ pieces said left none e some h. limit_end alive met pieces said left none some h)
 
-  pub limit_so : (over : Bool) (so_far : ℕ) → HearsOut MetIt s1 s2 over so_far 1 limit t1 t2 answers answers' → end.appended ≡ spoke.appended
-      → over ≡ is_settled end.line → so_far ≡ count → TellsOver AtLimit config peer sending limit t0 t2 answers answers'
+  pub limit_so : (over : Bool) (so_far : ℕ) → HearsOut MetIt s1 s2 over so_far 1 limit t1 t2 answers answers' → end.appended ≡ spoke.announcer.appended
+      → over ≡ is_settled end.line → so_far ≡ now.count → TellsOver AtLimit config peer sending limit t0 t2 answers answers'
   limit_so over so_far hears same o k =
       at_end AtLimit MetIt over so_far hears same
       (λ pieces said left none e some h. limit_end (unsettled end.line (sym o ∙ e.0)).0 (subst (λ (n : ℕ). limit ≤ n) k e.1) pieces said left none some h)
 
-  pub ended_so : (over : Bool) (so_far : ℕ) → HearsOut All s1 s2 over so_far 1 limit t1 t2 answers answers' → end.appended ≡ spoke.appended
-      → over ≡ is_settled end.line → so_far ≡ count → TellsOver Ended config peer sending limit t0 t2 answers answers'
+  pub ended_so : (over : Bool) (so_far : ℕ) → HearsOut All s1 s2 over so_far 1 limit t1 t2 answers answers' → end.appended ≡ spoke.announcer.appended
+      → over ≡ is_settled end.line → so_far ≡ now.count → TellsOver Ended config peer sending limit t0 t2 answers answers'
   ended_so over so_far hears same o k =
       at_end Ended All over so_far hears same
       (λ pieces said left none e some h.
       let alive = unsettled end.line (sym o ∙ e.0) in (
-        ends_by (opens end started count pieces said h.0 h.1 alive.0) limit left (sym (state_open end.line alive.0) ∙ alive.1) (subst (λ (n : ℕ). n < limit) k e.1.0) e.1.1,
-        said_none end started count pieces said h.0 h.1 some none,
+        ends_by (opens end now.started now.count pieces said h.0 h.1 alive.0) limit left (sym (state_open end.line alive.0) ∙ alive.1) (subst (λ (n : ℕ). n < limit) k e.1.0) e.1.1,
+        said_none end now.started now.count pieces said h.0 h.1 some none,
       ))
 
 -- and when its rules were said

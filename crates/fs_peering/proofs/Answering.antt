@@ -1,6 +1,5 @@
 -- What the machine of an announcing end answers to the OPEN: a KEEPALIVE.
-use Rattle.fs_peering.proofs.Words.{Closed, Config, Handed, Machine, Message, MessageFault, Needs, NoFamily, Open, Phase, State, Times, Update, WaitKeep, WaitOpen, announcer, faulted, first_message, keepalive_to, lacks_of, message_text, not_taken, notice_of, notified, open_of, opened, phase, rest_step, runs_by, step_at, step_by, stops, taken, taken_in, takes, transition_at, transition_by, wrong_at, ◌≡◌, ◌==◌, ◌⊎◌, inl, inr, ℕ, List, [], ◌++◌, Bool, true, false, if◌then◌else◌, min, Option, Some, None, Result, Ok, Err, refl, ap, sym, ◌∙◌, subst, append-nil, arith, nat_tests, runs_stops, runs_takes, runs_waits, TookOpen}
-use Rattle.fs_peering.proofs.Phases.{Quiet, awaits_open, quiet_by, silent}
+use Rattle.fs_peering.proofs.{Words.{Closed, Config, Handed, Machine, Message, MessageFault, Needs, NoFamily, Open, Phase, State, Times, Update, WaitKeep, WaitOpen, announcer, faulted, first_message, keepalive_to, lacks_of, message_text, not_taken, notice_of, notified, open_of, opened, phase, rest_step, runs_by, step_at, step_by, stops, taken, taken_in, takes, transition_at, transition_by, wrong_at, ◌≡◌, ◌==◌, ◌⊎◌, inl, inr, ℕ, List, [], ◌++◌, Bool, true, false, if◌then◌else◌, min, Option, Some, None, Result, Ok, Err, refl, ap, sym, ◌∙◌, subst, append-nil, arith, nat_tests, runs_stops, runs_takes, runs_waits, TookOpen}, Phases.{Quiet, awaits_open, quiet_by, silent}}
 
 abbrev Made : Type 0
 Made = Result (Phase × Option Update) Closed

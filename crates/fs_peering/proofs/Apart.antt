@@ -1,8 +1,5 @@
 -- Of all moments a later one lies so far above an earlier one where some of them do.
-use Rattle.fs_peering.proofs.Words.{Config, Expires, Fault, Last, Machine, Peer, Sending, Update, announcer, at_moment, needs_of, receiver, tick_at, ◌≡◌, ◌⊎◌, inl, inr, ℕ, ◌+◌, ◌<◌, ◌≤◌, nat_le, List, [], ◌∷◌, ◌++◌, length, Bool, true, false, if◌then◌else◌, None, Some, refl, ap, sym, ◌∙◌, ◌*◌, subst, append_assoc, arith, nat_tests, flat_map-append, map-append, Spans, most, Heard, moments_of, of_first, of_second, Pieces, moments_in, octets_in, ClosesIn, ExpiresAt, HasClosed, LieApart, Reaches, RunsLate, told_by, course}
-use Rattle.fs_peering.proofs.Moments.{expires_late, positive}
-use Rattle.fs_peering.proofs.Expiring.{Expired, bounded_late, closed_late}
-use Rattle.fs_peering.proofs.StaysOpen.{stands}
+use Rattle.fs_peering.proofs.{Words.{Config, Expires, Fault, Last, Machine, Peer, Sending, Update, announcer, at_moment, needs_of, receiver, tick_at, ◌≡◌, ◌⊎◌, inl, inr, ℕ, ◌+◌, ◌<◌, ◌≤◌, nat_le, List, [], ◌∷◌, ◌++◌, length, Bool, true, false, not, flat_map, if◌then◌else◌, None, Some, refl, ap, sym, ◌∙◌, ◌*◌, subst, append_assoc, arith, nat_tests, flat_map-append, map-append, Spans, most, Heard, heard_by, moments_of, of_first, of_second, Pieces, moments_in, octets_in, ClosesIn, ExpiresAt, HasClosed, LieApart, Reaches, RunsLate, told_by, course}, Moments.{expires_late, positive}, Expiring.{Expired, bounded_late, closed_late}, StaysOpen.{stands}}
 
 reaches_behind : (least : ℕ) (xs ys : List ℕ) → Reaches least ys → Reaches least (xs ++ ys)
 reaches_behind least [] ys r = r
@@ -42,45 +39,29 @@ apart_spans least moments some s = subst (LieApart least) (sym s.split) (by s.ea
         inl (reaches_behind (x + least) xs s.later (reaches_most (x + least) s.later (omega (arith, some)) (omega (arith, far))))
 
 -- those of one end are some of both
-reaches_first : (least : ℕ) (events : List Heard) → Reaches least (moments_in (of_first events)) → Reaches least (moments_of events)
-reaches_first least [] r = absurd r
-reaches_first least (event ∷ events) r = by (λ k. reaches_first least events k) event.first r
-  where
-    by : (Reaches least (moments_in (of_first events)) → Reaches least (moments_of events)) → (b : Bool)
-        → Reaches least (moments_in ((if b then (event.moment, event.piece) ∷ [] else []) ++ of_first events)) → Reaches least (moments_of (event ∷ events))
-    by rest true (inl h) = inl h
-    by rest true (inr k) = inr (rest k)
-    by rest false k = inr (rest k)
+module _ (which : Bool) where
+  abbrev of_one : List Heard → Pieces
+  of_one events = flat_map (heard_by which) events
 
-reaches_second : (least : ℕ) (events : List Heard) → Reaches least (moments_in (of_second events)) → Reaches least (moments_of events)
-reaches_second least [] r = absurd r
-reaches_second least (event ∷ events) r = by (λ k. reaches_second least events k) event.first r
-  where
-    by : (Reaches least (moments_in (of_second events)) → Reaches least (moments_of events)) → (b : Bool)
-        → Reaches least (moments_in ((if b then [] else (event.moment, event.piece) ∷ []) ++ of_second events)) → Reaches least (moments_of (event ∷ events))
-    by rest true k = inr (rest k)
-    by rest false (inl h) = inl h
-    by rest false (inr k) = inr (rest k)
+  reaches_one : (least : ℕ) (events : List Heard) → Reaches least (moments_in (of_one events)) → Reaches least (moments_of events)
+  reaches_one least [] r = absurd r
+  reaches_one least (event ∷ events) r = by (λ k. reaches_one least events k) (if which then event.first else not event.first) r
+    where
+      by : (Reaches least (moments_in (of_one events)) → Reaches least (moments_of events)) → (b : Bool)
+          → Reaches least (moments_in ((if b then (event.moment, event.piece) ∷ [] else []) ++ of_one events)) → Reaches least (moments_of (event ∷ events))
+      by rest true (inl h) = inl h
+      by rest true (inr k) = inr (rest k)
+      by rest false k = inr (rest k)
 
-pub apart_first : (least : ℕ) (events : List Heard) → LieApart least (moments_in (of_first events)) → LieApart least (moments_of events)
-apart_first least [] a = absurd a
-apart_first least (event ∷ events) a = by (λ k. apart_first least events k) event.first a
-  where
-    by : (LieApart least (moments_in (of_first events)) → LieApart least (moments_of events)) → (b : Bool)
-        → LieApart least (moments_in ((if b then (event.moment, event.piece) ∷ [] else []) ++ of_first events)) → LieApart least (moments_of (event ∷ events))
-    by rest true (inl r) = inl (reaches_first (event.moment + least) events r)
-    by rest true (inr k) = inr (rest k)
-    by rest false k = inr (rest k)
-
-pub apart_second : (least : ℕ) (events : List Heard) → LieApart least (moments_in (of_second events)) → LieApart least (moments_of events)
-apart_second least [] a = absurd a
-apart_second least (event ∷ events) a = by (λ k. apart_second least events k) event.first a
-  where
-    by : (LieApart least (moments_in (of_second events)) → LieApart least (moments_of events)) → (b : Bool)
-        → LieApart least (moments_in ((if b then [] else (event.moment, event.piece) ∷ []) ++ of_second events)) → LieApart least (moments_of (event ∷ events))
-    by rest true k = inr (rest k)
-    by rest false (inl r) = inl (reaches_second (event.moment + least) events r)
-    by rest false (inr k) = inr (rest k)
+  pub apart_one : (least : ℕ) (events : List Heard) → LieApart least (moments_in (of_one events)) → LieApart least (moments_of events)
+  apart_one least [] a = absurd a
+  apart_one least (event ∷ events) a = by (λ k. apart_one least events k) (if which then event.first else not event.first) a
+    where
+      by : (LieApart least (moments_in (of_one events)) → LieApart least (moments_of events)) → (b : Bool)
+          → LieApart least (moments_in ((if b then (event.moment, event.piece) ∷ [] else []) ++ of_one events)) → LieApart least (moments_of (event ∷ events))
+      by rest true (inl r) = inl (reaches_one (event.moment + least) events r)
+      by rest true (inr k) = inr (rest k)
+      by rest false k = inr (rest k)
 
 -- the hold time of an end expired at one of the moments
 module _ (machine : Machine) (heard earlier later : Pieces) (event : ℕ × List ℕ) (split : heard ≡ earlier ++ event ∷ later) (lived : (course machine earlier).point.closed ≡ None)
@@ -113,7 +94,7 @@ late_first config peer whose events replied c = by c.closes
   where
     by : ExpiresAt config whose c.earlier c.moment replied (Fault 4 0) ⊎ ClosesIn config peer whose c.earlier c.moment c.piece replied (Fault 4 0)
         → RunsLate (receiver config whose) (of_first events) (moments_of events)
-    by (inl x) = runs_late (receiver config whose) (of_first events) c.earlier [] (c.moment, c.piece) c.split c.lived x.due (moments_of events) (λ least a. apart_first least events a)
+    by (inl x) = runs_late (receiver config whose) (of_first events) c.earlier [] (c.moment, c.piece) c.split c.lived x.due (moments_of events) (λ least a. apart_one true least events a)
     by (inr y) = absurd (bounded_late config whose ((octets_in c.earlier ++ c.piece) ++ []) (ap (λ (z : List Update × Last). z.1) (y.over.stays [])))
 
 pub late_second : (config : Config) (sending : Sending) (events : List Heard) → (told_by config sending (of_second events)).point.closed ≡ Some (Fault 4 0)
@@ -121,4 +102,4 @@ pub late_second : (config : Config) (sending : Sending) (events : List Heard) �
 late_second config sending events c =
     let machine : Machine = announcer config (needs_of sending.rules) in
     let x : Expired machine (of_second events) = closed_late machine (of_second events) c in
-    runs_late machine (of_second events) x.earlier x.later x.event x.split x.lived x.due (moments_of events) (λ least a. apart_second least events a)
+    runs_late machine (of_second events) x.earlier x.later x.event x.split x.lived x.due (moments_of events) (λ least a. apart_one false least events a)

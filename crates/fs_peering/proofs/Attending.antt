@@ -1,7 +1,5 @@
 -- What an end hears of a stream, round by round.
-use Rattle.fs_peering.proofs.Words.{Told, WireEnds, end_at, ◌≡◌, ℕ, List, [], ◌∷◌, ◌++◌, ◌+◌, Bool, Option, length, length-append, arith, refl, ap, ◌∙◌, map-append, Grew, Grew-refl, Grew-trans, EndsSo, HeardOut, HearsOut, Listened, Listens, Stance, Round, Stopped}
-use Rattle.fs_peering.proofs.Composing.{part_none, part_then}
-use Rattle.fs_peering.proofs.WrittenInParts.{told_and, told_same}
+use Rattle.fs_peering.proofs.{Words.{Told, WireEnds, end_at, ◌≡◌, ℕ, List, [], ◌∷◌, ◌++◌, ◌+◌, Bool, Option, length, length-append, arith, refl, ap, ◌∙◌, map-append, Grew, Grew-refl, Grew-trans, EndsSo, HeardOut, HearsOut, Listened, Listens, Stance, Round, Stopped}, Composing.{part_none, part_then}, WrittenInParts.{told_and, told_same}}
 
 pub listens_none : (stance : Stance) (place : ℕ) (told : Option WireEnds) (answers : Option (List ℕ)) → Listens stance stance place told told answers answers
 listens_none stance place told answers = record {

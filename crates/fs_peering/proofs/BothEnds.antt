@@ -1,8 +1,6 @@
 -- What two ends that are joined know of each other.
-use Rattle.fs_peering.proofs.Words.{CanArrive, ComesBack, Config, Established, Last, Machine, Message, MessageFault, Open, Peer, Phase, Sending, Sent, Update, UpdateFault, WaitKeep, WaitOpen, as_update, at_start, body_by, first_message, message_text, open_body, open_of, open_sent, opened, phase, receiver, reply_to, session_by, session_from, still, terms_of, text_sent, transition_by, update_sent, updates, with_update, ◌≡◌, ◌⊎◌, inl, inr, ℕ, List, [], ◌∷◌, ◌++◌, length, map, min, Bool, true, Option, Some, None, Result, Ok, Err, refl, ap, sym, ◌∙◌, subst, append_assoc, arith, AllByRecursion, none-some, open_read, message_stable, text_first, at_most, body_long, one_message, open_fits, update_fits, machine_waits, Pieces, course_of, TookOpen, rules_in, woven}
+use Rattle.fs_peering.proofs.{Words.{CanArrive, ComesBack, Config, Established, Last, Machine, Message, MessageFault, Open, Peer, Phase, Sending, Sent, Update, UpdateFault, WaitKeep, WaitOpen, as_update, at_start, body_by, first_message, message_text, open_body, open_of, open_sent, opened, phase, receiver, reply_to, session_by, session_from, still, terms_of, text_sent, transition_by, update_sent, updates, with_update, ◌≡◌, ◌⊎◌, inl, inr, ℕ, List, [], ◌∷◌, ◌++◌, length, map, min, Bool, true, Option, Some, None, Result, Ok, Err, refl, ap, sym, ◌∙◌, subst, append_assoc, arith, AllByRecursion, none-some, open_read, message_stable, text_first, at_most, body_long, one_message, open_fits, update_fits, machine_waits, Pieces, course_of, TookOpen, rules_in, woven}, Courses.{keepalives}, Replying.{replies}}
 use Rattle.fs_message.specs.Laws.{own_open}
-use Rattle.fs_peering.proofs.Courses.{keepalives}
-use Rattle.fs_peering.proofs.Replying.{replies}
 
 module _ (config : Config) (whose : Peer) where
   -- the receiving end, while it is open, has said nothing, or what it said begins with the answer to the OPEN
@@ -33,7 +31,7 @@ module _ (config : Config) (whose : Peer) where
           let same : t.message ≡ own = ap (λ (o : Option (Message × List ℕ)). elim o [ None ↦ own | Some f ↦ f.0 ]) (sym here ∙ first) in
           let read : Ok t.found ≡ Ok (own_open config.local_as config.hold_time config.local_id) =
           sym t.read ∙ ap (λ (z : Message). open_of config.local_as z.body) same
-          ∙ open_read config.local_as config.hold_time config.local_id can.local_as can.hold_time can.local_id can.some_as can.not_one can.not_two can.some_id in
+          ∙ open_read config.local_as config.hold_time config.local_id can.own.asn.small can.own.hold_time.small can.own.id.small can.own.asn.some can.own.hold_time.not_one can.own.hold_time.not_two can.own.id.some in
           t.four_is ∙ ap (λ (r : Result Open MessageFault). elim r [ Ok found ↦ found.four | Err fault ↦ true ]) read
 
 module _ (config : Config) (peer : Peer) (sending : Sending) where
@@ -66,7 +64,7 @@ module _ (config : Config) (peer : Peer) (sending : Sending) where
   pub peer_opens : CanArrive config peer sending → transition_by (receiver config peer) at_start own_message ≡ Ok (phase WaitKeep true config.hold_time, None)
   peer_opens can =
       ap (λ (r : Result Open MessageFault). opened (receiver config peer) r)
-      (open_read peer.asn config.hold_time sending.id can.peer_as can.hold_time can.id can.some_peer can.not_one can.not_two can.named)
+      (open_read peer.asn config.hold_time sending.id can.asn.small can.own.hold_time.small can.id.small can.asn.some can.own.hold_time.not_one can.own.hold_time.not_two can.id.some)
       ∙ ap (λ (n : ℕ). Ok (phase WaitKeep true n, None)) (least config.hold_time)
 
   -- it is the first message

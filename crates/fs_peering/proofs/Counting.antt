@@ -1,9 +1,6 @@
 -- How many of the octets that an announcing end heard count: those up to and with the message that establishes it.
-use Rattle.fs_peering.proofs.Words.{Advanced, Announcing, Closed, FeedsEnd, Framing, IsAt, Lined, Machine, Memory, Phase, Point, SaysText, StaysEnded, Step, TicksEnd, at_start, closed, closed_after, is_established, machine_in, moved, pending, step_by, still, stops, takes, waits, with_line, ◌≡◌, ℕ, ◌+◌, ◌-◌, ◌≤◌, ◌<◌, List, [], ◌++◌, length, drop, Bool, true, false, if◌then◌else◌, Option, Some, None, Result, Ok, Err, refl, ap, sym, ◌∙◌, subst, arith, append_assoc, append-nil, length-append, length-drop, drop_all, none-some, same_Some, close_is, opened_by, CountsBy, CountsOn, CountsTo, CountsUp, KeepsHand, KeepsSettled, EndsBefore, MetLimit, ShutsBy, is_settled}
+use Rattle.fs_peering.proofs.{Words.{Advanced, Announcing, Closed, FeedsEnd, Framing, IsAt, Lined, Machine, Memory, Phase, Point, SaysText, StaysEnded, Step, TicksEnd, at_start, closed, closed_after, is_established, machine_in, moved, pending, step_by, still, stops, takes, waits, with_line, ◌≡◌, ℕ, ◌+◌, ◌-◌, ◌≤◌, ◌<◌, List, [], ◌++◌, length, drop, Bool, true, false, if◌then◌else◌, Option, Some, None, Result, Ok, Err, refl, ap, sym, ◌∙◌, subst, arith, append_assoc, append-nil, length-append, length-drop, drop_all, none-some, same_Some, close_is, opened_by, CountsBy, CountsOn, CountsTo, CountsUp, KeepsHand, KeepsSettled, EndsBefore, MetLimit, ShutsBy, is_settled}, Ahead.{alive_on}, OpenSteps.{opened_stops, opened_takes, opened_waits}, Settled.{open_settled}}
 use Rattle.std.proofs.lemmas.Bool.{true≢false as never}
-use Rattle.fs_peering.proofs.Ahead.{alive_on}
-use Rattle.fs_peering.proofs.OpenSteps.{opened_stops, opened_takes, opened_waits}
-use Rattle.fs_peering.proofs.Settled.{open_settled}
 
 -- before the first message of a piece
 pub counts_start : (on : Bool) (machine : Machine) (line : Lined) (piece : List ℕ) → CountsOn on machine line line piece piece 0

@@ -1,11 +1,5 @@
 -- Two joined ends, round by round.
-use Rattle.fs_peering.proofs.Words.{Told, WireEnd, WireEnds, end_at, heard_end, ◌≡◌, ℕ, ◌+◌, ◌-◌, ◌<◌, List, [], ◌∷◌, ◌++◌, Bool, true, false, Option, Some, None, if◌then◌else◌, length, refl, ap, sym, ◌∙◌, subst, arith, append_assoc, append-nil, length-append, IsTrue, flat_map-append, map-append, Grew, Grew-refl, Grew-trans, Talk, Broken, AreJoined, Exchanged, ExchangedOut, Exchanges, Heard, Side, StopsSo, heard_by, moments_of, of_first, of_second, Part, Pieces, Speech, Stance, Round, octets_in}
-use Rattle.fs_peering.specs.declared.joined.InFlight.{InFlight}
-use Rattle.fs_peering.specs.declared.joined.Talk.TheVariants.{Done}
-use Rattle.fs_peering.specs.Joined.{Ended}
-use Rattle.fs_peering.specs.InFlight.{no_flow, first_heard, second_heard, second_said}
-use Rattle.fs_peering.proofs.Composing.{octets_then, same_stance}
-use Rattle.fs_peering.proofs.WrittenInParts.{told_and, told_same}
+use Rattle.fs_peering.{proofs.{Words.{Told, WireEnd, WireEnds, end_at, heard_end, ◌≡◌, ℕ, ◌+◌, ◌-◌, ◌<◌, List, [], ◌∷◌, ◌++◌, Bool, true, false, Option, Some, None, if◌then◌else◌, length, refl, ap, sym, ◌∙◌, subst, arith, append_assoc, append-nil, length-append, IsTrue, flat_map-append, map-append, Grew, Grew-refl, Grew-trans, Talk, Broken, AreJoined, ExchangedOut, Exchanges, Heard, Side, StopsSo, heard_by, moments_of, of_first, of_second, Part, Pieces, Speech, Stance, Round, octets_in}, Composing.{octets_then, same_stance}, WrittenInParts.{told_and, told_same}}, specs.{declared.joined.{InFlight.{InFlight}, Talk.TheVariants.{Done}}, Joined.{Ended}, InFlight.{no_flow, first_heard, second_heard, second_said}}}
 
 side_none : (stance : Stance) (end : WireEnd) → end.joined ≡ true → end.left ≡ [] → Side stance stance [] [] [] end end
 side_none stance end tied empty = record {
@@ -45,30 +39,32 @@ side_same : (s0 s1 : Stance) (heard heard' : Pieces) (said said' others others' 
     → Side s0 s1 heard said others b n → Side s0 s1 heard' said' others' b n
 side_same s0 s1 heard heard' said said' others others' b n h s o side = rw (← h, ← s, ← o) side
 
+-- An end as above: so many octets are unread at it, and so many it has read.
+pub record Counted (old new : Stance) (heard : Pieces) (said others : List ℕ) (before now : WireEnd) (unread read : ℕ) : Type 0 where
+  pub side : Side old new heard said others before now
+  pub unread_is : unread ≡ length now.left
+  pub read_is : read ≡ length (octets_in heard)
+
 -- Both ends, with the counts of octets.
 pub record Exchanging (r r' a a' : Stance) (given : List ℕ) (flow : InFlight) (before now : WireEnds) : Type 0 where
   pub events : List Heard
-  pub exchanged : Exchanged r r' a a' events before now
+  pub replied : List ℕ
+  pub announced : List ℕ
   pub asked : moments_of events ≡ given
-  pub to_first : flow.to_first ≡ length now.first.left
-  pub to_second : flow.to_second ≡ length now.second.left
-  pub first_read : flow.first_read ≡ length (octets_in (of_first events))
-  pub second_read : flow.second_read ≡ length (octets_in (of_second events))
+  pub one : Counted r r' (of_first events) replied announced before.first now.first flow.to_first flow.first_read
+  pub other : Counted a a' (of_second events) announced replied before.second now.second flow.to_second flow.second_read
+
+counted_none : (stance : Stance) (end : WireEnd) → end.joined ≡ true → end.left ≡ [] → Counted stance stance [] [] [] end end 0 0
+counted_none stance end tied empty = record { side = side_none stance end tied empty; unread_is = sym (ap length empty); read_is = refl }
 
 exchanging_none : (r a : Stance) (ends : WireEnds) → AreJoined ends → Exchanging r r a a [] no_flow ends ends
 exchanging_none r a ends j = record {
   events = [];
-  exchanged = record {
-    replied = [];
-    announced = [];
-    one = side_none r ends.first j.0 j.2;
-    other = side_none a ends.second j.1 j.3;
-  };
+  replied = [];
+  announced = [];
   asked = refl;
-  to_first = sym (ap length j.2);
-  to_second = sym (ap length j.3);
-  first_read = refl;
-  second_read = refl;
+  one = counted_none r ends.first j.0 j.2;
+  other = counted_none a ends.second j.1 j.3;
 }
 
 abbrev event : Bool → ℕ → List ℕ → Heard
@@ -108,65 +104,73 @@ read_more heard heard' moment got n count e h k =
     ∙ length-append (octets_in heard) got in
     omega (arith, h, k, whole)
 
+-- an end heard a piece and said more
+counted_more : (s0 s1 s2 : Stance) (place : ℕ) (heard heard' : Pieces) (moment : ℕ) (got said out others : List ℕ) (b : WireEnd) (m n : WireEnds) (unread read count : ℕ)
+    → heard' ≡ heard ++ (moment, got) ∷ [] → length got ≡ count → Counted s0 s1 heard said others b (end_at place m) unread read → Part s1 s2 place ((moment, got) ∷ []) out m n
+    → Counted s0 s2 heard' (said ++ out) others b (end_at place n) (unread - count) (read + count)
+counted_more s0 s1 s2 place heard heard' moment got said out others b m n unread read count e k c part = record {
+  side = side_same s0 s2 _ _ _ _ _ _ b (end_at place n) (sym e) refl refl (side_more s0 s1 s2 place heard ((moment, got) ∷ []) said out others b m n c.side part);
+  unread_is = left_less (end_at place m).left (end_at place n).left got unread count part.read c.unread_is k;
+  read_is = read_more heard heard' moment got read count e c.read_is k;
+}
+
+-- the other end did
+counted_told : (s0 s1 : Stance) (heard heard' : Pieces) (said others out : List ℕ) (b m n : WireEnd) (unread read more : ℕ) → heard' ≡ heard → length out ≡ more
+    → Counted s0 s1 heard said others b m unread read → n ≡ heard_end out m → Counted s0 s1 heard' said (others ++ out) b n (unread + more) read
+counted_told s0 s1 heard heard' said others out b m n unread read more e k c told = record {
+  side = side_same s0 s1 _ _ _ _ _ _ b n (sym e) refl refl (side_told s0 s1 heard said others out b m n c.side told);
+  unread_is = left_grown m n out unread more told c.side.tied c.unread_is k;
+  read_is = c.read_is ∙ ap (λ (p : Pieces). length (octets_in p)) (sym e);
+}
+
 exchanging_first : (r r1 r2 a a1 : Stance) (given : List ℕ) (flow : InFlight) (moment count said : ℕ) (b m n : WireEnds) → Exchanging r r1 a a1 given flow b m
     → Round r1 r2 0 moment count said m n → Exchanging r r2 a a1 (given ++ moment ∷ []) (first_heard count said flow) b n
-exchanging_first r r1 r2 a a1 given flow moment count said b m n x round =
-    let more = first_more x.events moment round.got in
-    record {
-      events = x.events ++ event true moment round.got ∷ [];
-      exchanged = record {
-        replied = x.exchanged.replied ++ round.out;
-        announced = x.exchanged.announced;
-        one = side_same r r2 _ _ _ _ _ _ b.first n.first (sym more.0) refl refl
-            (side_more r r1 r2 0 (of_first x.events) ((moment, round.got) ∷ []) x.exchanged.replied round.out x.exchanged.announced b.first m n x.exchanged.one round.part);
-        other = side_same a a1 _ _ _ _ _ _ b.second n.second (sym more.1) refl refl
-            (side_told a a1 (of_second x.events) x.exchanged.announced x.exchanged.replied round.out b.second m.second n.second x.exchanged.other round.part.other);
-      };
-      asked = moments_more x.events given true moment round.got x.asked;
-      to_first = left_less m.first.left n.first.left round.got flow.to_first count round.part.read x.to_first round.counted;
-      to_second = left_grown m.second n.second round.out flow.to_second said round.part.other x.exchanged.other.tied x.to_second round.sized;
-      first_read = read_more (of_first x.events) _ moment round.got flow.first_read count more.0 x.first_read round.counted;
-      second_read = x.second_read ∙ ap (λ (p : Pieces). length (octets_in p)) (sym more.1);
-    }
+exchanging_first r r1 r2 a a1 given flow moment count said b m n x round = record {
+  events = x.events ++ event true moment round.got ∷ [];
+  replied = x.replied ++ round.out;
+  announced = x.announced;
+  asked = moments_more x.events given true moment round.got x.asked;
+  one = counted_more r r1 r2 0 (of_first x.events) _ moment round.got x.replied round.out x.announced b.first m n flow.to_first flow.first_read count
+      (first_more x.events moment round.got).0 round.counted x.one round.part;
+  other = counted_told a a1 (of_second x.events) _ x.announced x.replied round.out b.second m.second n.second flow.to_second flow.second_read said
+      (first_more x.events moment round.got).1 round.sized x.other round.part.other;
+}
 
 exchanging_second : (r r1 a a1 a2 : Stance) (given : List ℕ) (flow : InFlight) (moment count said : ℕ) (b m n : WireEnds) → Exchanging r r1 a a1 given flow b m
     → Round a1 a2 1 moment count said m n → Exchanging r r1 a a2 (given ++ moment ∷ []) (second_heard count said flow) b n
-exchanging_second r r1 a a1 a2 given flow moment count said b m n x round =
-    let more = second_more x.events moment round.got in
-    record {
-      events = x.events ++ event false moment round.got ∷ [];
-      exchanged = record {
-        replied = x.exchanged.replied;
-        announced = x.exchanged.announced ++ round.out;
-        one = side_same r r1 _ _ _ _ _ _ b.first n.first (sym more.0) refl refl
-            (side_told r r1 (of_first x.events) x.exchanged.replied x.exchanged.announced round.out b.first m.first n.first x.exchanged.one round.part.other);
-        other = side_same a a2 _ _ _ _ _ _ b.second n.second (sym more.1) refl refl
-            (side_more a a1 a2 1 (of_second x.events) ((moment, round.got) ∷ []) x.exchanged.announced round.out x.exchanged.replied b.second m n x.exchanged.other round.part);
-      };
-      asked = moments_more x.events given false moment round.got x.asked;
-      to_first = left_grown m.first n.first round.out flow.to_first said round.part.other x.exchanged.one.tied x.to_first round.sized;
-      to_second = left_less m.second.left n.second.left round.got flow.to_second count round.part.read x.to_second round.counted;
-      first_read = x.first_read ∙ ap (λ (p : Pieces). length (octets_in p)) (sym more.0);
-      second_read = read_more (of_second x.events) _ moment round.got flow.second_read count more.1 x.second_read round.counted;
-    }
+exchanging_second r r1 a a1 a2 given flow moment count said b m n x round = record {
+  events = x.events ++ event false moment round.got ∷ [];
+  replied = x.replied;
+  announced = x.announced ++ round.out;
+  asked = moments_more x.events given false moment round.got x.asked;
+  one = counted_told r r1 (of_first x.events) _ x.replied x.announced round.out b.first m.first n.first flow.to_first flow.first_read said
+      (second_more x.events moment round.got).0 round.sized x.one round.part.other;
+  other = counted_more a a1 a2 1 (of_second x.events) _ moment round.got x.announced round.out x.replied b.second m n flow.to_second flow.second_read count
+      (second_more x.events moment round.got).1 round.counted x.other round.part;
+}
 
 exchanging_said : (r r1 a a1 a2 : Stance) (given : List ℕ) (flow : InFlight) (said : ℕ) (b m n : WireEnds) → Exchanging r r1 a a1 given flow b m
     → Speech a1 a2 1 said m n → Exchanging r r1 a a2 (given ++ []) (second_said said flow) b n
 exchanging_said r r1 a a1 a2 given flow said b m n x speech = record {
   events = x.events;
-  exchanged = record {
-    replied = x.exchanged.replied;
-    announced = x.exchanged.announced ++ speech.out;
-    one = side_told r r1 (of_first x.events) x.exchanged.replied x.exchanged.announced speech.out b.first m.first n.first x.exchanged.one speech.part.other;
-    other = side_same a a2 _ _ _ _ _ _ b.second n.second (append-nil (of_second x.events)) refl refl
-        (side_more a a1 a2 1 (of_second x.events) [] x.exchanged.announced speech.out x.exchanged.replied b.second m n x.exchanged.other speech.part);
-  };
+  replied = x.replied;
+  announced = x.announced ++ speech.out;
   asked = x.asked ∙ sym (append-nil given);
-  to_first = left_grown m.first n.first speech.out flow.to_first said speech.part.other x.exchanged.one.tied x.to_first speech.sized;
-  to_second = x.to_second ∙ ap length (speech.part.read);
-  first_read = x.first_read;
-  second_read = x.second_read;
+  one = counted_told r r1 (of_first x.events) (of_first x.events) x.replied x.announced speech.out b.first m.first n.first flow.to_first flow.first_read said
+      refl speech.sized x.one speech.part.other;
+  other = record {
+    side = side_same a a2 _ _ _ _ _ _ b.second n.second (append-nil (of_second x.events)) refl refl
+        (side_more a a1 a2 1 (of_second x.events) [] x.announced speech.out x.replied b.second m n x.other.side speech.part);
+    unread_is = x.other.unread_is ∙ ap length (speech.part.read);
+    read_is = x.other.read_is;
+  };
 }
+
+-- An end is open, has read less than the limit, and is whose it was.
+pub record Within {S : Type 0} (over : Bool) (count limit : ℕ) (own own' : S) : Type 0 where
+  pub opened : over ≡ false
+  pub within : count < limit
+  pub own_is : own' ≡ own
 
 -- So where the wire tells, between joined ends; and the clock answered these moments.
 pub record Talking (r r' a a' : Stance) (flow : InFlight) (before now : Option WireEnds) (answers answers' : Option (List ℕ)) : Type 0 where
@@ -202,7 +206,12 @@ talked talk r r' a a' end limit flow before now answers answers' t stops = recor
     by None (Some n) told = absurd told
     by (Some b) (Some n) told = λ j.
         let x = told j in
-        record { events = x.events; exchanged = x.exchanged; asked = x.asked; stops = stops x.events n x.to_first x.to_second x.first_read }
+        record {
+          events = x.events;
+          exchanged = record { replied = x.replied; announced = x.announced; one = x.one.side; other = x.other.side };
+          asked = x.asked;
+          stops = stops x.events n x.one.unread_is x.other.unread_is x.one.read_is;
+        }
 
 -- octets in flight to an end arrive there: a read of none found none left
 never_arrives : (left left' got : List ℕ) (flying count : ℕ) → left ≡ (got ++ []) ++ left' → flying ≡ length left → 0 < flying → length got ≡ count → count ≡ 0 → left' ≡ [] → ⊥
@@ -260,13 +269,13 @@ module _ {r r1 a a1 : Stance} {flow : InFlight} {before now : Option WireEnds} {
       → 0 < flow.to_first → count ≡ 0 → Exchanges Broken r r2 a a1 end limit before later answers last
   never_first r2 end limit moment count said last round grew some none =
       never r2 a1 end limit (Round r1 r2 0 moment count said) (moment ∷ []) last
-      (λ b m n x turned. never_arrives m.first.left n.first.left turned.got flow.to_first count turned.part.read x.to_first some turned.counted none (turned.none none)) round grew
+      (λ b m n x turned. never_arrives m.first.left n.first.left turned.got flow.to_first count turned.part.read x.one.unread_is some turned.counted none (turned.none none)) round grew
 
   pub never_second : (a2 : Stance) (end : Ended) (limit moment count said : ℕ) (last : Option (List ℕ)) → Told (Round a1 a2 1 moment count said) now later → Grew asked last (moment ∷ [])
       → 0 < flow.to_second → count ≡ 0 → Exchanges Broken r r1 a a2 end limit before later answers last
   never_second a2 end limit moment count said last round grew some none =
       never r1 a2 end limit (Round a1 a2 1 moment count said) (moment ∷ []) last
-      (λ b m n x turned. never_arrives m.second.left n.second.left turned.got flow.to_second count turned.part.read x.to_second some turned.counted none (turned.none none)) round grew
+      (λ b m n x turned. never_arrives m.second.left n.second.left turned.got flow.to_second count turned.part.read x.other.unread_is some turned.counted none (turned.none none)) round grew
 
   -- or the second end said no more
   pub talked_done : (a2 : Stance) (end : Ended) (limit : ℕ) → Told (Speech a1 a2 1 0) now later → end.over_first ≡ false → end.over_second ≡ false → flow.first_read < limit

@@ -1,14 +1,10 @@
 -- No octets close an end with Hold Timer Expired: only the clock does.
-use Rattle.fs_peering.proofs.Words.{Closed, Config, Established, Expires, Fault, Handed, Last, Machine, Message, MessageFault, NoFamily, Open, Peer, Phase, Point, State, Times, Update, UpdateFault, WaitKeep, WaitOpen, at_moment, at_start, bounded_from, closed, closing_of, faulted, fields_fault, first_message, first_over, header_of, is_established, not_taken, notice_of, notified, open_of, opened, parts_of, phase, plays, receiver, rest_closes, runs, runs_by, session_by, session_from, shuts, still, taken, taken_in, tick_at, too_many, transition_at, transition_by, updates, wrong_at, ◌≡◌, ◌⊎◌, inl, inr, ◌==◌, ◌||◌, not, ℕ, ◌-◌, nat_lt, List, [], ◌∷◌, ◌++◌, length, drop, get_or, min, Bool, true, false, if◌then◌else◌, Option, Some, None, Result, Ok, Err, refl, ap, sym, ◌∙◌, subst, append_assoc, none-some, same_Some, ran, runs_none, runs_step, going, plays_none, plays_step, opened_by, opens, front_message, Pieces, hears, course, last_update}
+use Rattle.fs_peering.proofs.{Words.{Closed, Config, Established, Expires, Fault, Handed, Last, Machine, Message, MessageFault, NoFamily, Open, Peer, Phase, Point, State, Times, Update, UpdateFault, WaitKeep, WaitOpen, at_moment, at_start, bounded_from, closed, closing_of, faulted, fields_fault, first_message, first_over, header_of, is_established, not_taken, notice_of, notified, open_of, opened, parts_of, phase, plays, receiver, rest_closes, runs, runs_by, session_by, session_from, shuts, still, taken, taken_in, tick_at, too_many, transition_at, transition_by, updates, wrong_at, ◌≡◌, ◌⊎◌, inl, inr, ◌==◌, ◌||◌, not, ℕ, ◌-◌, nat_lt, List, [], ◌∷◌, ◌++◌, length, drop, get_or, min, Bool, true, false, if◌then◌else◌, Option, Some, None, Result, Ok, Err, refl, ap, sym, ◌∙◌, subst, append_assoc, none-some, same_Some, ran, runs_none, runs_step, going, plays_none, plays_step, opened_by, opens, front_message, Pieces, hears, course, last_update}, Courses.{Steps, by_pieces, course_more, stays_shut, steps}, OpenSteps.{Opened, going as made_open, opens_none, opens_step}}
 use Rattle.std.proofs.lemmas.Bool.{true≢false as never}
 use Rattle.byteorder.specs.Endian.{big_number}
-use Rattle.fs_message.specs.Capabilities.{Field, are_parameters, capabilities_of}
-use Rattle.fs_message.specs.Header.{allows, fault, header_fault, kind_at, kind_wrong, marker_wrong, size_at, size_wrong}
-use Rattle.fs_message.specs.Open.{opened as reads_open}
+use Rattle.fs_message.specs.{Capabilities.{Field, are_parameters, capabilities_of}, Header.{allows, fault, header_fault, kind_at, kind_wrong, marker_wrong, size_at, size_wrong}, Open.{opened as reads_open}}
 use Rattle.fs_attrs.specs.declared.update.UpdateFault.TheVariants.{List as ListFault, Network, Optional, Memory as NoMemory}
 use Rattle.fs_speaker.specs.declared.State.TheVariants.{Closed as IsClosed}
-use Rattle.fs_peering.proofs.Courses.{Steps, by_pieces, course_more, stays_shut, steps}
-use Rattle.fs_peering.proofs.OpenSteps.{Opened, going as made_open, opens_none, opens_step}
 
 abbrev Made : Type 0
 Made = Result (Phase × Option Update) Closed
@@ -25,47 +21,37 @@ abbrev WrongNot : Option MessageFault → Type 0
 WrongNot None = Unit {0}
 WrongNot (Some wrong) = NotLate (faulted wrong)
 
+-- so of either of two where it is so of both
+either : {A : Type 0} (P : A → Type 0) (b : Bool) (x y : A) → P x → P y → P (if b then x else y)
+either P true x y p q = p
+either P false x y p q = q
+
 header_not : (header : List ℕ) → WrongNot (header_fault header)
 header_not header =
-    by (marker_wrong header) (nat_lt (length header) 18) (size_wrong (size_at header)) (nat_lt (length header) 19) (kind_wrong (kind_at header)) (not (allows (kind_at header) (size_at header)))
-  where
-    by : (a b c d e f : Bool)
-        → WrongNot (if a then Some (fault 1 1) else if b then None else if c then Some (fault 1 2) else if d then None else if e then Some (fault 1 3) else if f then Some (fault 1 2) else None)
-    by true b c d e f = refl
-    by false true c d e f = tt
-    by false false true d e f = refl
-    by false false false true e f = tt
-    by false false false false true f = refl
-    by false false false false false true = refl
-    by false false false false false false = tt
+    either WrongNot (marker_wrong header) (Some (fault 1 1)) _ refl
+    (either WrongNot (nat_lt (length header) 18) None _ tt
+    (either WrongNot (size_wrong (size_at header)) (Some (fault 1 2)) _ refl
+    (either WrongNot (nat_lt (length header) 19) None _ tt
+    (either WrongNot (kind_wrong (kind_at header)) (Some (fault 1 3)) _ refl
+    (either WrongNot (not (allows (kind_at header) (size_at header))) (Some (fault 1 2)) None refl tt)))))
 
 wrong_not : (octets : List ℕ) → WrongNot (wrong_at octets)
 wrong_not octets = header_not (header_of octets)
 
 fields_not : (body : List ℕ) → WrongNot (fields_fault body)
 fields_not body =
-    by (not (get_or body 0 0 == 4)) (big_number 2 (drop 1 body) == 0) (big_number 2 (drop 3 body) == 1 || big_number 2 (drop 3 body) == 2) (big_number 4 (drop 5 body) == 0)
-    (not (get_or body 9 0 == length body - 10))
-  where
-    by : (a b c d e : Bool)
-        → WrongNot (if a then Some (fault 2 1) else if b then Some (fault 2 2) else if c then Some (fault 2 6) else if d then Some (fault 2 3) else if e then Some (fault 2 4) else None)
-    by true b c d e = refl
-    by false true c d e = refl
-    by false false true d e = refl
-    by false false false true e = refl
-    by false false false false true = refl
-    by false false false false false = tt
+    either WrongNot (not (get_or body 0 0 == 4)) (Some (fault 2 1)) _ refl
+    (either WrongNot (big_number 2 (drop 1 body) == 0) (Some (fault 2 2)) _ refl
+    (either WrongNot (big_number 2 (drop 3 body) == 1 || big_number 2 (drop 3 body) == 2) (Some (fault 2 6)) _ refl
+    (either WrongNot (big_number 4 (drop 5 body) == 0) (Some (fault 2 3)) _ refl
+    (either WrongNot (not (get_or body 9 0 == length body - 10)) (Some (fault 2 4)) None refl tt))))
 
 abbrev OpenNot : Result Open MessageFault → Type 0
 OpenNot (Ok found) = Unit {0}
 OpenNot (Err wrong) = NotLate (faulted wrong)
 
-either_open : (b : Bool) (x y : Result Open MessageFault) → OpenNot x → OpenNot y → OpenNot (if b then x else y)
-either_open true x y p q = p
-either_open false x y p q = q
-
 reads_not : (expected : ℕ) (body : List ℕ) (capabilities : List Field) → OpenNot (reads_open expected body capabilities)
-reads_not expected body capabilities = either_open _ (Err (fault 2 2)) (Ok _) refl tt
+reads_not expected body capabilities = either OpenNot _ (Err (fault 2 2)) (Ok _) refl tt
 
 open_not : (expected : ℕ) (body : List ℕ) → OpenNot (open_of expected body)
 open_not expected body = by (fields_fault body) (fields_not body)
@@ -73,16 +59,12 @@ open_not expected body = by (fields_fault body) (fields_not body)
     by : (o : Option MessageFault) → WrongNot o
         → OpenNot (elim o [ Some wrong ↦ Err wrong | None ↦ if are_parameters (drop 10 body) then reads_open expected body (capabilities_of (drop 10 body)) else Err (fault 2 4) ])
     by None n =
-        either_open (are_parameters (drop 10 body)) (reads_open expected body (capabilities_of (drop 10 body))) (Err (fault 2 4)) (reads_not expected body (capabilities_of (drop 10 body))) refl
+        either OpenNot (are_parameters (drop 10 body)) (reads_open expected body (capabilities_of (drop 10 body))) (Err (fault 2 4)) (reads_not expected body (capabilities_of (drop 10 body))) refl
     by (Some wrong) n = n
 
 abbrev MadeNot : Made → Type 0
 MadeNot (Ok next) = Unit {0}
 MadeNot (Err why) = NotLate why
-
-either : (b : Bool) (x y : Made) → MadeNot x → MadeNot y → MadeNot (if b then x else y)
-either true x y p q = p
-either false x y p q = q
 
 update_not : (wrong : UpdateFault) → NotLate (closing_of wrong)
 update_not ListFault = refl
@@ -96,26 +78,26 @@ updates_not now (Err wrong) = update_not wrong
 
 module _ (machine : Machine) where
   opened_not : (r : Result Open MessageFault) → OpenNot r → MadeNot (opened machine r)
-  opened_not (Ok found) n = either (machine.lacks found) (Err NoFamily) (taken (phase WaitKeep found.four (min machine.offer found.hold_time)) None) tt tt
+  opened_not (Ok found) n = either MadeNot (machine.lacks found) (Err NoFamily) (taken (phase WaitKeep found.four (min machine.offer found.hold_time)) None) tt tt
   opened_not (Err wrong) n = n
 
   at_not : (state : State) (four : Bool) (hold : ℕ) (message : Message) → MadeNot (transition_at machine state four hold message)
   at_not WaitOpen four hold message =
-      either (message.kind == 1) (opened machine (open_of machine.expected message.body)) not_taken
+      either MadeNot (message.kind == 1) (opened machine (open_of machine.expected message.body)) not_taken
       (opened_not (open_of machine.expected message.body) (open_not machine.expected message.body)) refl
-  at_not WaitKeep four hold message = either (message.kind == 4) (taken (phase Established four hold) None) not_taken tt refl
+  at_not WaitKeep four hold message = either MadeNot (message.kind == 4) (taken (phase Established four hold) None) not_taken tt refl
   at_not Established four hold message =
       let now : Phase = phase Established four hold in
       let stays : Made = taken now None in
       let other : Made = if message.kind == 5 then stays else not_taken in
       let alive : Made = if message.kind == 4 then stays else other in
-      either (message.kind == 2) (updates now (machine.update four message.body)) alive (updates_not now (machine.update four message.body))
-      (either (message.kind == 4) stays other tt (either (message.kind == 5) stays not_taken tt refl))
+      either MadeNot (message.kind == 2) (updates now (machine.update four message.body)) alive (updates_not now (machine.update four message.body))
+      (either MadeNot (message.kind == 4) stays other tt (either MadeNot (message.kind == 5) stays not_taken tt refl))
   at_not IsClosed four hold message = refl
 
   transition_not : (now : Phase) (message : Message) → MadeNot (transition_by machine now message)
   transition_not now message =
-      either (message.kind == 3) (Err (notified (notice_of message.body))) (transition_at machine now.state now.four now.hold message) tt (at_not now.state now.four now.hold message)
+      either MadeNot (message.kind == 3) (Err (notified (notice_of message.body))) (transition_at machine now.state now.four now.hold message) tt (at_not now.state now.four now.hold message)
 
   -- handed over
   abbrev RunsNot : Handed → Type 0

@@ -1,13 +1,6 @@
 -- What an announcing end says to the pieces that it hears.
-use Rattle.fs_peering.proofs.Words.{Announcing, CanSend, Closed, Config, Expires, Fault, Framing, Handed, HandsOver, IsAt, Keeps, Lined, Machine, Peer, Phase, Point, SaysText, Sending, Sent, StandsAt, StartsWith, Tick, TicksOver, announcing, at_moment, at_start, first_text, fresh, hand, is_established, machine_in, needs_of, next_text, one_sent, open_sent, pending, runs_by, state_in, text_sent, tick_at, ticked, ticks, with_line, ◌≡◌, ◌||◌, inl, inr, ℕ, suc, ◌+◌, ◌*◌, List, [], ◌∷◌, ◌++◌, drop, take, Bool, true, false, if◌then◌else◌, Option, Some, None, refl, ap, sym, ◌∙◌, subst, arith, append_assoc, append-nil, IfSome, flat_map, is_some, flat_map-append, none-some, same_Some, none_there, Comes, Going, GoesFrom, closed_hand, open_hand, Spans, Hears, Pieces, Says, Stance, moments_in, octets_in, course, opened_by, CountsBy, CountsOn, CountsTo, KeepsHand, KeepsSettled, SaysUpTo, ClosesSo, HasExpired, HasHeard, IsListening, SaysTo, ShutsBy, is_settled, opening_of, rules_of, stops_at}
+use Rattle.fs_peering.{proofs.{Words.{Announcing, CanSend, Closed, Config, Expires, Fault, Framing, Handed, HandsOver, IsAt, Keeps, Lined, Machine, Peer, Phase, Point, SaysText, Sending, Sent, StandsAt, StartsWith, Tick, TicksOver, announcing, at_moment, at_start, first_text, fresh, hand, is_established, machine_in, needs_of, next_text, one_sent, open_sent, pending, runs_by, state_in, text_sent, tick_at, ticked, ticks, with_line, ◌≡◌, ◌||◌, inl, inr, ℕ, suc, ◌+◌, ◌*◌, List, [], ◌∷◌, ◌++◌, drop, take, Bool, true, false, if◌then◌else◌, Option, Some, None, refl, ap, sym, ◌∙◌, subst, arith, append_assoc, append-nil, IfSome, flat_map, is_some, flat_map-append, none-some, same_Some, none_there, Comes, Going, GoesFrom, closed_hand, open_hand, Spans, Hears, Pieces, Says, Stance, moments_in, octets_in, course, opened_by, CountsBy, CountsOn, CountsTo, KeepsHand, KeepsSettled, SaysUpTo, ClosesSo, HasExpired, HasHeard, IsListening, SaysTo, ShutsBy, is_settled, opening_of, rules_of, stops_at}, Ahead.{next_of}, Courses.{but_last, course_more, moments_more, octets_more, woke_is}, Moments.{expires_late}, OpenSteps.{opened_waits}, Phases.{Quiet, quiet_by, unawaited}, Settled.{state_open, state_shut, stops_up}}, specs.Teller.{is_over}}
 use Rattle.fs_session.specs.declared.times.Tick.TheVariants.{Quiet as IsQuiet}
-use Rattle.fs_peering.specs.Teller.{is_over}
-use Rattle.fs_peering.proofs.Ahead.{next_of}
-use Rattle.fs_peering.proofs.Courses.{but_last, course_more, moments_more, octets_more, woke_is}
-use Rattle.fs_peering.proofs.Moments.{expires_late}
-use Rattle.fs_peering.proofs.OpenSteps.{opened_waits}
-use Rattle.fs_peering.proofs.Phases.{Quiet, quiet_by, unawaited}
-use Rattle.fs_peering.proofs.Settled.{state_open, state_shut, stops_up}
 
 both : {b : Bool} → b ≡ true → b ≡ false → ⊥
 both q r = cc

@@ -1,12 +1,6 @@
 -- How what a receiving end hears and says over a wire follows from how it stands.
-use Rattle.fs_peering.proofs.Words.{Closed, Config, Desked, Down, Ended, Last, Peer, Phase, WireEnds, bounded_session, closed, is_established, peer_of, standing_at_desk, still, ◌≡◌, ◌<◌, ◌≤◌, ℕ, List, [], Bool, true, false, Option, Some, None, refl, ap, sym, ◌∙◌, subst, if◌then◌else◌, standing_at, Standing, Live, Ending, Done, HeardOut, HearsOut, Pieces, Stance, octets_in, Stopped, All, Over, HasClosed, IsHearing, Receives, bare, is_ended, tape_of, IsReceiving, ListensOver, ListensSo, MeetsLimit, EndsHearing}
+use Rattle.fs_peering.{proofs.{Words.{Closed, Config, Desked, Down, Ended, Last, Peer, Phase, WireEnds, bounded_session, closed, is_established, peer_of, standing_at_desk, still, ◌≡◌, ◌<◌, ◌≤◌, ℕ, List, [], Bool, true, false, Option, Some, None, refl, ap, sym, ◌∙◌, subst, if◌then◌else◌, standing_at, Standing, Live, Ending, Done, HeardOut, HearsOut, Pieces, Stance, octets_in, Stopped, All, Over, HasClosed, IsHearing, Receives, bare, is_ended, tape_of, IsReceiving, ListensOver, ListensSo, MeetsLimit, EndsHearing}, WrittenInParts.{told_as}, Receiving.{closed_of, ended_there, hearing_of, life_tape, stands_open}}, specs.{declared.{tell.Ending.TheVariants.{Ended as EndedEarly}, listening.Stopped.TheVariants.{AtLimit as MetIt}}, Listening.{EndsSo as StopsSo}, Listen.{EndsSo, Listens, is_settled}}}
 use Rattle.fs_desk.proofs.Standing.{desk_stands}
-use Rattle.fs_peering.specs.declared.tell.Ending.TheVariants.{Ended as EndedEarly}
-use Rattle.fs_peering.specs.Listening.{EndsSo as StopsSo}
-use Rattle.fs_peering.specs.declared.listening.Stopped.TheVariants.{AtLimit as MetIt}
-use Rattle.fs_peering.proofs.WrittenInParts.{told_as}
-use Rattle.fs_peering.specs.Listen.{EndsSo, Listens, is_settled}
-use Rattle.fs_peering.proofs.Receiving.{closed_of, ended_there, hearing_of, life_tape, stands_open}
 
 -- what the octets of an open session come to
 still_there : (last : Last) (phase : Phase) → standing_at last ≡ Live phase.state → (found : Phase) × ((last ≡ still found) × (found.state ≡ phase.state))

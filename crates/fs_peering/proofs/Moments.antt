@@ -1,6 +1,5 @@
 -- The moments of an end, one more at a time, and when its hold time expires.
-use Rattle.fs_peering.proofs.Words.{Expires, Keeps, Quiet, Times, tick_at, Closed, Established, Handed, Machine, Message, MessageFault, Phase, Point, State, Update, WaitKeep, WaitOpen, at_moment, at_start, faulted, first_message, handed, parts_of, point, runs, runs_by, shuts, taken_in, transition_by, wrong_at, ◌≡◌, ◌<◌, ◌≤◌, ℕ, ◌-◌, max, List, [], ◌∷◌, ◌++◌, length, ap, sym, ◌∙◌, arith, append_assoc, append-nil, ◌≢◌, ◌==◌, ◌*◌, suc, zero, Bool, true, false, if◌then◌else◌, nat_le, refl, subst, ◌⊎◌, inl, inr, ◌+◌, Option, Some, None, Result, Ok, Err, length-append, IsTakenAt, Spans, most, AreTimely, nat_tests, none-some, ran, runs_none, runs_step, Pieces, moments_in, after, hears, course, course_from}
-use Rattle.fs_peering.proofs.Courses.{Steps, lived}
+use Rattle.fs_peering.proofs.{Words.{Expires, Keeps, Quiet, Times, tick_at, Closed, Established, Handed, Machine, Message, MessageFault, Phase, Point, State, Update, WaitKeep, WaitOpen, at_moment, at_start, faulted, first_message, handed, parts_of, point, runs, runs_by, shuts, taken_in, transition_by, wrong_at, ◌≡◌, ◌<◌, ◌≤◌, ℕ, ◌-◌, max, List, [], ◌∷◌, ◌++◌, length, ap, sym, ◌∙◌, arith, append_assoc, append-nil, ◌≢◌, ◌==◌, ◌*◌, suc, zero, Bool, true, false, if◌then◌else◌, nat_le, refl, subst, ◌⊎◌, inl, inr, ◌+◌, Option, Some, None, Result, Ok, Err, length-append, IsTakenAt, Spans, most, AreTimely, nat_tests, none-some, ran, runs_none, runs_step, Pieces, moments_in, after, hears, course, course_from}, Courses.{Steps, lived}}
 use Rattle.fs_speaker.specs.declared.State.TheVariants.{Closed as IsClosed}
 
 pub most_append : (xs ys : List ℕ) → most (xs ++ ys) ≡ max (most xs) (most ys)

@@ -1,41 +1,29 @@
 -- How what both ends come to over a wire follows from how they stand.
-use Rattle.fs_peering.proofs.Words.{Announcing, CanArrive, Closed, Config, Desked, Ended, Established, Fault, IsAt, Last, Machine, Peer, Phase, Sending, Sent, State, Update, WaitKeep, WaitOpen, WireEnds, announcer, at_start, bounded, bounded_from, bounded_session, closed, first_message, first_over, is_established, machine_in, needs_of, open_sent, peer_of, phase, receiver, reply_to, session_from, standing_at_desk, still, text_sent, too_many, update_sent, ◌≡◌, ◌⊎◌, inl, inr, ◌≤◌, ℕ, ◌+◌, ◌-◌, List, [], ◌∷◌, ◌++◌, length, take, map, Bool, true, false, if◌then◌else◌, Option, Some, None, refl, ap, sym, ◌∙◌, subst, arith, append-nil, length-append, ◌<◌, is_some, none-some, ahead_of, before_all, is_settled, opening_of, MetLimit, begins_with, Ending, Done, AtLimit, AreJoined, Exchanges, ExchangedOut, Heard, SaidAll, StopsSo, ended, moments_of, of_first, of_second, Pieces, Stance, octets_in, Talk, FirstOver, SecondOver, Broken, HasClosed, Receives, bare, is_ended, course_of, IsReceiving, Arrives, ComesUp, EndsEarly, IsUnhindered, Pairs, PairsOver, PairsSo, RunsLate, SaysFront, told_by, EndsTalk, Began, SaysUpTo, Speaks, TookOpen, rules_in, text_in, without_rules, woven, course, take_all, some_there, none_there}
+use Rattle.fs_peering.{proofs.{Words.{Announcing, CanArrive, Closed, Config, Desked, Ended, Established, Fault, IsAt, Last, Machine, Peer, Phase, Sending, Sent, State, Update, WaitKeep, WaitOpen, WireEnds, announcer, at_start, bounded, bounded_from, bounded_session, closed, first_message, first_over, is_established, machine_in, needs_of, open_sent, peer_of, phase, receiver, reply_to, session_from, standing_at_desk, still, text_sent, too_many, update_sent, ◌≡◌, ◌⊎◌, inl, inr, ◌≤◌, ℕ, ◌+◌, ◌-◌, List, [], ◌∷◌, ◌++◌, length, take, map, Bool, true, false, if◌then◌else◌, Option, Some, None, refl, ap, sym, ◌∙◌, subst, arith, append-nil, length-append, ◌<◌, is_some, none-some, ahead_of, before_all, is_settled, opening_of, MetLimit, begins_with, Ending, Done, AtLimit, AreJoined, Exchanges, ExchangedOut, Heard, SaidAll, StopsSo, moments_of, of_first, of_second, Pieces, Stance, octets_in, Talk, FirstOver, SecondOver, Broken, HasClosed, Receives, bare, is_ended, course_of, IsReceiving, Arrives, ComesUp, EndsEarly, IsUnhindered, Pairs, PairsOver, PairsSo, RunsLate, SaysFront, told_by, EndsTalk, Began, SaysUpTo, Speaks, TookOpen, rules_in, text_in, without_rules, woven, course, take_all, some_there, none_there}, Courses.{keepalives}, WrittenInParts.{told_as}, Apart.{late_first, late_second}, Counting.{Opens, ends_by, met_by, opens_so}, Hearing.{unsettled}, Listened.{receiving}, BothEnds.{all_arrive, answers, meets, open_first, own_message}, Receiving.{closed_of, ended_there, hearing_of}, Sending.{Past, past_of}, Replying.{replies}, StaysOpen.{teller_stays, teller_up}, Timely.{timely_one}, Unhindered.{Fronts, never_first, unread}, Settled.{open_settled}, Phases.{unawaited}}, specs.{Teller.{is_over}, declared.{tell.Ending.TheVariants.{Closed as WasClosed, Ended as EndedEarly}, joined.Talk.TheVariants.{AtLimit as MetIt, Done as AllSaid}}, Joined.{Ended as EndedSo}}}
 use Rattle.std.proofs.lemmas.Bool.{true≢false as never}
 use Rattle.fs_speaker.specs.declared.State.TheVariants.{Closed as IsClosed}
-use Rattle.fs_peering.specs.Teller.{is_over}
-use Rattle.fs_peering.proofs.Courses.{keepalives}
-use Rattle.fs_peering.specs.declared.tell.Ending.TheVariants.{Closed as WasClosed, Ended as EndedEarly}
-use Rattle.fs_peering.specs.Joined.{Ended as EndedSo}
-use Rattle.fs_peering.specs.declared.joined.Talk.TheVariants.{AtLimit as MetIt, Done as AllSaid}
-use Rattle.fs_peering.proofs.WrittenInParts.{told_as}
-use Rattle.fs_peering.proofs.Apart.{late_first, late_second}
-use Rattle.fs_peering.proofs.Counting.{Opens, ends_by, met_by, opens_so}
-use Rattle.fs_peering.proofs.Hearing.{unsettled}
-use Rattle.fs_peering.proofs.Listened.{receiving}
-use Rattle.fs_peering.proofs.BothEnds.{all_arrive, answers, meets, open_first, own_message}
-use Rattle.fs_peering.proofs.Receiving.{closed_of, ended_there, hearing_of}
-use Rattle.fs_peering.proofs.Sending.{Past, past_of}
-use Rattle.fs_peering.proofs.Replying.{replies}
-use Rattle.fs_peering.proofs.StaysOpen.{teller_stays, teller_up}
-use Rattle.fs_peering.proofs.Timely.{timely_first, timely_second}
-use Rattle.fs_peering.proofs.Unhindered.{Fronts, never_first, unread}
-use Rattle.fs_peering.proofs.Settled.{open_settled}
-use Rattle.fs_peering.proofs.Phases.{unawaited}
+
+-- how both ends stand
+abbrev stood : Desked → ℕ → Bool → Announcing → Bool → ℕ → EndedSo
+stood desk peer on b started heard_up = record {
+  over_first = is_ended (standing_at_desk desk peer);
+  over_second = is_over on b.line;
+  ready = is_settled b.line;
+  begun = started;
+  count = heard_up;
+  ahead = ahead_of b started;
+}
 
 -- what both ends come to of which the announcing one hears on
-pub pairs_on : (first last : Desked) (peer peer' first_count count limit : ℕ) (on on' : Bool) (a b : Announcing) (begun started : Bool) (heard_before heard_up : ℕ)
-    (t0 t1 : Option WireEnds) (moments moments' : Option (List ℕ)) (talk : Talk) → on ≡ true → on' ≡ true
-    → Exchanges talk (Receives first peer first_count) (Receives last peer' count) (SaysUpTo on a begun heard_before) (SaysUpTo on' b started heard_up)
-    (ended (is_ended (standing_at_desk last peer')) (is_over on' b.line) (is_settled b.line) started heard_up (ahead_of b started)) limit t0 t1 moments moments'
-    → Exchanges talk (Receives first peer first_count) (Receives last peer' count) (SaysUpTo true a begun heard_before) (SaysUpTo true b started heard_up)
-    (ended (is_ended (standing_at_desk last peer')) (is_some b.line.closed) (is_settled b.line) started heard_up (ahead_of b started)) limit t0 t1 moments moments'
-pairs_on first last peer peer' first_count count limit on on' a b begun started heard_before heard_up t0 t1 moments moments' talk e e' x =
-    subst
-    (λ (o : Bool). Exchanges talk (Receives first peer first_count) (Receives last peer' count) (SaysUpTo true a begun heard_before) (SaysUpTo o b started heard_up)
-    (ended (is_ended (standing_at_desk last peer')) (is_over o b.line) (is_settled b.line) started heard_up (ahead_of b started)) limit t0 t1 moments moments') e'
-    (subst
-    (λ (o : Bool). Exchanges talk (Receives first peer first_count) (Receives last peer' count) (SaysUpTo o a begun heard_before) (SaysUpTo on' b started heard_up)
-    (ended (is_ended (standing_at_desk last peer')) (is_over on' b.line) (is_settled b.line) started heard_up (ahead_of b started)) limit t0 t1 moments moments') e x)
+module _ (first last : Desked) (peer peer' first_count count limit : ℕ) (on on' : Bool) (a b : Announcing) (begun started : Bool) (heard_before heard_up : ℕ)
+    (t0 t1 : Option WireEnds) (moments moments' : Option (List ℕ)) (talk : Talk) where
+  abbrev TalkedSo : Bool → Bool → Type 0
+  TalkedSo o o' =
+      Exchanges talk (Receives first peer first_count) (Receives last peer' count) (SaysUpTo o a begun heard_before) (SaysUpTo o' b started heard_up)
+      (stood last peer' o' b started heard_up) limit t0 t1 moments moments'
+
+  pub pairs_on : on ≡ true → on' ≡ true → TalkedSo on on' → TalkedSo true true
+  pairs_on e e' x = subst (λ (o : Bool). TalkedSo true o) e' (subst (λ (o : Bool). TalkedSo o on') e x)
 
 -- a session that the limit doesn't close is the one without
 bounded_still : (most : Option ℕ) (session : List Update × Last) (found : Phase) → (bounded most session).1 ≡ still found → bounded most session ≡ session
@@ -125,7 +113,7 @@ module _ (first last : Desked) (peer peer' first_count count limit : ℕ) (same 
 
   -- both ends as they are where no more is heard
   abbrev end : EndedSo
-  end = ended (is_ended (standing_at_desk last peer')) (is_some b.line.closed) (is_settled b.line) started heard_up (ahead_of b started)
+  end = stood last peer' true b started heard_up
 
   at_peer : is_ended (standing_at_desk last peer) ≡ is_ended (standing_at_desk last peer')
   at_peer = ap (λ (n : ℕ). is_ended (standing_at_desk last n)) (sym same)
@@ -336,7 +324,7 @@ module _ (first last : Desked) (peer peer' first_count count limit : ℕ) (same 
       first_never : b.line.closed ≡ None → (why : Closed) → standing_at_desk last peer ≡ Ended why → ⊥
       first_never open_b why e =
           never_first config whose sending u.can peer whose_is (of_first events) replied why (closes_first why e) now.first.left announced (octets_in (of_second events)) k.read_first
-          (fronts open_b) (timely_first config events u.timely) now.second.left k.read_second u.may_hold
+          (fronts open_b) (timely_one config true events u.timely) now.second.left k.read_second u.may_hold
 
     -- the receiving end is open
     module _ (alive : is_ended (standing_at_desk last peer) ≡ false) where
@@ -360,7 +348,7 @@ module _ (first last : Desked) (peer peer' first_count count limit : ℕ) (same 
       second_never : IsUnhindered config whose sending limit (moments_of events) announced replied → (why : Closed) → b.line.closed ≡ Some why → ⊥
       second_never u why e =
           none-some why
-          (sym (teller_stays config whose sending (of_second events) now.second.left replied u.can (sym k.read_second) replies_form (timely_second config events u.timely)) ∙ closes_second why e)
+          (sym (teller_stays config whose sending (of_second events) now.second.left replied u.can (sym k.read_second) replies_form (timely_one config false events u.timely)) ∙ closes_second why e)
 
       -- the announcing end has said its OPEN, and nothing is in flight
       unsettled_never : IsUnhindered config whose sending limit (moments_of events) announced replied → is_settled b.line ≡ false → started ≡ true → now.first.left ≡ [] → now.second.left ≡ [] → ⊥
@@ -387,7 +375,7 @@ module _ (first last : Desked) (peer peer' first_count count limit : ℕ) (same 
           by (inr m) is_down =
               never
               (sym (teller_up config whose sending (of_second events) m.0 u.can (sym heard_all ∙ m.1)
-              (teller_stays config whose sending (of_second events) now.second.left replied u.can (sym k.read_second) replies_form (timely_second config events u.timely))) ∙ is_down)
+              (teller_stays config whose sending (of_second events) now.second.left replied u.can (sym k.read_second) replies_form (timely_one config false events u.timely))) ∙ is_down)
 
       module _ (open_b : b.line.closed ≡ None) (up : is_settled b.line ≡ true) (none : now.first.left ≡ []) (all : ahead_of b started ≡ 0) where
         left : unsaid started + (length b.sending.rules - b.appended) ≡ 0

@@ -1,14 +1,10 @@
 -- A receiving end that hears a piece at a moment.
-use Rattle.fs_peering.proofs.Words.{Closed, Config, Desked, Down, Ended, Expires, Fault, Handed, HandsPeer, Keeps, Machine, Peer, PeerIs, Played, Plays, Point, Quiet, Replied, RepliesBehind, StaysPlayed, Tick, TicksPeer, Times, at_moment, begins, fresh, hand, handed, live, notice_text, peer_of, pending, point, receiver, runs_by, session_at, standing_at_desk, tick_at, ticked, ticks, times, written_now, ◌≡◌, ◌==◌, ◌⊎◌, inl, inr, ℕ, ◌+◌, max, List, [], ◌∷◌, ◌++◌, length, Bool, true, false, if◌then◌else◌, Option, Some, None, Result, Ok, Err, OnOk, refl, ap, sym, ◌∙◌, subst, arith, append_assoc, append-nil, length-append, IsSome, option_map, moment_stays, ticked_by, standing_by, Standing, Hears, Pieces, octets_in, HasClosed, IsHearing, Receives, StandsBy, is_ended, tape_of, course_of, after, hears}
+use Rattle.fs_peering.proofs.{Words.{Closed, Config, Desked, Down, Ended, Expires, Fault, Handed, HandsPeer, Keeps, Machine, Peer, PeerIs, Played, Plays, Point, Quiet, Replied, RepliesBehind, StaysPlayed, Tick, TicksPeer, Times, at_moment, begins, fresh, hand, handed, live, notice_text, peer_of, pending, point, receiver, runs_by, session_at, standing_at_desk, tick_at, ticked, ticks, times, written_now, ◌≡◌, ◌==◌, ◌⊎◌, inl, inr, ℕ, ◌+◌, max, List, [], ◌∷◌, ◌++◌, length, Bool, true, false, if◌then◌else◌, Option, Some, None, Result, Ok, Err, OnOk, refl, ap, sym, ◌∙◌, subst, arith, append_assoc, append-nil, length-append, IsSome, option_map, moment_stays, ticked_by, standing_by, Standing, Hears, Pieces, octets_in, HasClosed, IsHearing, Receives, StandsBy, is_ended, tape_of, course_of, after, hears}, Courses.{course_more, octets_more}}
 use Rattle.std.proofs.lemmas.Bool.{true≢false as never}
 use Rattle.fs_base.proofs.NumberTests.{eq_itself}
-use Rattle.fs_speaker.specs.Session.{Live}
-use Rattle.fs_speaker.specs.declared.Standing.TheVariants.{Live as LiveIn}
+use Rattle.fs_speaker.specs.{Session.{Live}, declared.Standing.TheVariants.{Live as LiveIn}}
 use Rattle.fs_tape.specs.Tape.{Item, came_up, received}
-use Rattle.fs_desk.specs.HoldTimer.{TickMakes, TicksIn, TicksSession, with_times}
-use Rattle.fs_desk.specs.Life.{life}
-use Rattle.fs_desk.specs.Receive.{IsFed, IsUp, point_of}
-use Rattle.fs_peering.proofs.Courses.{course_more, octets_more}
+use Rattle.fs_desk.specs.{HoldTimer.{TickMakes, TicksIn, TicksSession, with_times}, Life.{life}, Receive.{IsFed, IsUp, point_of}}
 
 pub counted_more : (heard : Pieces) (moment count count' : ℕ) (piece : List ℕ) → count ≡ length (octets_in heard) → count' ≡ count + length piece
     → count' ≡ length (octets_in (heard ++ (moment, piece) ∷ []))
@@ -333,37 +329,39 @@ module _ (old mid new : Desked) (peer moment : ℕ) (whose : Peer) (heard : Piec
       by None e = stays_open e
       by (Some why) e = closes_there why e
 
--- the clock closes the session
-pub hears_clock : (old mid : Desked) (peer count count' moment : ℕ) (piece a b : List ℕ) → mid.config ≡ old.config → is_ended (standing_at_desk old peer) ≡ false
-    → is_ended (standing_at_desk mid peer) ≡ true → count' ≡ count + length piece → TicksPeer peer moment old mid a b → StaysPlayed peer old mid
-    → Hears (Receives old peer count) (Receives mid peer count') moment piece a b
-hears_clock old mid peer count count' moment piece a b config_mid alive shut k ticked stays heard said r =
-    by (wakes old mid peer moment r.whose heard said a b h ticked stays)
-  where
+-- the clock at a moment, and a piece
+module _ (old mid : Desked) (peer count count' moment : ℕ) (piece a b : List ℕ) (config_mid : mid.config ≡ old.config) (alive : is_ended (standing_at_desk old peer) ≡ false)
+    (k : count' ≡ count + length piece) (ticked : TicksPeer peer moment old mid a b) (stays : StaysPlayed peer old mid) where
+  module _ (heard : Pieces) (said : List ℕ) (r : Receives old peer count heard said) where
+    abbrev Woken : Type 0
+    Woken = Woke old mid peer moment r.whose heard a b ⊎ Slept old mid peer moment r.whose heard a b
+
     h : IsHearing old peer r.whose heard said
     h = hearing_of old peer r.whose heard said alive r.stands
 
-    by : Woke old mid peer moment r.whose heard a b ⊎ Slept old mid peer moment r.whose heard a b
-        → (more : List ℕ) × ((b ≡ a ++ more) × Receives mid peer count' (heard ++ (moment, piece) ∷ []) (said ++ more))
-    by (inl w) = absurd (never (sym shut ∙ ap is_ended (stands_open mid peer w.session w.session_is w.alive)))
-    by (inr s) = hears_slept old mid peer moment r.whose heard said piece a b config_mid count' h r.whose_is (counted_more heard moment count count' piece r.counted k) s
+    either_way : Woken
+    either_way = wakes old mid peer moment r.whose heard said a b h ticked stays
 
--- it goes on
-pub hears_piece : (old mid new : Desked) (peer count count' moment : ℕ) (piece a b c : List ℕ) → mid.config ≡ old.config → new.config ≡ mid.config
-    → is_ended (standing_at_desk old peer) ≡ false → is_ended (standing_at_desk mid peer) ≡ false → count' ≡ count + length piece → TicksPeer peer moment old mid a b → StaysPlayed peer old mid
-    → Plays (received peer piece) mid new → RepliesBehind peer mid piece b c → HandsPeer peer mid new piece b c
-    → Hears (Receives old peer count) (Receives new peer count') moment piece a c
-hears_piece old mid new peer count count' moment piece a b c config_mid config_new alive open_ k ticked stays plays replies hands heard said r =
-    by (wakes old mid peer moment r.whose heard said a b h ticked stays)
-  where
-    h : IsHearing old peer r.whose heard said
-    h = hearing_of old peer r.whose heard said alive r.stands
+    counted : count' ≡ length (octets_in (heard ++ (moment, piece) ∷ []))
+    counted = counted_more heard moment count count' piece r.counted k
 
-    by : Woke old mid peer moment r.whose heard a b ⊎ Slept old mid peer moment r.whose heard a b
-        → (more : List ℕ) × ((c ≡ a ++ more) × Receives new peer count' (heard ++ (moment, piece) ∷ []) (said ++ more))
-    by (inl w) =
-        hears_woke old mid new peer moment r.whose heard said piece a b c count' config_mid config_new h r.whose_is (counted_more heard moment count count' piece r.counted k) w plays replies hands
-    by (inr s) = absurd (never (sym (ap is_ended s.ended) ∙ open_))
+  -- the clock closes the session
+  pub hears_clock : is_ended (standing_at_desk mid peer) ≡ true → Hears (Receives old peer count) (Receives mid peer count') moment piece a b
+  hears_clock shut heard said r = by (either_way heard said r)
+    where
+      by : Woken heard said r → (more : List ℕ) × ((b ≡ a ++ more) × Receives mid peer count' (heard ++ (moment, piece) ∷ []) (said ++ more))
+      by (inl w) = absurd (never (sym shut ∙ ap is_ended (stands_open mid peer w.session w.session_is w.alive)))
+      by (inr s) = hears_slept old mid peer moment r.whose heard said piece a b config_mid count' (h heard said r) r.whose_is (counted heard said r) s
+
+  -- it goes on
+  pub hears_piece : (new : Desked) (c : List ℕ) → new.config ≡ mid.config → is_ended (standing_at_desk mid peer) ≡ false → Plays (received peer piece) mid new → RepliesBehind peer mid piece b c
+      → HandsPeer peer mid new piece b c → Hears (Receives old peer count) (Receives new peer count') moment piece a c
+  hears_piece new c config_new open_ plays replies hands heard said r = by (either_way heard said r)
+    where
+      by : Woken heard said r → (more : List ℕ) × ((c ≡ a ++ more) × Receives new peer count' (heard ++ (moment, piece) ∷ []) (said ++ more))
+      by (inl w) =
+          hears_woke old mid new peer moment r.whose heard said piece a b c count' config_mid config_new (h heard said r) r.whose_is (counted heard said r) w plays replies hands
+      by (inr s) = absurd (never (sym (ap is_ended s.ended) ∙ open_))
 
 -- before the first octet
 pub receives_none : (own_config : Config) (peer : ℕ) (desk : Desked) (number : ℕ) (count : ℕ) → IsSome (peer_of peer own_config.peers) → desk.config ≡ own_config → Played own_config (came_up peer ∷ []) desk

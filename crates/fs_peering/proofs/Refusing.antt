@@ -1,9 +1,7 @@
 -- Two joined ends of which the announcing one has the identifier 0.0.0.0: its OPEN is refused, and nothing else closes them.
 use Rattle.fs_peering.proofs.Words.{Closed, Config, Fault, Handed, IsUnnamed, Last, Machine, Message, MessageFault, Notified, Open, Peer, Phase, Point, Sending, Step, Times, Update, at_fault, at_moment, at_start, closed, first_message, hand, handed, notice_text, open_body, open_sent, opened, point, runs_by, session_by, shuts, step_by, stops, takes, tick_at, ticked, ticks, transition_by, waits, ◌≡◌, ◌⊎◌, inl, inr, ◌<◌, ◌^◌, ◌==◌, ℕ, Bool, true, false, if◌then◌else◌, List, [], ◌∷◌, ◌++◌, length, take, drop, Option, Some, None, Result, Err, Ok, refl, ap, sym, ◌∙◌, subst, append_assoc, append-nil, arith, take-append-drop, none-some, same_Some, open_unnamed, message_stable, text_first, World, at_first, happens, next_said, run, runs_on, says, sent, taker_comes, taker_of, teller_comes, teller_of, open_fits, runs_stops, runs_waits, closed_hand, open_hand, ticked_by, Shows, told, machine_stops, step_found, ClosesUnnamed}
 use Rattle.std.proofs.lemmas.Bool.{true≢false as never}
-use Rattle.fs_speaker.specs.declared.event.Event.{Event}
-use Rattle.fs_speaker.specs.declared.event.Event.TheVariants.{Send, Deliver, Tick as TickEvent, Cut}
-use Rattle.fs_speaker.proofs.Unnamed.{same_why}
+use Rattle.fs_speaker.{specs.declared.event.Event.{Event, TheVariants.{Send, Deliver, Tick as TickEvent, Cut}}, proofs.Unnamed.{same_why}}
 
 -- An end at which one message closes, wherever more follows: of the octets up to it the end waits for more, or closes so.
 module _ (machine : Machine) (why : Closed) (text : List ℕ) (message : Message)
@@ -148,7 +146,7 @@ module _ (config : Config) (peer : Peer) (sending : Sending) (un : IsUnnamed con
 
   refuses : transition_by taker at_start (record { kind = 1; body = body }) ≡ Err (Fault 2 3)
   refuses = ap (λ (r : Result Open MessageFault). opened taker r)
-      (open_unnamed peer.asn config.hold_time sending.id un.peer_as un.hold_time (zero_small sending.id un.unnamed) un.some_peer un.not_one un.not_two un.unnamed)
+      (open_unnamed peer.asn config.hold_time sending.id un.asn.small un.hold_time.small (zero_small sending.id un.unnamed) un.asn.some un.hold_time.not_one un.hold_time.not_two un.unnamed)
 
   is_told : transition_by teller at_start (record { kind = 3; body = 2 ∷ 3 ∷ [] }) ≡ Err (Notified 2 3)
   is_told = refl
@@ -193,8 +191,15 @@ module _ (config : Config) (peer : Peer) (sending : Sending) (un : IsUnnamed con
     goes = goes;
   }
 
-  -- the receiving end was handed a piece
-  taker_made : (w : World) (r : Refused w) (moment count : ℕ) → Refused (taker_comes (hand taker moment w.taker (take count w.to_taker)) (drop count w.to_taker) w)
+  -- what the world is where an end was handed so many octets of those that flew to it
+  abbrev taker_given : World → (moment count : ℕ) → World
+  taker_given w moment count = taker_comes (hand taker moment w.taker (take count w.to_taker)) (drop count w.to_taker) w
+
+  abbrev teller_given : World → (moment count : ℕ) → World
+  teller_given w moment count = teller_comes (hand teller moment w.teller (take count w.to_teller)) (drop count w.to_teller) w
+
+  -- the receiving end was
+  taker_made : (w : World) (r : Refused w) (moment count : ℕ) → Refused (taker_given w moment count)
   taker_made w r moment count = by r.taker_is
     where
       piece : List ℕ
@@ -203,14 +208,11 @@ module _ (config : Config) (peer : Peer) (sending : Sending) (un : IsUnnamed con
       made : Handed
       made = hand taker moment w.taker piece
 
-      now : World
-      now = taker_comes made (drop count w.to_taker) w
-
       goes_on : w.teller.closed ≡ None → Flies r.heard (sent w.cut w.to_teller made.text) (r.said ++ made.text) w.cut
       goes_on o = flies_said r.heard w.to_teller r.said made.text w.cut (r.goes o)
 
       -- so it stands, with this said
-      so : IsTaker (r.octets ++ piece) made.point → Said made.point.closed (r.said ++ made.text) → (made.point.closed ≡ None → w.taker.closed ≡ None) → Refused now
+      so : IsTaker (r.octets ++ piece) made.point → Said made.point.closed (r.said ++ made.text) → (made.point.closed ≡ None → w.taker.closed ≡ None) → Refused (taker_given w moment count)
       so is said opens = record {
         octets = r.octets ++ piece;
         heard = r.heard;
@@ -237,7 +239,7 @@ module _ (config : Config) (peer : Peer) (sending : Sending) (un : IsUnnamed con
           at (inl s) = absurd (none-some (Fault 2 3) (sym s.0 ∙ c))
           at (inr s) = s.1
 
-      from : Made taker (Fault 2 3) opening (record { kind = 1; body = body }) first_open refuses (r.octets ++ piece) w.taker made → Refused now
+      from : Made taker (Fault 2 3) opening (record { kind = 1; body = body }) first_open refuses (r.octets ++ piece) w.taker made → Refused (taker_given w moment count)
       from (inl m) =
           so (inl (m.1.0, (m.1.1.0, m.1.1.1.0))) (inl (m.1.0, ap (λ (z : List ℕ). r.said ++ z) m.1.1.1.1 ∙ append-nil r.said ∙ was_open m.0)) (λ o. m.0)
       from (inr (inl m)) =
@@ -245,7 +247,7 @@ module _ (config : Config) (peer : Peer) (sending : Sending) (un : IsUnnamed con
       from (inr (inr m)) =
           so (inr m.1.0) (inr (m.1.0, ap (λ (z : List ℕ). r.said ++ z) m.1.1 ∙ append-nil r.said ∙ was_shut m.0)) (λ o. absurd (none-some (Fault 2 3) (sym o ∙ m.1.0)))
 
-      by : IsTaker r.octets w.taker → Refused now
+      by : IsTaker r.octets w.taker → Refused (taker_given w moment count)
       by (inl i) =
           let f = r.flies i.0 in
           from (end_hand taker (Fault 2 3) opening (record { kind = 1; body = body }) first_open refuses r.octets piece (drop count w.to_taker ++ f.0) r.more w.taker moment (inl i)
@@ -255,23 +257,17 @@ module _ (config : Config) (peer : Peer) (sending : Sending) (un : IsUnnamed con
           (λ o. absurd (none-some (Fault 2 3) (sym o ∙ c))))
 
   -- the announcing end was
-  teller_made : (w : World) (r : Refused w) (moment count : ℕ) → Refused (teller_comes (hand teller moment w.teller (take count w.to_teller)) (drop count w.to_teller) w)
+  teller_made : (w : World) (r : Refused w) (moment count : ℕ) → Refused (teller_given w moment count)
   teller_made w r moment count = by r.teller_is
     where
       piece : List ℕ
       piece = take count w.to_teller
 
-      made : Handed
-      made = hand teller moment w.teller piece
-
-      now : World
-      now = teller_comes made (drop count w.to_teller) w
-
-      so : IsTeller (r.heard ++ piece) made.point → (made.point.closed ≡ None → w.teller.closed ≡ None) → Refused now
+      so : IsTeller (r.heard ++ piece) (hand teller moment w.teller piece).point → ((hand teller moment w.teller piece).point.closed ≡ None → w.teller.closed ≡ None) → Refused (teller_given w moment count)
       so is opens =
-          teller_said w r made.point (drop count w.to_teller) (r.heard ++ piece) made.text is (λ o. flies_taken r.heard w.to_teller r.said w.cut count (r.goes (opens o))) w.appended
+          teller_said w r (hand teller moment w.teller piece).point (drop count w.to_teller) (r.heard ++ piece) (hand teller moment w.teller piece).text is (λ o. flies_taken r.heard w.to_teller r.said w.cut count (r.goes (opens o))) w.appended
 
-      from : Made teller (Notified 2 3) notice (record { kind = 3; body = 2 ∷ 3 ∷ [] }) first_notice is_told (r.heard ++ piece) w.teller made → Refused now
+      from : Made teller (Notified 2 3) notice (record { kind = 3; body = 2 ∷ 3 ∷ [] }) first_notice is_told (r.heard ++ piece) w.teller (hand teller moment w.teller piece) → Refused (teller_given w moment count)
       from (inl m) = so (inl (m.1.0, (m.1.1.0, m.1.1.1.0))) (λ o. m.0)
       from (inr (inl m)) = so (inr m.1.0) (λ o. m.0)
       from (inr (inr m)) = so (inr m.1.0) (λ o. absurd (none-some (Notified 2 3) (sym o ∙ m.1.0)))
@@ -281,7 +277,7 @@ module _ (config : Config) (peer : Peer) (sending : Sending) (un : IsUnnamed con
       fronts rest e (inl s) = (notice, ap (λ (z : List ℕ). z ++ notice) (nothing (r.heard ++ piece) rest (e ∙ s.1)))
       fronts rest e (inr s) = (rest, e ∙ s.1)
 
-      by : IsTeller r.heard w.teller → Refused now
+      by : IsTeller r.heard w.teller → Refused (teller_given w moment count)
       by (inl i) =
           let f = r.goes i.0 in
           let front = fronts (drop count w.to_teller ++ f.0) (taken_front r.heard w.to_teller f.0 count ∙ f.1.0) r.said_is in
@@ -321,8 +317,7 @@ module _ (config : Config) (peer : Peer) (sending : Sending) (un : IsUnnamed con
       by (Some text) = teller_said w r w.teller w.to_teller r.heard text r.teller_is r.goes _
   refused_on w (Deliver to count moment) r = by (to == 0)
     where
-      by : (zeroth : Bool) → Refused (if zeroth then taker_comes (hand taker moment w.taker (take count w.to_taker)) (drop count w.to_taker) w
-          else teller_comes (hand teller moment w.teller (take count w.to_teller)) (drop count w.to_teller) w)
+      by : (zeroth : Bool) → Refused (if zeroth then taker_given w moment count else teller_given w moment count)
       by true = taker_made w r moment count
       by false = teller_made w r moment count
   refused_on w (TickEvent end moment) r = by (end == 0)

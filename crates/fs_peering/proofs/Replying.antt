@@ -1,9 +1,6 @@
 -- What an open receiving end has said: nothing, or the answer to the OPEN and then KEEPALIVEs.
-use Rattle.fs_peering.proofs.Words.{Closed, Config, Established, Handed, Machine, Message, MessageFault, Peer, Phase, Point, State, Times, Update, WaitKeep, WaitOpen, faulted, first_message, message_text, parts_of, receiver, reply_to, runs, runs_by, shuts, taken_in, transition_by, wrong_at, ◌≡◌, ◌⊎◌, inl, inr, ℕ, zero, suc, ◌+◌, arith, List, [], ◌∷◌, ◌++◌, drop, true, false, Option, Some, None, Result, Ok, Err, refl, ap, sym, ◌∙◌, subst, append_assoc, append-nil, none-some, ran, runs_none, runs_step, Pieces, course_of, after, hears, course}
+use Rattle.fs_peering.proofs.{Words.{Closed, Config, Established, Handed, Machine, Message, MessageFault, Peer, Phase, Point, State, Times, Update, WaitKeep, WaitOpen, faulted, first_message, message_text, parts_of, receiver, reply_to, runs, runs_by, shuts, taken_in, transition_by, wrong_at, ◌≡◌, ◌⊎◌, inl, inr, ℕ, zero, suc, ◌+◌, arith, List, [], ◌∷◌, ◌++◌, drop, true, false, Option, Some, None, Result, Ok, Err, refl, ap, sym, ◌∙◌, subst, append_assoc, append-nil, none-some, ran, runs_none, runs_step, Pieces, course_of, after, hears, course}, Courses.{keepalives, Steps, by_pieces, lived, course_more}, Phases.{GoesTo, awaits_open, goes_on}}
 use Rattle.fs_speaker.specs.declared.State.TheVariants.{Closed as IsClosed}
-use Rattle.fs_peering.proofs.Courses.{keepalives}
-use Rattle.fs_peering.proofs.Phases.{GoesTo, awaits_open, goes_on}
-use Rattle.fs_peering.proofs.Courses.{Steps, by_pieces, lived, course_more}
 
 abbrev Made : Type 0
 Made = Result (Phase × Option Update) Closed

@@ -1,7 +1,6 @@
 -- What may be announced can arrive.
 use Rattle.fs_peering.proofs.Words.{AreSendable, CanArrive, ComesBack, Config, IsSent, Peer, Sending, Sent, TakesFront, TakesNone, is_short, terms_of, update_sent, ◌≡◌, ◌<◌, ◌≤◌, ◌&&◌, ℕ, zero, suc, List, [], ◌∷◌, length, map, take, nat_le, nat_lt, Bool, true, refl, arith, nat_tests, AllByRecursion, list_all, run, AreRead, SendsFront}
-use Rattle.fs_base.proofs.Lists.{each_both}
-use Rattle.fs_base.proofs.Bools.{and_parts}
+use Rattle.fs_base.proofs.{Lists.{each_both}, Bools.{and_parts}}
 use Rattle.fs_speaker.proofs.Returning.{comes_back}
 
 each_true : (test : Sent → Bool) (rules : List Sent) → list_all test rules ≡ true → AllByRecursion (λ sent. test sent ≡ true) rules
@@ -22,17 +21,9 @@ module _ (config : Config) (peer : Peer) (sending : Sending) (read : AreRead con
       let path = and_parts (nat_le (length sending.as_path) 255) (list_all (λ (asn : ℕ). nat_lt 0 asn) sending.as_path) parts.0 in
       let numbers : AreSendable sending.as_path = record { few = few (length sending.as_path) path.0; each = read.path } in
       record {
-        local_as = read.local_as;
-        some_as = read.some_as;
-        local_id = read.local_id;
-        some_id = read.some_id;
-        hold_time = read.hold_time;
-        not_one = read.not_one;
-        not_two = read.not_two;
-        peer_as = read.peer_as;
-        some_peer = read.some_peer;
-        id = read.id;
-        named = named;
+        own = read.own;
+        asn = read.asn;
+        id = record { small = read.id; some = named };
         read =
             each_both IsSent (λ (sent : Sent). test sent ≡ true) (ComesBack config peer sending)
             (λ sent is short. comes_back config peer sending numbers sent is short) sending.rules read.rules (each_true test sending.rules parts.1);
@@ -44,13 +35,6 @@ sends_front front none config peer sending events read can = by sending.id refl
     by : (id : ℕ) → sending.id ≡ id → (n : ℕ) × ((run config peer sending events).taken ≡ take n (map (update_sent config peer sending) sending.rules))
     by zero e = (
       0,
-      (none config peer sending events (record {
-        peer_as = read.peer_as;
-        some_peer = read.some_peer;
-        hold_time = read.hold_time;
-        not_one = read.not_one;
-        not_two = read.not_two;
-        unnamed = e;
-      })).0,
+      (none config peer sending events (record { asn = read.asn; hold_time = read.own.hold_time; unnamed = e })).0,
     )
     by (suc n) e = front config peer sending events (arrives config peer sending read can (omega (arith, e)))

@@ -1,14 +1,7 @@
 -- An announcing end that hears a piece at a moment.
-use Rattle.fs_peering.proofs.Words.{Announcing, Closed, Config, Established, Expires, Fault, Handed, IsAt, Lined, Machine, Peer, Phase, Point, SaysText, Sending, Sent, StandsAt, StartsWith, State, WaitKeep, WaitOpen, at_moment, first_text, hand, has_started, is_established, machine_in, message_text, needs_of, next_text, notice_text, one_sent, open_sent, runs_by, text_sent, tick_at, ticked, with_line, ◌≡◌, ◌⊎◌, inl, inr, ℕ, suc, zero, ◌+◌, List, [], ◌∷◌, ◌++◌, drop, arith, take, Bool, true, false, if◌then◌else◌, Option, Some, None, refl, ap, sym, ◌∙◌, subst, append_assoc, append-nil, flat_map-append, none-some, none_there, message_stable, closed_hand, HasHeard, SaysTo, before_all, is_settled, opening_of, stops_at, Hears, Pieces, Says, Stance, octets_in, Began, CountsTo, SaysOn, SaysUpTo, Speaks, TookOpen, part_text, rule_in, rules_in, text_in, without_rules, woven, course, begins_with}
+use Rattle.fs_peering.{proofs.{Words.{Announcing, Closed, Config, Established, Expires, Fault, Handed, IsAt, Lined, Machine, Peer, Phase, Point, SaysText, Sending, Sent, StandsAt, StartsWith, State, WaitKeep, WaitOpen, at_moment, first_text, hand, has_started, is_established, machine_in, message_text, needs_of, next_text, notice_text, one_sent, open_sent, runs_by, text_sent, tick_at, ticked, with_line, ◌≡◌, ◌⊎◌, inl, inr, ℕ, suc, zero, ◌+◌, List, [], ◌∷◌, ◌++◌, drop, arith, take, Bool, true, false, if◌then◌else◌, Option, Some, None, refl, ap, sym, ◌∙◌, subst, append_assoc, append-nil, flat_map-append, none-some, none_there, message_stable, closed_hand, HasHeard, SaysTo, before_all, is_settled, opening_of, stops_at, Hears, Pieces, Says, Stance, octets_in, Began, CountsTo, SaysOn, SaysUpTo, Speaks, TookOpen, part_text, rule_in, rules_in, text_in, without_rules, woven, course, begins_with}, Ahead.{next_of}, Counting.{counts_piece, counts_same, counts_text}, Hearing.{HeardSo, begins_early, hears_early, next_early, says_same}, Answering.{Opens, opens_by}, Phases.{Goes, awaits_open, quiet_by, unawaited, Quiet as IsQuiet}, Courses.{Steps, but_last, course_more, keepalives, octets_more, steps, woke_is}}, specs.Teller.{is_over}}
 use Rattle.std.proofs.lemmas.Bool.{true≢false as never}
 use Rattle.fs_speaker.specs.declared.State.TheVariants.{Closed as IsClosed}
-use Rattle.fs_peering.specs.Teller.{is_over}
-use Rattle.fs_peering.proofs.Ahead.{next_of}
-use Rattle.fs_peering.proofs.Counting.{counts_piece, counts_same, counts_text}
-use Rattle.fs_peering.proofs.Hearing.{HeardSo, begins_early, hears_early, next_early, says_same}
-use Rattle.fs_peering.proofs.Answering.{Opens, opens_by}
-use Rattle.fs_peering.proofs.Phases.{Goes, awaits_open, quiet_by, unawaited, Quiet as IsQuiet}
-use Rattle.fs_peering.proofs.Courses.{Steps, but_last, course_more, keepalives, octets_more, steps, woke_is}
 
 -- the parts that are said behind others
 woven_more : (text : Sent → List ℕ) (parts more : List (Option Sent)) → woven text (parts ++ more) ≡ woven text parts ++ woven text more
@@ -277,7 +270,10 @@ begins_from a new started out out' e starts heard said s =
     let now : a.started ≡ false = s.started_is ∙ e in
     let begun : StartsWith false a new out out' = subst (λ (b : Bool). StartsWith b a new out out') now starts in
     let before = s.unstarted e in
-    let opening : List ℕ = open_sent a.config a.peer a.sending in (
+    let opening : List ℕ = open_sent a.config a.peer a.sending in
+    let none : said ≡ [] =
+    s.said_is ∙ ap (λ (b : Bool). (if b then opening else []) ++ (woven (text_in a s.four) s.parts ++ s.ending)) now
+    ∙ ap (λ (z : List (Option Sent)). woven (text_in a s.four) z ++ s.ending) before.0 ∙ before.1 in (
       opening,
       (
         begun.1,
@@ -285,25 +281,20 @@ begins_from a new started out out' e starts heard said s =
           started_is = refl;
           at = s.at;
           four = s.four;
-          parts = s.parts;
-          rules_are = s.rules_are;
-          ending = s.ending;
-          said_is =
-              ap (λ (z : List ℕ). z ++ opening)
-              (s.said_is ∙ ap (λ (b : Bool). (if b then opening else []) ++ (woven (text_in a s.four) s.parts ++ s.ending)) now
-              ∙ ap (λ (z : List (Option Sent)). woven (text_in a s.four) z ++ s.ending) before.0 ∙ before.1)
-              ∙ sym (append-nil opening)
-              ∙ ap (λ (z : List ℕ). opening ++ z) (sym (ap (λ (z : List (Option Sent)). woven (text_in a s.four) z ++ s.ending) before.0 ∙ before.1));
-          kept = s.kept;
+          parts = [];
+          rules_are = sym (ap rules_in before.0) ∙ s.rules_are;
+          ending = [];
+          said_is = ap (λ (z : List ℕ). z ++ opening) none ∙ sym (append-nil opening);
+          kept = sym (ap (λ (z : List (Option Sent)). without_rules z ++ s.ending) before.0 ∙ before.1) ∙ s.kept;
           lived = s.lived;
-          unended = s.unended;
-          began = λ f. began_same a.line.phase.state (s.began f);
+          unended = λ f. refl;
+          began = λ f. began_same a.line.phase.state (subst (Began a.line.phase.state a s.four heard) before.0 (s.began f));
           unstarted = λ f. absurd (never f);
         }),
       ),
     )
   where
-    began_same : (state : State) → Began state a s.four heard s.parts → Began state (has_started a) s.four heard s.parts
+    began_same : (state : State) → Began state a s.four heard [] → Began state (has_started a) s.four heard []
     began_same WaitOpen b = b
     began_same WaitKeep b = b
     began_same Established b = b

@@ -1,8 +1,6 @@
 -- An end that is settled stays so.
-use Rattle.fs_peering.proofs.Words.{Advanced, Announcing, Closed, FeedsEnd, Lined, Phase, StaysEnded, Step, TicksEnd, closed_after, is_established, machine_in, moved, needs_of, pending, state_in, step_by, stops, takes, waits, with_line, ◌≡◌, ◌||◌, ℕ, ◌+◌, ◌-◌, ◌≤◌, List, ◌++◌, length, take, drop, length-drop, Bool, true, false, Option, Some, None, Result, Ok, Err, refl, ap, sym, ◌∙◌, arith, true≢false, is_some, take_rest, KeepsSettled, is_settled, stops_at}
+use Rattle.fs_peering.proofs.{Words.{Advanced, Announcing, Closed, FeedsEnd, Lined, Phase, StaysEnded, Step, TicksEnd, closed_after, is_established, machine_in, moved, needs_of, pending, state_in, step_by, stops, takes, waits, with_line, ◌≡◌, ◌||◌, ℕ, ◌+◌, ◌-◌, ◌≤◌, List, ◌++◌, length, take, drop, length-drop, Bool, true, false, Option, Some, None, Result, Ok, Err, refl, ap, sym, ◌∙◌, arith, true≢false, is_some, take_rest, KeepsSettled, is_settled, stops_at}, Ahead.{alive_on}, Phases.{step_goes, unawaited}}
 use Rattle.fs_speaker.specs.declared.State.TheVariants.{Closed as IsClosed}
-use Rattle.fs_peering.proofs.Ahead.{alive_on}
-use Rattle.fs_peering.proofs.Phases.{step_goes, unawaited}
 
 -- one that has closed is settled
 shut_settled : (line : Lined) (why : Closed) → line.closed ≡ Some why → is_settled line ≡ true

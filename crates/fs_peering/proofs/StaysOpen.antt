@@ -1,11 +1,5 @@
 -- Where an end that hears pieces stays open: where the session of their octets does, and no hold time has passed.
-use Rattle.fs_peering.proofs.Words.{CanArrive, Closed, Config, Established, Expires, Handed, Last, Machine, Message, MessageFault, Needs, NoFamily, Open, Peer, Phase, Point, Sending, Times, Update, WaitKeep, WaitOpen, announcer, at_moment, at_start, closed, faulted, first_message, is_established, message_text, needs_of, open_body, open_sent, opened, parts_of, phase, plays, receiver, reply_to, rest_closes, runs, runs_by, session_by, session_from, still, taken, taken_in, tick_at, transition_by, wrong_at, ◌≡◌, ◌≢◌, ◌⊎◌, inl, inr, ℕ, zero, suc, ◌+◌, ◌*◌, ◌<◌, ◌≤◌, min, List, [], ◌∷◌, ◌++◌, length, Bool, true, false, ◌&&◌, ◌||◌, if◌then◌else◌, Option, Some, None, Result, Ok, Err, refl, ap, sym, ◌∙◌, subst, append_assoc, append-nil, arith, AllByRecursion, map-append, open_read, message_stable, text_first, ran, runs_none, runs_step, going, machine_takes, machine_waits, plays_none, plays_step, session_rest, step_found, Spans, most, Pieces, moments_in, octets_in, course_of, IsTimely, told_by, course, goes_by, goes_on, last_by, last_update, one_message, open_fits}
-use Rattle.fs_peering.proofs.Courses.{keepalives, octets_more}
-use Rattle.fs_peering.proofs.Phases.{Unheld, awaits_open, closed_still, hold_is, runs_unheld, same_still, session_on}
-use Rattle.fs_peering.proofs.Moments.{expires_late, positive}
-use Rattle.fs_peering.proofs.BothEnds.{least, peer_opens}
-use Rattle.fs_peering.proofs.Replying.{keepalives_front}
-use Rattle.fs_peering.proofs.Courses.{Steps, by_pieces, lived, steps, course_more}
+use Rattle.fs_peering.proofs.{Words.{CanArrive, Closed, Config, Established, Expires, Handed, Last, Machine, Message, MessageFault, Needs, NoFamily, Open, Peer, Phase, Point, Sending, Times, Update, WaitKeep, WaitOpen, announcer, at_moment, at_start, closed, faulted, first_message, is_established, message_text, needs_of, open_body, open_sent, opened, parts_of, phase, plays, receiver, reply_to, rest_closes, runs, runs_by, session_by, session_from, still, taken, taken_in, tick_at, transition_by, wrong_at, ◌≡◌, ◌≢◌, ◌⊎◌, inl, inr, ℕ, zero, suc, ◌+◌, ◌*◌, ◌<◌, ◌≤◌, min, List, [], ◌∷◌, ◌++◌, length, Bool, true, false, ◌&&◌, ◌||◌, if◌then◌else◌, Option, Some, None, Result, Ok, Err, refl, ap, sym, ◌∙◌, subst, append_assoc, append-nil, arith, AllByRecursion, map-append, open_read, message_stable, text_first, ran, runs_none, runs_step, going, machine_takes, machine_waits, plays_none, plays_step, session_rest, step_found, Spans, most, Pieces, moments_in, octets_in, course_of, IsTimely, told_by, course, goes_by, goes_on, last_by, last_update, one_message, open_fits}, Courses.{keepalives, octets_more, Steps, by_pieces, lived, steps, course_more}, Phases.{Unheld, awaits_open, closed_still, hold_is, runs_unheld, same_still, session_on}, Moments.{expires_late, positive}, BothEnds.{least, peer_opens}, Replying.{keepalives_front}}
 
 abbrev Made : Type 0
 Made = Result (Phase × Option Update) Closed
@@ -246,7 +240,7 @@ module _ (config : Config) (peer : Peer) (sending : Sending) where
   teller_opens can =
       let needs : Needs = needs_of sending.rules in
       ap (λ (r : Result Open MessageFault). opened teller r)
-      (open_read config.local_as config.hold_time config.local_id can.local_as can.hold_time can.local_id can.some_as can.not_one can.not_two can.some_id)
+      (open_read config.local_as config.hold_time config.local_id can.own.asn.small can.own.hold_time.small can.own.id.small can.own.asn.some can.own.hold_time.not_one can.own.hold_time.not_two can.own.id.some)
       ∙ ap (λ (b : Bool). if b then Err NoFamily else taken (phase WaitKeep true (min config.hold_time config.hold_time)) None) (none_lacks needs.v4 needs.v6)
       ∙ ap (λ (n : ℕ). Ok (phase WaitKeep true n, None)) (least config peer sending config.hold_time)
 

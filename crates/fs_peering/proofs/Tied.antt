@@ -1,6 +1,5 @@
 -- The octets up to the message that establishes a session, and the session of all octets.
-use Rattle.fs_peering.proofs.Words.{Closed, Last, Machine, Message, MessageFault, Phase, Update, closed, first_message, is_established, rest_closes, session_by, size_of, step_at, step_by, still, transition_by, wrong_at, ◌≡◌, ◌<◌, ◌≤◌, ℕ, zero, suc, List, [], ◌++◌, length, take, Bool, true, false, if◌then◌else◌, Option, Some, None, Result, Ok, Err, refl, ap, sym, ◌∙◌, subst, arith, append_assoc, append-nil, take-append-drop, is_first, message_shrinks, last_update, machine_stops, machine_takes, session_rest, step_found, opened_by, OpensAs, OpeningIsSession}
-use Rattle.fs_peering.proofs.OpenSteps.{going, opened_first, opened_rest}
+use Rattle.fs_peering.proofs.{Words.{Closed, Last, Machine, Message, MessageFault, Phase, Update, closed, first_message, is_established, rest_closes, session_by, size_of, step_at, step_by, still, transition_by, wrong_at, ◌≡◌, ◌<◌, ◌≤◌, ℕ, zero, suc, List, [], ◌++◌, length, take, Bool, true, false, if◌then◌else◌, Option, Some, None, Result, Ok, Err, refl, ap, sym, ◌∙◌, subst, arith, append_assoc, append-nil, take-append-drop, is_first, message_shrinks, last_update, machine_stops, machine_takes, session_rest, step_found, opened_by, OpensAs, OpeningIsSession}, OpenSteps.{going, opened_first, opened_rest}}
 
 abbrev Made : Type 0
 Made = Result (Phase × Option Update) Closed

@@ -1,4 +1,4 @@
-use Rattle.fs_peering.proofs.Words.{Config, inl, inr, ℕ, ◌+◌, ◌*◌, ◌<◌, ◌≤◌, List, [], ◌∷◌, ◌++◌, Bool, true, false, if◌then◌else◌, AllByRecursion, Heard, moments_of, of_first, of_second, Pieces, moments_in, IsTimely}
+use Rattle.fs_peering.proofs.Words.{Config, inl, inr, ℕ, ◌+◌, ◌*◌, ◌<◌, ◌≤◌, List, [], ◌∷◌, ◌++◌, Bool, true, false, not, flat_map, if◌then◌else◌, AllByRecursion, Heard, heard_by, moments_of, Pieces, moments_in, IsTimely}
 
 -- Of moments between which no hold time can have passed some.
 
@@ -19,24 +19,14 @@ timely_up_to config earlier later moment piece t =
     timely_by config (moments_in earlier ++ moment ∷ []) (moments_in (earlier ++ (moment, piece) ∷ later)) (λ P a. up_to P earlier later moment piece a) t
 
 -- those of one end
-first_ones : (P : ℕ → Type 0) (events : List Heard) → AllByRecursion P (moments_of events) → AllByRecursion P (moments_in (of_first events))
-first_ones P [] a = tt
-first_ones P (event ∷ events) a = by (first_ones P events a.1) event.first
+ones : (P : ℕ → Type 0) (which : Bool) (events : List Heard) → AllByRecursion P (moments_of events) → AllByRecursion P (moments_in (flat_map (heard_by which) events))
+ones P which [] a = tt
+ones P which (event ∷ events) a = by (ones P which events a.1) (if which then event.first else not event.first)
   where
-    by : AllByRecursion P (moments_in (of_first events)) → (b : Bool) → AllByRecursion P (moments_in ((if b then (event.moment, event.piece) ∷ [] else []) ++ of_first events))
+    by : AllByRecursion P (moments_in (flat_map (heard_by which) events)) → (b : Bool)
+        → AllByRecursion P (moments_in ((if b then (event.moment, event.piece) ∷ [] else []) ++ flat_map (heard_by which) events))
     by rest true = (a.0, rest)
     by rest false = rest
 
-second_ones : (P : ℕ → Type 0) (events : List Heard) → AllByRecursion P (moments_of events) → AllByRecursion P (moments_in (of_second events))
-second_ones P [] a = tt
-second_ones P (event ∷ events) a = by (second_ones P events a.1) event.first
-  where
-    by : AllByRecursion P (moments_in (of_second events)) → (b : Bool) → AllByRecursion P (moments_in ((if b then [] else (event.moment, event.piece) ∷ []) ++ of_second events))
-    by rest true = rest
-    by rest false = (a.0, rest)
-
-pub timely_first : (config : Config) (events : List Heard) → IsTimely config (moments_of events) → IsTimely config (moments_in (of_first events))
-timely_first config events t = timely_by config (moments_in (of_first events)) (moments_of events) (λ P a. first_ones P events a) t
-
-pub timely_second : (config : Config) (events : List Heard) → IsTimely config (moments_of events) → IsTimely config (moments_in (of_second events))
-timely_second config events t = timely_by config (moments_in (of_second events)) (moments_of events) (λ P a. second_ones P events a) t
+pub timely_one : (config : Config) (which : Bool) (events : List Heard) → IsTimely config (moments_of events) → IsTimely config (moments_in (flat_map (heard_by which) events))
+timely_one config which events t = timely_by config (moments_in (flat_map (heard_by which) events)) (moments_of events) (λ P a. ones P which events a) t

@@ -1,13 +1,7 @@
 -- A receiving end that hears what the announcing end says doesn't close, where nothing hinders the rules.
-use Rattle.fs_peering.proofs.Words.{CanArrive, Closed, ComesBack, Config, Established, Handed, Last, Message, MessageFault, Peer, Phase, Point, Sending, Sent, Update, WaitKeep, WaitOpen, at_moment, at_start, bounded, bounded_from, bounded_replies, bounded_replies_from, closed, first_message, first_over, handed, open_sent, peer_of, phase, receiver, replies_to_limit, reply_at, reply_to, session_from, still, text_sent, tick_at, ticked, ticks, too_many, update_sent, wrong_at, ◌≡◌, ◌⊎◌, inl, inr, ℕ, zero, suc, ◌≤◌, List, [], ◌∷◌, ◌++◌, length, map, take, Bool, true, Option, Some, None, Ok, refl, ap, sym, ◌∙◌, subst, append_assoc, append-nil, arith, AllByRecursion, flat_map-append, none-some, fault_stays, message_stable, replies_rest, replies_takes, wrong_first, machine_takes, session_rest, step_found, Pieces, moments_in, octets_in, ClosesIn, ExpiresAt, HasClosed, course_of, IsTimely, MayHold, TookOpen, rules_in, woven}
+use Rattle.fs_peering.proofs.{Words.{CanArrive, Closed, ComesBack, Config, Established, Handed, Last, Message, MessageFault, Peer, Phase, Point, Sending, Sent, Update, WaitKeep, WaitOpen, at_moment, at_start, bounded, bounded_from, bounded_replies, bounded_replies_from, closed, first_message, first_over, handed, open_sent, peer_of, phase, receiver, replies_to_limit, reply_at, reply_to, session_from, still, text_sent, tick_at, ticked, ticks, too_many, update_sent, wrong_at, ◌≡◌, ◌⊎◌, inl, inr, ℕ, zero, suc, ◌≤◌, List, [], ◌∷◌, ◌++◌, length, map, take, Bool, true, Option, Some, None, Ok, refl, ap, sym, ◌∙◌, subst, append_assoc, append-nil, arith, AllByRecursion, flat_map-append, none-some, fault_stays, message_stable, replies_rest, replies_takes, wrong_first, machine_takes, session_rest, step_found, Pieces, moments_in, octets_in, ClosesIn, ExpiresAt, HasClosed, course_of, IsTimely, MayHold, TookOpen, rules_in, woven}, Limits.{within}, Phases.{awaits_open, session_on}, BothEnds.{answers, meets, open_first, own_message, parts_arrive, peer_opens}, Replying.{waits_silent}, StaysOpen.{hearer_hold, never_due, stands}, Timely.{timely_up_to}}
 use Rattle.std.proofs.lemmas.Bool.{true≢false as never}
 use Rattle.fs_speaker.specs.Replies.{replies_from, reply_rest}
-use Rattle.fs_peering.proofs.Limits.{within}
-use Rattle.fs_peering.proofs.Phases.{awaits_open, session_on}
-use Rattle.fs_peering.proofs.BothEnds.{answers, meets, open_first, own_message, parts_arrive, peer_opens}
-use Rattle.fs_peering.proofs.Replying.{waits_silent}
-use Rattle.fs_peering.proofs.StaysOpen.{hearer_hold, never_due, stands}
-use Rattle.fs_peering.proofs.Timely.{timely_up_to}
 
 all_take : (P : Sent → Type 0) (n : ℕ) (rules : List Sent) → AllByRecursion P rules → AllByRecursion P (take n rules)
 all_take P zero rules a = tt

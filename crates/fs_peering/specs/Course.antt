@@ -1,8 +1,6 @@
 -- What an end of a session comes to that hears pieces over a wire: at each of them first the clock, and then the piece.
 use Rattle.std.specs.Prelude.{ℕ, List, [], ◌∷◌, ◌++◌}
-use Rattle.fs_speaker.specs.End.{first_point, ticked}
-use Rattle.fs_speaker.specs.Handed.{Handed, Point, hand, handed}
-use Rattle.fs_speaker.specs.Transition.{Machine}
+use Rattle.fs_speaker.specs.{End.{first_point, ticked}, Handed.{Handed, Point, hand, handed}, Transition.{Machine}}
 use Rattle.fs_peering.specs.Round.{Pieces}
 
 -- what was taken and answered first, and then

@@ -1,24 +1,11 @@
 -- The receiving end of a session over a wire, by the pieces that it heard and what it said.
 use Rattle.std.specs.Prelude.{◌≡◌, ◌⊎◌, ℕ, List, [], ◌∷◌, ◌++◌, length, Bool, true, false, Some, None}
-use Rattle.fs_base.specs.Config.{peer_of}
-use Rattle.fs_base.specs.declared.config.Config.{Config}
-use Rattle.fs_base.specs.declared.config.Peer.{Peer}
-use Rattle.fs_speaker.specs.End.{ticked}
-use Rattle.fs_speaker.specs.Handed.{Handed}
-use Rattle.fs_speaker.specs.Session.{Live}
-use Rattle.fs_speaker.specs.Side.{notice_text, receiver}
-use Rattle.fs_speaker.specs.Times.{at_moment, tick_at}
-use Rattle.fs_speaker.specs.declared.Closed.{Closed}
-use Rattle.fs_speaker.specs.declared.Closed.TheVariants.{Fault}
-use Rattle.fs_speaker.specs.declared.Standing.{Standing}
-use Rattle.fs_speaker.specs.declared.Standing.TheVariants.{Ended}
+use Rattle.fs_base.specs.{Config.{peer_of}, declared.config.{Config.{Config}, Peer.{Peer}}}
+use Rattle.fs_speaker.specs.{End.{ticked}, Handed.{Handed}, Session.{Live}, Side.{notice_text, receiver}, Times.{at_moment, tick_at}, declared.{Closed.{Closed, TheVariants.{Fault}}, Standing.{Standing, TheVariants.{Ended}}}}
 use Rattle.fs_session.specs.declared.times.Tick.TheVariants.{Expires}
 use Rattle.fs_tape.specs.Tape.{Item, came_up, received}
-use Rattle.fs_desk.specs.Desk.{Desked, Played, session_at, standing_at_desk}
-use Rattle.fs_desk.specs.Limit.{bounded_replies}
-use Rattle.fs_desk.specs.Receive.{IsOver, point_of}
-use Rattle.fs_peering.specs.Round.{Pieces, octets_in}
-use Rattle.fs_peering.specs.Course.{course}
+use Rattle.fs_desk.specs.{Desk.{Desked, Played, session_at, standing_at_desk}, Limit.{bounded_replies}, Receive.{IsOver, point_of}}
+use Rattle.fs_peering.specs.{Round.{Pieces, octets_in}, Course.{course}}
 
 -- the tape of a peer that came up and sent these octets
 abbrev pub tape_of : ℕ → List ℕ → List Item

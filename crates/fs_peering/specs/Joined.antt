@@ -1,10 +1,7 @@
 -- What two ends that are joined hear of each other.
-use Rattle.std.specs.Prelude.{ℕ, List, [], ◌∷◌, ◌++◌, ◌≡◌, ◌<◌, ◌≤◌, ◌⊎◌, Bool, true, false, if◌then◌else◌, flat_map, map, Option, length, IsTrue}
-use Rattle.fs_base.specs.Sink.{Grew}
-use Rattle.fs_base.specs.Wire.{Told, WireEnd, WireEnds}
-use Rattle.fs_peering.specs.Round.{Pieces, Stance, octets_in}
-use Rattle.fs_peering.specs.declared.joined.Talk.{Talk}
-use Rattle.fs_peering.specs.declared.joined.Talk.TheVariants.{Done, FirstOver, SecondOver, AtLimit, Broken}
+use Rattle.std.specs.Prelude.{ℕ, List, [], ◌∷◌, ◌++◌, ◌≡◌, ◌<◌, ◌≤◌, ◌⊎◌, Bool, true, false, not, if◌then◌else◌, flat_map, map, Option, length, IsTrue}
+use Rattle.fs_base.specs.{Sink.{Grew}, Wire.{Told, WireEnd, WireEnds}}
+use Rattle.fs_peering.specs.{Round.{Pieces, Stance, octets_in}, declared.joined.Talk.{Talk, TheVariants.{Done, FirstOver, SecondOver, AtLimit, Broken}}}
 
 -- a piece that an end heard at a moment: the first end, or the second
 pub record Heard : Type 0 where
@@ -13,8 +10,7 @@ pub record Heard : Type 0 where
   pub piece : List ℕ
 
 abbrev pub heard_by : Bool → Heard → Pieces
-heard_by true event = if event.first then (event.moment, event.piece) ∷ [] else []
-heard_by false event = if event.first then [] else (event.moment, event.piece) ∷ []
+heard_by first event = if (if first then event.first else not event.first) then (event.moment, event.piece) ∷ [] else []
 
 -- of the events those of one end
 abbrev pub of_first : List Heard → Pieces
@@ -55,16 +51,6 @@ pub record Ended : Type 0 where
   pub begun : Bool
   pub count : ℕ
   pub ahead : ℕ
-
-abbrev pub ended : (over_first over_second ready begun : Bool) → (count ahead : ℕ) → Ended
-ended over_first over_second ready begun count ahead = record {
-  over_first = over_first;
-  over_second = over_second;
-  ready = ready;
-  begun = begun;
-  count = count;
-  ahead = ahead;
-}
 
 -- The second end says no more, and the first heard all that it said. Where the second isn't ready, it heard all that
 -- the first said; where it is, it has said all.

@@ -1,27 +1,11 @@
 -- When a session closes for its hold time: the moments of an end that hears pieces lie so far apart. No octets do that.
 -- And what an announcing end hears up to the message that establishes its session is as the session has it.
-use Rattle.std.specs.Prelude.{◌≡◌, ◌≢◌, ◌⊎◌, ℕ, ◌*◌, ◌^◌, ◌<◌, List, [], ◌∷◌, ◌++◌, map, take, None, Some}
-use Rattle.std.specs.List.{AllByRecursion}
-use Rattle.fs_base.specs.declared.config.Config.{Config}
-use Rattle.fs_base.specs.declared.config.Peer.{Peer}
+use Rattle.std.specs.{Prelude.{◌≡◌, ◌≢◌, ◌⊎◌, ℕ, ◌*◌, ◌^◌, ◌<◌, List, [], ◌∷◌, ◌++◌, map, take, None, Some}, List.{AllByRecursion}}
+use Rattle.fs_base.specs.declared.config.{Config.{Config}, Peer.{Peer}}
 use Rattle.fs_desk.specs.Limit.{bounded_from}
-use Rattle.fs_peering.specs.HoldTime.{Spans}
-use Rattle.fs_peering.specs.Opening.{opened_by}
-use Rattle.fs_speaker.specs.Announcer.{CanSend}
-use Rattle.fs_speaker.specs.JointLaws.{IsUnnamed}
-use Rattle.fs_speaker.specs.Laws.{IsSent}
-use Rattle.fs_speaker.specs.Sending.{update_sent}
-use Rattle.fs_speaker.specs.World.{run}
-use Rattle.fs_speaker.specs.declared.Sending.{Sending}
-use Rattle.fs_speaker.specs.declared.event.Event.{Event}
-use Rattle.fs_speaker.specs.Session.{Last, closed, session_by, still}
-use Rattle.fs_speaker.specs.Times.{at_moment, tick_at}
-use Rattle.fs_speaker.specs.Transition.{Machine}
-use Rattle.fs_speaker.specs.declared.Closed.TheVariants.{Fault, Notified}
-use Rattle.fs_session.specs.declared.times.Tick.TheVariants.{Expires}
-use Rattle.fs_session.specs.declared.transition.Phase.{Phase}
-use Rattle.fs_peering.specs.Round.{Pieces, moments_in}
-use Rattle.fs_peering.specs.Course.{course}
+use Rattle.fs_peering.specs.{HoldTime.{Spans}, Opening.{opened_by}, Round.{Pieces, moments_in}, Course.{course}}
+use Rattle.fs_speaker.specs.{Announcer.{CanSend}, JointLaws.{IsUnnamed}, Laws.{IsSent}, Numbers.{HasOwnNumbers, IsFourOctet}, Sending.{update_sent}, World.{run}, declared.{Sending.{Sending}, event.Event.{Event}, Closed.TheVariants.{Fault, Notified}}, Session.{Last, closed, session_by, still}, Times.{at_moment, tick_at}, Transition.{Machine}}
+use Rattle.fs_session.specs.declared.{times.Tick.TheVariants.{Expires}, transition.Phase.{Phase}}
 
 -- Either end, wherever pieces at moments leave it open: where its hold time has expired at one moment more, it agreed on
 -- one above 0, and of these moments a later one lies at least so much above an earlier one.
@@ -56,15 +40,8 @@ OpeningIsSession =
 -- The numbers and rules of a configuration and a rules file are as these have them: the numbers fit, no AS is 0, and each
 -- rule is as octets say it.
 pub record AreRead (config : Config) (peer : Peer) (sending : Sending) : Type 0 where
-  pub local_as : config.local_as < 2 ^ 32
-  pub some_as : 0 < config.local_as
-  pub local_id : config.local_id < 2 ^ 32
-  pub some_id : 0 < config.local_id
-  pub hold_time : config.hold_time < 2 ^ 16
-  pub not_one : config.hold_time ≢ 1
-  pub not_two : config.hold_time ≢ 2
-  pub peer_as : peer.asn < 2 ^ 32
-  pub some_peer : 0 < peer.asn
+  pub own : HasOwnNumbers config
+  pub asn : IsFourOctet peer.asn
   pub id : sending.id < 2 ^ 32
   pub path : AllByRecursion (λ asn. asn < 2 ^ 32) sending.as_path
   pub rules : AllByRecursion IsSent sending.rules

@@ -1,10 +1,7 @@
 -- What an end hears of a stream.
 use Rattle.std.specs.Prelude.{ℕ, List, [], ◌≡◌, ◌<◌, ◌≤◌, Bool, true, false, Option, length}
-use Rattle.fs_base.specs.Sink.{Grew}
-use Rattle.fs_base.specs.Wire.{Told, WireEnds, end_at}
-use Rattle.fs_peering.specs.Round.{Part, Pieces, Stance, moments_in}
-use Rattle.fs_peering.specs.declared.listening.Stopped.{Stopped}
-use Rattle.fs_peering.specs.declared.listening.Stopped.TheVariants.{All, Over, AtLimit}
+use Rattle.fs_base.specs.{Sink.{Grew}, Wire.{Told, WireEnds, end_at}}
+use Rattle.fs_peering.specs.{Round.{Part, Pieces, Stance, moments_in}, declared.listening.Stopped.{Stopped, TheVariants.{All, Over, AtLimit}}}
 
 -- The end heard pieces, each at the moment that the clock answered behind its read, and said octets.
 pub record Listened (old new : Stance) (place : ℕ) (given : List ℕ) (before now : WireEnds) : Type 0 where

@@ -1,11 +1,8 @@
 -- What the octets come to that an announcing end hears, up to and with the message that establishes its session.
 use Rattle.std.specs.Prelude.{ℕ, List, [], ◌∷◌, Option, Ok, Err, if◌then◌else◌, option_map}
 use Rattle.fs_base.specs.Parts.{parts_of}
-use Rattle.fs_message.specs.declared.fault.MessageFault.{MessageFault}
-use Rattle.fs_message.specs.Stream.{Message, first_message, wrong_at}
-use Rattle.fs_speaker.specs.Announcer.{is_established}
-use Rattle.fs_speaker.specs.Session.{Last, closed, rest_closes, still}
-use Rattle.fs_speaker.specs.Transition.{Machine, transition_by}
+use Rattle.fs_message.specs.{declared.fault.MessageFault.{MessageFault}, Stream.{Message, first_message, wrong_at}}
+use Rattle.fs_speaker.specs.{Announcer.{is_established}, Session.{Last, closed, rest_closes, still}, Transition.{Machine, transition_by}}
 use Rattle.fs_session.specs.declared.transition.Phase.{Phase}
 
 -- the message at the front, with the octets behind it

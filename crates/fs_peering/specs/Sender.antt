@@ -1,25 +1,10 @@
 -- The announcing end of a session over a wire, by the pieces that it heard and what it said.
 use Rattle.std.specs.Prelude.{◌≡◌, ◌+◌, ℕ, List, [], ◌∷◌, ◌++◌, length, take, flat_map, Bool, true, false, Option, Some, None, Ok}
 use Rattle.fs_base.specs.declared.config.Config.{Config}
-use Rattle.fs_message.specs.Deframer.{pending}
-use Rattle.fs_message.specs.Open.{open_of}
-use Rattle.fs_message.specs.Stream.{Message, first_message}
-use Rattle.fs_message.specs.Write.{message_text}
-use Rattle.fs_message.specs.declared.open_.Open.{Open}
-use Rattle.fs_speaker.specs.End.{StandsAt}
-use Rattle.fs_speaker.specs.Announcer.{Announcing, is_established, machine_in, with_line}
-use Rattle.fs_speaker.specs.Line.{Lined}
-use Rattle.fs_speaker.specs.Sending.{text_sent}
-use Rattle.fs_speaker.specs.Session.{at_start, still}
-use Rattle.fs_speaker.specs.Transition.{Machine}
-use Rattle.fs_speaker.specs.declared.Sent.{Sent}
-use Rattle.fs_speaker.specs.declared.State.{State}
-use Rattle.fs_speaker.specs.declared.State.TheVariants.{WaitOpen}
+use Rattle.fs_message.specs.{Deframer.{pending}, Open.{open_of}, Stream.{Message, first_message}, Write.{message_text}, declared.open_.Open.{Open}}
+use Rattle.fs_speaker.specs.{End.{StandsAt}, Announcer.{Announcing, is_established, machine_in, with_line}, Line.{Lined}, Sending.{text_sent}, Session.{at_start, still}, Transition.{Machine}, declared.{Sent.{Sent}, State.{State, TheVariants.{WaitOpen}}}}
 use Rattle.fs_session.specs.declared.transition.Phase.{Phase}
-use Rattle.fs_peering.specs.Opening.{opened_by}
-use Rattle.fs_peering.specs.Teller.{HasHeard, is_settled, opening_of}
-use Rattle.fs_peering.specs.Round.{Pieces, octets_in}
-use Rattle.fs_peering.specs.Course.{course}
+use Rattle.fs_peering.specs.{Opening.{opened_by}, Teller.{HasHeard, is_settled, opening_of}, Round.{Pieces, octets_in}, Course.{course}}
 
 -- KEEPALIVEs, and between them the UPDATEs of rules
 abbrev pub part_text : (Sent → List ℕ) → Option Sent → List ℕ

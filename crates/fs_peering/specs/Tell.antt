@@ -1,23 +1,9 @@
 -- What an announcing end says over a wire, and how that ends.
 use Rattle.std.specs.Prelude.{◌≡◌, ℕ, ◌+◌, ◌≤◌, ◌<◌, List, [], ◌∷◌, ◌++◌, length, flat_map, true, false, Option, Some}
-use Rattle.fs_base.specs.declared.config.Config.{Config}
-use Rattle.fs_base.specs.declared.config.Peer.{Peer}
-use Rattle.fs_base.specs.Sink.{Grew}
-use Rattle.fs_base.specs.Wire.{Told, WireEnds}
-use Rattle.fs_speaker.specs.declared.Sending.{Sending}
-use Rattle.fs_speaker.specs.Announcer.{Announcing, announcing, is_established, open_sent}
-use Rattle.fs_speaker.specs.Line.{fresh}
-use Rattle.fs_speaker.specs.Sending.{needs_of, text_sent}
-use Rattle.fs_speaker.specs.Session.{at_start, still}
-use Rattle.fs_speaker.specs.Side.{announcer}
-use Rattle.fs_speaker.specs.Transition.{Machine}
+use Rattle.fs_base.specs.{declared.config.{Config.{Config}, Peer.{Peer}}, Sink.{Grew}, Wire.{Told, WireEnds}}
+use Rattle.fs_speaker.specs.{declared.Sending.{Sending}, Announcer.{Announcing, announcing, is_established, open_sent}, Line.{fresh}, Sending.{needs_of, text_sent}, Session.{at_start, still}, Side.{announcer}, Transition.{Machine}}
 use Rattle.fs_session.specs.declared.transition.Phase.{Phase}
-use Rattle.fs_peering.specs.Round.{Pieces, moments_in, octets_in}
-use Rattle.fs_peering.specs.declared.tell.Ending.{Ending}
-use Rattle.fs_peering.specs.declared.tell.Ending.TheVariants.{Done, Closed as HasClosed, Ended, AtLimit}
-use Rattle.fs_peering.specs.Course.{course}
-use Rattle.fs_peering.specs.Opening.{opened_by}
-use Rattle.fs_peering.specs.Teller.{ClosesSo, IsListening}
+use Rattle.fs_peering.specs.{Round.{Pieces, moments_in, octets_in}, declared.tell.Ending.{Ending, TheVariants.{Done, Closed as HasClosed, Ended, AtLimit}}, Course.{course}, Opening.{opened_by}, Teller.{ClosesSo, IsListening}}
 
 -- What an announcing end says before its rules that hears these pieces: its OPEN, what is answered to them, and what the
 -- clock appends.

@@ -2,8 +2,7 @@
 
 ghost use Rattle.std.specs.Prelude.{◌≡◌, [], false, IfOk, IsSome};
 ghost use Rattle.fs_base.specs.Config.{peer_of};
-ghost use Rattle.fs_peering.specs.Hearer.{Receives, is_ended};
-ghost use Rattle.fs_peering.specs.Listen.{is_settled};
+ghost use Rattle.fs_peering.specs.{Hearer.{Receives, is_ended}, Listen.{is_settled}};
 
 use crate::speaker::Speaker;
 use crate::steps::{is_established, sum};

@@ -1,9 +1,8 @@
 //! Two ends that are joined to each other, alternately.
 
-ghost use Rattle.std.specs.Prelude.{◌≡◌, ◌≤◌, ◌<◌, ◌+◌, ◌-◌, false, IfOk, OnOk};
-ghost use Rattle.std.specs.Result.{IsErrOf};
+ghost use Rattle.std.specs.{Prelude.{◌≡◌, ◌≤◌, ◌<◌, ◌+◌, ◌-◌, false, IfOk, OnOk}, Result.{IsErrOf}};
 ghost use Rattle.fs_base.specs.Outside.{Rose};
-ghost use Rattle.fs_peering.specs.Joined.{Exchanges, ended};
+ghost use Rattle.fs_peering.specs.Joined.{Exchanges};
 
 use crate::buffers::Buffers;
 use crate::fault::TalkFault;
@@ -121,13 +120,14 @@ pub fn exchange<W: Wire, C: Clock, R: Speaker, A: Speaker>(
         (R.stands first.new)
         (A.stands second.old)
         (A.stands second.new)
-        (ended
-        (R.over first.new)
-        (A.over second.new)
-        (A.ready second.new)
-        (A.begun second.new)
-        (A.count second.new)
-        (A.ahead second.new))
+        (record {
+          over_first = R.over first.new;
+          over_second = A.over second.new;
+          ready = A.ready second.new;
+          begun = A.begun second.new;
+          count = A.count second.new;
+          ahead = A.ahead second.new;
+        })
         limit
         (W.tells wire.old)
         (W.tells wire.new)

@@ -1,11 +1,9 @@
 //! A receiving end over a wire.
 
-ghost use Rattle.std.specs.Prelude.{◌≡◌, ◌≤◌, if◌then◌else◌, false, IfOk, []};
-ghost use Rattle.std.specs.Result.{IsErrOf};
+ghost use Rattle.std.specs.{Prelude.{◌≡◌, ◌≤◌, if◌then◌else◌, false, IfOk, []}, Result.{IsErrOf}};
 ghost use Rattle.fs_base.specs.Outside.{Rose};
 ghost use Rattle.fs_desk.specs.Desk.{standing_at_desk};
-ghost use Rattle.fs_peering.specs.Hearer.{Receives, is_ended};
-ghost use Rattle.fs_peering.specs.Listen.{EndsHearing, ListensOver, is_settled};
+ghost use Rattle.fs_peering.specs.{Hearer.{Receives, is_ended}, Listen.{EndsHearing, ListensOver, is_settled}};
 ghost use Rattle.fs_speaker.specs.declared.Closed.{Closed};
 
 use crate::buffers::Buffers;

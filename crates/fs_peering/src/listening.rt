@@ -1,7 +1,6 @@
 //! Hearing a stream to its end.
 
-ghost use Rattle.std.specs.Prelude.{◌≡◌, ◌≤◌, ◌<◌, false, IfOk, OnOk};
-ghost use Rattle.std.specs.Result.{IsErrOf};
+ghost use Rattle.std.specs.{Prelude.{◌≡◌, ◌≤◌, ◌<◌, false, IfOk, OnOk}, Result.{IsErrOf}};
 ghost use Rattle.fs_base.specs.Outside.{Rose};
 ghost use Rattle.fs_peering.specs.Listening.{HearsOut};
 

@@ -1,16 +1,9 @@
 //! Both ends over a wire that joins them.
 
-ghost use Rattle.std.specs.Prelude.{◌≡◌, ◌≤◌, [], Some, false, true, IfOk};
-ghost use Rattle.std.specs.Result.{IsErrOf};
-ghost use Rattle.fs_base.specs.Config.{peer_of};
-ghost use Rattle.fs_base.specs.Outside.{Rose};
-ghost use Rattle.fs_base.specs.declared.config.Config.{Config};
-ghost use Rattle.fs_base.specs.declared.config.Peer.{Peer};
+ghost use Rattle.std.specs.{Prelude.{◌≡◌, ◌≤◌, [], Some, false, true, IfOk}, Result.{IsErrOf}};
+ghost use Rattle.fs_base.specs.{Config.{peer_of}, Outside.{Rose}, declared.config.{Config.{Config}, Peer.{Peer}}};
 ghost use Rattle.fs_desk.specs.Desk.{standing_at_desk};
-ghost use Rattle.fs_peering.specs.Tell.{begins_with};
-ghost use Rattle.fs_peering.specs.Hearer.{Receives, is_ended};
-ghost use Rattle.fs_peering.specs.Pair.{EndsTalk, PairsOver};
-ghost use Rattle.fs_peering.specs.Teller.{is_over};
+ghost use Rattle.fs_peering.specs.{Tell.{begins_with}, Hearer.{Receives, is_ended}, Pair.{EndsTalk, PairsOver}, Teller.{is_over}};
 ghost use Rattle.fs_speaker.specs.declared.Sending.{Sending};
 
 use crate::buffers::Buffers;

@@ -1,6 +1,6 @@
 //! What every announcing end does: it says its OPEN and the UPDATEs of its rules, and counts the octets that it hears.
 
-ghost use Rattle.std.specs.Prelude.{◌≡◌, ◌≢◌, ◌≤◌, ◌+◌, Bool, None, IfOk, OnOk};
+ghost use Rattle.std.specs.Prelude.{◌≡◌, ◌≢◌, ◌≤◌, ◌+◌, Bool, None, true, false, IfOk, OnOk};
 ghost use Rattle.fs_speaker.specs.Announcer.{SaysText, StartsWith, is_established, next_text};
 ghost use Rattle.fs_peering.specs.Teller.{ahead_of, is_settled};
 
@@ -80,4 +80,20 @@ pub fn sum(count: u64, more: usize) -> Result<u64, Memory>
     ensures { IfOk result (λ both. both ≡ count + more) }
 {
     count.checked_add(more as u64).ok_or(Memory)
+}
+
+/// The count of octets that an end heard up to where it was ready, with so many more.
+///
+/// # Errors
+///
+/// `Memory` where the count doesn't fit: no machine holds so many.
+pub fn count_on(count: u64, more: usize, was_ready: bool) -> Result<u64, Memory>
+    ensures added { IfOk result (λ both. was_ready ≡ false → both ≡ count + more) }
+    ensures kept { IfOk result (λ both. was_ready ≡ true → both ≡ count) }
+{
+    if was_ready {
+        Ok(count)
+    } else {
+        sum(count, more)
+    }
 }

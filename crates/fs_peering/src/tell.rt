@@ -1,13 +1,9 @@
 //! An announcing end over a wire.
 
-ghost use Rattle.std.specs.Prelude.{◌≡◌, ◌≤◌, false, IfOk};
-ghost use Rattle.std.specs.Result.{IsErrOf};
-ghost use Rattle.fs_base.specs.Outside.{Rose};
-ghost use Rattle.fs_base.specs.declared.config.Config.{Config};
-ghost use Rattle.fs_base.specs.declared.config.Peer.{Peer};
+ghost use Rattle.std.specs.{Prelude.{◌≡◌, ◌≤◌, false, IfOk}, Result.{IsErrOf}};
+ghost use Rattle.fs_base.specs.{Outside.{Rose}, declared.config.{Config.{Config}, Peer.{Peer}}};
 ghost use Rattle.fs_speaker.specs.declared.Sending.{Sending};
-ghost use Rattle.fs_peering.specs.Tell.{TellsOver, begins_with};
-ghost use Rattle.fs_peering.specs.Teller.{is_over};
+ghost use Rattle.fs_peering.specs.{Tell.{TellsOver, begins_with}, Teller.{is_over}};
 
 use crate::buffers::Buffers;
 use crate::fault::TalkFault;

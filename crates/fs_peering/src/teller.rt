@@ -1,14 +1,11 @@
 //! The announcing end of a session.
 
 ghost use Rattle.std.specs.Prelude.{◌≡◌, ◌≤◌, ◌<◌, [], Bool, true, false, length, IfOk, IfSome, OnOk};
-ghost use Rattle.fs_speaker.specs.Announcer.{machine_in};
-ghost use Rattle.fs_speaker.specs.End.{TicksOver};
-ghost use Rattle.fs_peering.specs.Round.{Says};
-ghost use Rattle.fs_peering.specs.Teller.{SaysTo, ShutsBy, ahead_of, before_all, stops_at};
-ghost use Rattle.fs_peering.specs.Sender.{CountsOn, KeepsHand, KeepsSettled, SaysOn};
+ghost use Rattle.fs_speaker.specs.{Announcer.{machine_in}, End.{TicksOver}};
+ghost use Rattle.fs_peering.specs.{Round.{Says}, Teller.{SaysTo, ShutsBy, ahead_of, before_all, stops_at}, Sender.{CountsOn, KeepsHand, KeepsSettled, SaysOn}};
 
 use crate::speaker::Speaker;
-use crate::steps::{closes, is_established, is_settled, say, start, sum};
+use crate::steps::{closes, count_on, is_established, is_settled, say, start};
 use fs_base::{Config, Memory};
 use fs_speaker::{Announcer, Closed, Sending};
 use std::alloc::Global;
@@ -25,9 +22,7 @@ pub struct Teller<'a> {
 }
 
 impl<'a> Teller<'a> {
-    ghost use Rattle.fs_speaker.specs.Announcer.{CanSend, announcing};
-    ghost use Rattle.fs_speaker.specs.Line.{fresh};
-    ghost use Rattle.fs_speaker.specs.Sending.{sender_of};
+    ghost use Rattle.fs_speaker.specs.{Announcer.{CanSend, announcing}, Line.{fresh}, Sending.{sender_of}};
     ghost use Rattle.fs_peering.specs.Teller.{is_over};
 
     /// The end of the peer with the lowest number, before its OPEN. `hears_on` says whether it takes octets behind the
@@ -150,8 +145,7 @@ fn take(
 
 impl<'a> Speaker for Teller<'a> {
     ghost use Rattle.std.specs.Option.{is_some};
-    ghost use Rattle.fs_peering.specs.Teller.{is_over, is_settled};
-    ghost use Rattle.fs_peering.specs.Sender.{SaysUpTo};
+    ghost use Rattle.fs_peering.specs.{Teller.{is_over, is_settled}, Sender.{SaysUpTo}};
 
     ghost stands = { λ t heard said. SaysUpTo t.hears_on t.announcer t.started t.count heard said };
 
@@ -177,9 +171,7 @@ impl<'a> Speaker for Teller<'a> {
         self.started = true;
         wake(&mut self.announcer, moment, out)?;
         let needed = take(&mut self.announcer, self.hears_on, moment, piece, out)?;
-        if !was_ready {
-            self.count = sum(self.count, needed)?;
-        }
+        self.count = count_on(self.count, needed, was_ready)?;
         Ok(())
     }
 

@@ -1,10 +1,7 @@
 -- The numbers of a block are those whose first bits are the block's.
-use Rattle.fs_ranges.proofs.Words.{◌≡◌, ℕ, ◌+◌, ◌-◌, ◌*◌, ◌/◌, ◌%◌, ◌^◌, ◌<◌, ◌≤◌, ◌==◌, true, ◌&&◌, nat_le, refl, sym, ap, subst, ◌∙◌, arith, inl, inr, div-add-mod', pow_pos, and_right, cases_lt, eq-eqb, eqb-true, lt-leb, Family, cleared, IsBlock, block_of, same_tests, V4Body, V6Body, IsSoundBody, is_prefix_of, Pattern, IsSmallAddress, address_number, IsPatternOf, is_under}
+use Rattle.fs_ranges.proofs.{Words.{◌≡◌, ℕ, ◌+◌, ◌-◌, ◌*◌, ◌/◌, ◌%◌, ◌^◌, ◌<◌, ◌≤◌, ◌==◌, true, ◌&&◌, nat_le, refl, sym, ap, subst, ◌∙◌, arith, inl, inr, div-add-mod', pow_pos, and_right, cases_lt, eq-eqb, eqb-true, lt-leb, Family, cleared, IsBlock, block_of, same_tests, V4Body, V6Body, IsSoundBody, is_prefix_of, Pattern, IsSmallAddress, address_number, IsPatternOf, is_under}, Enclosing.{from_in, to_in}}
 use Rattle.std.proofs.Math.Nat.{mod-eq_of_lt, mod-lt}
-use Rattle.fs_base.specs.declared.config.Address.{Address}
-use Rattle.fs_base.specs.declared.config.Address.TheVariants.{V4, V6}
-use Rattle.fs_base.proofs.NumberTests.{next_row}
-use Rattle.fs_ranges.proofs.Enclosing.{from_in, to_in}
+use Rattle.fs_base.{specs.declared.config.Address.{Address, TheVariants.{V4, V6}}, proofs.NumberTests.{next_row}}
 
 same_row : (x count size : ℕ) → 0 < size → count * size ≤ x → x < count * size + size → x / size ≡ count
 same_row x count size some low high = elim (cases_lt (x / size) count) [

@@ -1,10 +1,7 @@
 -- The tests of components stand for them.
-use Rattle.fs_ranges.proofs.Words.{◌≡◌, ℕ, ◌+◌, ◌-◌, ◌^◌, ◌<◌, ◌≤◌, List, Option, Some, None, refl, sym, ap, ◌∙◌, arith, inl, inr, subst, ◌⊎◌, pow_pos, Family, width_of, IsBlock, block_of, ListBody, V4Body, V6Body, part, IsSoundBody, flags_hold, Pattern, Range, Within, TcpFlags, Destination, Source, facts_of, range, range_holds, IsPatternOf, IsTestOf, flags_pass}
-use Rattle.fs_base.specs.declared.prefix.Family.TheVariants.{V4}
-use Rattle.fs_base.specs.declared.prefix.Prefix.{Prefix}
-use Rattle.fs_base.specs.Prefix.{last_address}
+use Rattle.fs_ranges.proofs.{Words.{◌≡◌, ℕ, ◌+◌, ◌-◌, ◌^◌, ◌<◌, ◌≤◌, List, Option, Some, None, refl, sym, ap, ◌∙◌, arith, inl, inr, subst, ◌⊎◌, pow_pos, Family, width_of, IsBlock, block_of, ListBody, V4Body, V6Body, part, IsSoundBody, flags_hold, Pattern, Range, Within, TcpFlags, Destination, Source, facts_of, range, range_holds, IsPatternOf, IsTestOf, flags_pass}, Blocks.{in_v4, in_v6}}
+use Rattle.fs_base.specs.{declared.prefix.{Family.TheVariants.{V4}, Prefix.{Prefix}}, Prefix.{last_address}}
 use Rattle.fs_packet.proofs.Flags.{flags_same, sound_is_wide}
-use Rattle.fs_ranges.proofs.Blocks.{in_v4, in_v6}
 
 v4_last : (p : Prefix) → p.family ≡ V4 → last_address p + 1 ≡ p.bits + 2 ^ (32 - p.length)
 v4_last p h =

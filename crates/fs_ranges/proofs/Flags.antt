@@ -1,7 +1,6 @@
 -- A list that says of TCP flags no more than that SYN is set, as a range.
-use Rattle.fs_ranges.proofs.Words.{◌≡◌, ◌≤◌, ℕ, ◌==◌, Bool, true, false, true≢false, not, ◌&&◌, ◌||◌, nat_le, bit_and, if◌then◌else◌, List, [], ◌∷◌, Option, Some, None, refl, sym, ap, ◌∙◌, arith, eq-eqb, eqb-true, le-leb, leb-true, and_first, and_second, same_tests, ListBody, part, IsSoundBody, has_bit, holds, masks, Within, syn_number, is_match, is_syn, range, IsTestOf, flags_pass}
+use Rattle.fs_ranges.proofs.{Words.{◌≡◌, ◌≤◌, ℕ, ◌==◌, Bool, true, false, true≢false, not, ◌&&◌, ◌||◌, nat_le, bit_and, if◌then◌else◌, List, [], ◌∷◌, Option, Some, None, refl, sym, ap, ◌∙◌, arith, eq-eqb, eqb-true, le-leb, leb-true, and_first, and_second, same_tests, ListBody, part, IsSoundBody, has_bit, holds, masks, Within, syn_number, is_match, is_syn, range, IsTestOf, flags_pass}, ComponentTests.{flags_are}}
 use Rattle.std.proofs.lemmas.Nat.{and_assoc}
-use Rattle.fs_ranges.proofs.ComponentTests.{flags_are}
 
 two : (b : ℕ) → (nat_le 2 b && nat_le b 2) ≡ (b == 2)
 two b = same_tests (nat_le 2 b && nat_le b 2) (b == 2)

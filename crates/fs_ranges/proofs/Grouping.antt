@@ -1,8 +1,6 @@
 -- The numbers of a list, pair by pair: those of which an earlier group holds, and those that the group in hand misses.
-use Rattle.fs_ranges.proofs.Words.{◌≡◌, ℕ, ◌+◌, ◌-◌, ◌^◌, ◌<◌, ◌≤◌, ◌==◌, List, [], ◌∷◌, ◌++◌, Bool, true, false, not, ◌&&◌, ◌||◌, nat_lt, if◌then◌else◌, refl, sym, ap, subst, ◌∙◌, append_assoc, arith, inl, inr, All, cases_lt, eqb-false, le-leb, or_parts, nat_tests, All-append, All-cons, All-nil, list_any-append, compares, has_bit, holds, answers, answers_all, IsRange, contains, is_in}
-use Rattle.fs_ops.specs.Operator.{joins}
-use Rattle.fs_ops.specs.OperatorList.{first_joins}
-use Rattle.fs_ranges.specs.Groups.{TakesPair, missed_above, missed_at, missed_below}
+use Rattle.fs_ranges.{proofs.Words.{◌≡◌, ℕ, ◌+◌, ◌-◌, ◌^◌, ◌<◌, ◌≤◌, ◌==◌, List, [], ◌∷◌, ◌++◌, Bool, true, false, not, ◌&&◌, ◌||◌, nat_lt, if◌then◌else◌, refl, sym, ap, subst, ◌∙◌, append_assoc, arith, inl, inr, All, cases_lt, eqb-false, le-leb, or_parts, nat_tests, All-append, All-cons, All-nil, list_any-append, compares, has_bit, holds, answers, answers_all, IsRange, contains, is_in}, specs.Groups.{EndsGroup, missed_above, missed_at, missed_below}}
+use Rattle.fs_ops.specs.{Operator.{joins}, OperatorList.{first_joins}}
 
 -- the ranges of a pair are the numbers that it misses
 below_has : (bit : Bool) (v n : ℕ) → contains (if bit || (v == 0) then [] else (0, v - 1) ∷ []) n ≡ (not bit && nat_lt n v)
@@ -87,10 +85,11 @@ pair_more false false false true rest = refl
 pair_more false false false false rest = refl
 
 -- what the pairs that are left answer
-pub one_pair : (pair : ℕ × ℕ) (pairs : List (ℕ × ℕ)) (n : ℕ) (missed held missed' held' : List (ℕ × ℕ)) → TakesPair pair n missed held missed' held'
+pub one_pair : (pair : ℕ × ℕ) (pairs : List (ℕ × ℕ)) (n : ℕ) (missed held ended missed' held' : List (ℕ × ℕ)) → EndsGroup pair.0 n missed held ended held'
+    → contains missed' n ≡ (contains ended n || not (compares n pair))
     → (contains held' n || answers (compares n) (not (contains missed' n)) pairs) ≡ (contains held n || answers (compares n) (not (contains missed n)) (pair ∷ pairs))
-one_pair pair pairs n missed held missed' held' h =
-    (λ i. h.earlier i || answers (compares n) (not (h.taken i)) pairs)
+one_pair pair pairs n missed held ended missed' held' h e =
+    (λ i. h.earlier i || answers (compares n) (not ((e ∙ ap (λ b. b || not (compares n pair)) h.ended) i)) pairs)
     ∙ pair_more (joins pair.0) (contains held n) (contains missed n) (compares n pair) (λ b. answers (compares n) b pairs)
 
 -- at the start there is no group, which misses all numbers

@@ -1,7 +1,5 @@
 -- The range from the least number of a list to the greatest, before the list's own test.
-use Rattle.fs_ranges.proofs.Words.{◌≡◌, ℕ, ◌+◌, ◌<◌, ◌≤◌, Bool, true, false, true≢false, ◌&&◌, ◌||◌, List, [], take, get_or, length, refl, sym, ap, ◌∙◌, arith, list_any_more, and_true, Range, Ranges, Test, Within, Facts, number_of, AreFree, range_holds, ranges_hold, with_range, contains, is_in, passes}
-use Rattle.fs_ranges.proofs.Enclosing.{from_in, to_in}
-use Rattle.fs_ranges.proofs.Placing.{put_placed}
+use Rattle.fs_ranges.proofs.{Words.{◌≡◌, ℕ, ◌+◌, ◌<◌, ◌≤◌, Bool, true, false, true≢false, ◌&&◌, ◌||◌, List, [], take, get_or, length, refl, sym, ap, ◌∙◌, arith, list_any_more, and_true, Range, Ranges, Test, Within, Facts, number_of, AreFree, range_holds, ranges_hold, with_range, contains, is_in, passes}, Enclosing.{from_in, to_in}, Placing.{put_placed}}
 
 pub wider : (n low high low' high' : ℕ) → low' ≤ low → high ≤ high' → is_in n (low, high) ≡ true → is_in n (low', high') ≡ true
 wider n low high low' high' less more h =

@@ -1,8 +1,6 @@
 -- One test more of a rule, in a free place among its ranges or behind them.
-use Rattle.fs_ranges.proofs.Words.{◌≡◌, ℕ, zero, suc, ◌+◌, ◌<◌, ◌≤◌, List, [], ◌∷◌, length, drop, get_or, Bool, true, ◌&&◌, ◌==◌, nat_le, Some, refl, sym, ap, subst, ◌∙◌, arith, list_all, drop_all, and_assoc, and_comm, and_first, and_second, and_true, afi_of, Component, part_of, parts_of, AreSound, Viewed, part_matches, Range, Ranges, Test, Within, OneOf, PortWithin, Ports, TcpFlags, Fragment, Destination, Source, Facts, AreFacts, IsSmall, facts_of, number_of, AreFree, AreTestsOf, IsPut, all_pass, facts_hold, fast_holds, bounds_at, field_at, free_ranges, is_in_range, range_at, range_holds, ranges_hold, with_range, IsTestOf, passes, test_range}
+use Rattle.fs_ranges.{proofs.{Words.{◌≡◌, ℕ, zero, suc, ◌+◌, ◌<◌, ◌≤◌, List, [], ◌∷◌, length, drop, get_or, Bool, true, ◌&&◌, ◌==◌, nat_le, Some, refl, sym, ap, subst, ◌∙◌, arith, list_all, drop_all, and_assoc, and_comm, and_first, and_second, and_true, afi_of, Component, part_of, parts_of, AreSound, Viewed, part_matches, Range, Ranges, Test, Within, OneOf, PortWithin, Ports, TcpFlags, Fragment, Destination, Source, Facts, AreFacts, IsSmall, facts_of, number_of, AreFree, AreTestsOf, IsPut, all_pass, facts_hold, fast_holds, bounds_at, field_at, free_ranges, is_in_range, range_at, range_holds, ranges_hold, with_range, IsTestOf, passes, test_range}, Truths.{and_swap}}, specs.declared.fast.Fast.{Fast}}
 use Rattle.std.proofs.Math.Seq.{drop-cons}
-use Rattle.fs_ranges.specs.declared.fast.Fast.{Fast}
-use Rattle.fs_ranges.proofs.Truths.{and_swap}
 
 first_of_four : (a b c d x : Bool) → d ≡ true → (x && (a && (b && c))) ≡ ((a && (b && (c && d))) && x)
 first_of_four a b c d x h = and_comm x (a && (b && c)) ∙ ap (λ (t : Bool). (a && (b && t)) && x) (sym (ap (λ (d : Bool). c && d) h ∙ and_true c))
@@ -70,7 +68,7 @@ compiled_all components i used ranges tests end h = λ view small.
     ∙ h.said view small
 
 pub facts_are : (view : Viewed) (facts : Facts) → AreFacts view facts → facts ≡ facts_of view
-facts_are view facts h = λ i. record { family = h.family i; destination = h.destination i; source = h.source i; tcp_octets = h.tcp_octets i; fragment = h.fragment i; numbers = h.numbers i }
+facts_are view facts h = λ i. record { view = h.same i; numbers = h.numbers i }
 
 -- by a packet's own facts
 pub held_of : (view : Viewed) (facts : Facts) (fast : Fast) → AreFacts view facts → facts_hold facts fast ≡ fast_holds view fast
@@ -80,7 +78,7 @@ held_of view facts fast h = ap (λ (x : Facts). facts_hold x fast) (facts_are vi
 -- what a rule that holds is made of holds
 rule_held : (facts : Facts) (fast : Fast) → facts_hold facts fast ≡ true → all_pass facts fast.ranges fast.tests.items ≡ true
 unfolding facts_hold
-rule_held facts fast h = and_second (afi_of fast.family == afi_of facts.family) (all_pass facts fast.ranges fast.tests.items) h
+rule_held facts fast h = and_second (afi_of fast.family == afi_of facts.view.family) (all_pass facts fast.ranges fast.tests.items) h
 
 pub ranges_held : (facts : Facts) (fast : Fast) → facts_hold facts fast ≡ true → ranges_hold facts fast.ranges ≡ true
 ranges_held facts fast h = and_first (ranges_hold facts fast.ranges) (list_all (passes facts) fast.tests.items) (rule_held facts fast h)

@@ -1,17 +1,11 @@
 -- The fields of a packet as numbers: one that the packet doesn't have is above each that a field can have.
 use Rattle.std.specs.Prelude.{◌≡◌, ℕ, ◌%◌, ◌/◌, ◌==◌, if◌then◌else◌, ◌^◌, ◌<◌, List, [], ◌∷◌, slice_index, bit_and, Option, Some, None}
-use Rattle.fs_base.specs.declared.config.Address.{Address}
-use Rattle.fs_base.specs.declared.config.Address.TheVariants.{V4, V6}
+use Rattle.fs_base.specs.declared.config.Address.{Address, TheVariants.{V4, V6}}
 use Rattle.fs_packet.specs.Fields.{Viewed, family_of}
-use Rattle.fs_base.specs.declared.prefix.Family.{Family}
 
--- what a rule is tested on
+-- what a rule is tested on: a packet's fields, and those of one number by their types
 pub record Facts : Type 0 where
-  pub family : Family
-  pub destination : Address
-  pub source : Address
-  pub tcp_octets : Option ℕ
-  pub fragment : ℕ
+  pub view : Viewed
   pub numbers : List ℕ
 
 abbrev pub field_number : Option ℕ → ℕ
@@ -59,22 +53,11 @@ front_of (V6 address) = address % 2 ^ 128 / 2 ^ 64
 
 -- the number by which rules are told apart on a field; 14 stands for the front of the source
 abbrev pub key_of : Facts → (field : ℕ) → ℕ
-key_of facts field = if field == 14 then front_of facts.source else number_of facts field
-
--- a packet's fields, with these numbers
-abbrev pub facts_with : Viewed → List ℕ → Facts
-facts_with view numbers = record {
-  family = view.family;
-  destination = view.destination;
-  source = view.source;
-  tcp_octets = view.tcp_octets;
-  fragment = view.fragment;
-  numbers = numbers;
-}
+key_of facts field = if field == 14 then front_of facts.view.source else number_of facts field
 
 -- the facts of a packet
 abbrev pub facts_of : Viewed → Facts
-facts_of view = facts_with view (numbers_of view)
+facts_of view = record { view = view; numbers = numbers_of view }
 
 abbrev pub IsSmallField : Option ℕ → Type 0
 IsSmallField None = Unit {0}
@@ -99,11 +82,7 @@ pub record IsSmall (view : Viewed) : Type 0 where
 
 -- what was read is what the packet has
 pub record AreFacts (view : Viewed) (facts : Facts) : Type 0 where
-  pub family : facts.family ≡ view.family
-  pub destination : facts.destination ≡ view.destination
-  pub source : facts.source ≡ view.source
-  pub tcp_octets : facts.tcp_octets ≡ view.tcp_octets
-  pub fragment : facts.fragment ≡ view.fragment
+  pub same : facts.view ≡ view
   pub numbers : facts.numbers ≡ numbers_of view
   pub small : IsSmall view
   pub same_family : family_of view.destination ≡ view.family

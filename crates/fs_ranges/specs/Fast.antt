@@ -1,16 +1,9 @@
 -- What a compiled rule says of a packet, and which rule it stands for.
-use Rattle.std.specs.Prelude.{◌≡◌, ℕ, ◌≤◌, ◌<◌, ◌==◌, Bool, ◌&&◌, List, length}
-use Rattle.std.specs.List.{list_all}
+use Rattle.std.specs.{Prelude.{◌≡◌, ℕ, ◌≤◌, ◌<◌, ◌==◌, Bool, ◌&&◌, List, length}, List.{list_all}}
 use Rattle.fs_base.specs.Bits.{afi_of}
 use Rattle.fs_nlri.specs.Parts.{Part, Ruled}
-use Rattle.fs_packet.specs.Fields.{Viewed}
-use Rattle.fs_packet.specs.Matching.{is_match, part_matches}
-use Rattle.fs_ranges.specs.declared.fast.Fast.{Fast}
-use Rattle.fs_ranges.specs.declared.ranges.Ranges.{Ranges}
-use Rattle.fs_ranges.specs.declared.tests.Test.{Test}
-use Rattle.fs_ranges.specs.Facts.{Facts, IsSmall, facts_of, number_of}
-use Rattle.fs_ranges.specs.Ranges.{bounds_at, field_at, ranges_hold}
-use Rattle.fs_ranges.specs.Tests.{passes}
+use Rattle.fs_packet.specs.{Fields.{Viewed}, Matching.{is_match, part_matches}}
+use Rattle.fs_ranges.specs.{declared.{fast.Fast.{Fast}, ranges.Ranges.{Ranges}, tests.Test.{Test}}, Facts.{Facts, IsSmall, facts_of, number_of}, Ranges.{bounds_at, field_at, ranges_hold}, Tests.{passes}}
 
 -- the four ranges hold, and the tests behind are passed
 abbrev pub all_pass : Facts → Ranges → List Test → Bool
@@ -18,7 +11,7 @@ all_pass facts ranges tests = ranges_hold facts ranges && list_all (passes facts
 
 abbrev pub holds_of_facts : Facts → Fast → Bool
 holds_of_facts facts fast =
-    (afi_of fast.family == afi_of facts.family) && all_pass facts fast.ranges fast.tests.items
+    (afi_of fast.family == afi_of facts.view.family) && all_pass facts fast.ranges fast.tests.items
 
 unfoldable pub facts_hold : Facts → Fast → Bool
 facts_hold facts fast = holds_of_facts facts fast

@@ -1,19 +1,13 @@
 -- A list's numbers, group by group (RFC 8955 section 4.2.1.1): those of which an earlier group holds, and those that the
 -- group in hand misses.
 use Rattle.std.specs.Prelude.{◌≡◌, ℕ, ◌+◌, ◌-◌, ◌^◌, ◌==◌, not, ◌&&◌, ◌||◌, List, [], ◌∷◌, if◌then◌else◌}
-use Rattle.fs_ops.specs.Operator.{joins}
-use Rattle.fs_ops.specs.Evaluation.{compares, has_bit}
+use Rattle.fs_ops.specs.{Operator.{joins}, Evaluation.{has_bit}}
 use Rattle.fs_ranges.specs.Spans.{contains}
 
 -- of a number: unless the operator joins the group in hand, that is one of the earlier groups now, and misses nothing
 pub record EndsGroup (operator n : ℕ) (missed held missed' held' : List (ℕ × ℕ)) : Type 0 where
   pub earlier : contains held' n ≡ (contains held n || (not (joins operator) && not (contains missed n)))
   pub ended : contains missed' n ≡ (joins operator && contains missed n)
-
--- and then the pair is in it
-pub record TakesPair (pair : ℕ × ℕ) (n : ℕ) (missed held missed' held' : List (ℕ × ℕ)) : Type 0 where
-  pub earlier : contains held' n ≡ (contains held n || (not (joins pair.0) && not (contains missed n)))
-  pub taken : contains missed' n ≡ ((joins pair.0 && contains missed n) || not (compares n pair))
 
 -- the numbers below its value, if the pair misses these
 abbrev pub missed_below : ℕ × ℕ → List (ℕ × ℕ)

@@ -1,9 +1,6 @@
 -- What a limit of a field allows.
 use Rattle.std.specs.Prelude.{ℕ, Bool, ◌||◌, true}
-use Rattle.fs_ranges.specs.declared.limits.Limit.{Limit}
-use Rattle.fs_ranges.specs.declared.limits.Limit.TheVariants.{Any, Range, Ranges}
-use Rattle.fs_ranges.specs.Facts.{Facts, number_of}
-use Rattle.fs_ranges.specs.Spans.{contains, is_in}
+use Rattle.fs_ranges.specs.{declared.limits.Limit.{Limit, TheVariants.{Any, Range, Ranges}}, Facts.{Facts, number_of}, Spans.{contains, is_in}}
 
 -- the number is one of these
 abbrev pub allows : Limit → ℕ → Bool

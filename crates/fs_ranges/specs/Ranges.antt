@@ -1,8 +1,6 @@
 -- Ranges of a packet's fields, of which four stand within a rule.
 use Rattle.std.specs.Prelude.{ℕ, Bool, ◌&&◌, nat_le, [], ◌∷◌, get_or}
-use Rattle.fs_ranges.specs.declared.ranges.Range.{Range}
-use Rattle.fs_ranges.specs.declared.ranges.Ranges.{Ranges}
-use Rattle.fs_ranges.specs.Facts.{Facts, number_of}
+use Rattle.fs_ranges.specs.{declared.ranges.{Range.{Range}, Ranges.{Ranges}}, Facts.{Facts, number_of}}
 
 abbrev pub is_in_range : Facts → (field low high : ℕ) → Bool
 is_in_range facts field low high = nat_le low (number_of facts field) && nat_le (number_of facts field) high

@@ -1,6 +1,5 @@
 -- Sets of numbers as lists of ranges, each from a first number to a last.
-use Rattle.std.specs.Prelude.{ℕ, ◌+◌, ◌-◌, ◌^◌, ◌<◌, ◌≤◌, min, Bool, ◌&&◌, nat_le, nat_lt, List, [], ◌∷◌, Option, Some, None, if◌then◌else◌}
-use Rattle.std.specs.List.{list_any}
+use Rattle.std.specs.{Prelude.{ℕ, ◌+◌, ◌-◌, ◌^◌, ◌<◌, ◌≤◌, min, Bool, ◌&&◌, nat_le, nat_lt, List, [], ◌∷◌, Option, Some, None, if◌then◌else◌}, List.{list_any}}
 
 abbrev pub is_in : ℕ → ℕ × ℕ → Bool
 is_in n range = nat_le range.0 n && nat_le n range.1

@@ -1,18 +1,10 @@
 -- What the test of a component says of a packet's fields, and which component it stands for.
-use Rattle.std.specs.Prelude.{◌≡◌, ℕ, ◌+◌, ◌-◌, ◌*◌, ◌%◌, ◌^◌, Bool, false, ◌&&◌, ◌||◌, nat_le, bit_and, List, Option, Some, None}
-use Rattle.fs_base.specs.declared.config.Address.{Address}
-use Rattle.fs_base.specs.declared.config.Address.TheVariants.{V4, V6}
+use Rattle.std.specs.Prelude.{◌≡◌, ◌⊎◌, ℕ, ◌+◌, ◌-◌, ◌*◌, ◌%◌, ◌^◌, Bool, false, ◌&&◌, ◌||◌, nat_le, bit_and, List, Option, Some, None}
+use Rattle.fs_base.specs.declared.config.Address.{Address, TheVariants.{V4, V6}}
 use Rattle.fs_ops.specs.Evaluation.{holds, masks}
 use Rattle.fs_nlri.specs.Parts.{Part}
-use Rattle.fs_packet.specs.Fields.{Viewed}
-use Rattle.fs_packet.specs.Matching.{holds_of, part_matches}
-use Rattle.fs_ranges.specs.declared.pattern.Pattern.{Pattern}
-use Rattle.fs_ranges.specs.declared.ranges.Range.{Range}
-use Rattle.fs_ranges.specs.declared.tests.Test.{Test}
-use Rattle.fs_ranges.specs.declared.tests.Test.TheVariants.{Within, OneOf, PortWithin, Ports, TcpFlags, Fragment, Destination, Source}
-use Rattle.fs_ranges.specs.Facts.{Facts, IsSmall, IsSmallField, facts_of, field_number, number_of}
-use Rattle.fs_ranges.specs.Numbers.{has_field}
-use Rattle.fs_ranges.specs.Ranges.{is_in_range, range_holds}
+use Rattle.fs_packet.specs.{Fields.{Viewed}, Matching.{holds_of, part_matches}}
+use Rattle.fs_ranges.specs.{declared.{pattern.Pattern.{Pattern}, ranges.Range.{Range}, tests.Test.{Test, TheVariants.{Within, OneOf, PortWithin, Ports, TcpFlags, Fragment, Destination, Source}}}, Facts.{Facts, IsSmall, IsSmallField, facts_of, field_number, number_of}, Numbers.{has_field}, Ranges.{is_in_range, range_holds}}
 
 -- the flags and the four bits before them
 abbrev pub flags_pass : List (ℕ × ℕ) → Option ℕ → Bool
@@ -31,10 +23,10 @@ passes facts (Within range) = range_holds facts range
 passes facts (OneOf field numbers) = has_field numbers (number_of facts field)
 passes facts (PortWithin low high) = is_in_range facts 6 low high || is_in_range facts 5 low high
 passes facts (Ports numbers) = has_field numbers (number_of facts 6) || has_field numbers (number_of facts 5)
-passes facts (TcpFlags pairs) = flags_pass pairs facts.tcp_octets
-passes facts (Fragment pairs) = holds (masks facts.fragment) pairs
-passes facts (Destination pattern) = is_under pattern facts.destination
-passes facts (Source pattern) = is_under pattern facts.source
+passes facts (TcpFlags pairs) = flags_pass pairs facts.view.tcp_octets
+passes facts (Fragment pairs) = holds (masks facts.view.fragment) pairs
+passes facts (Destination pattern) = is_under pattern facts.view.destination
+passes facts (Source pattern) = is_under pattern facts.view.source
 
 abbrev pub test_range : Test → Option Range
 test_range (Within range) = Some range
@@ -50,6 +42,11 @@ IsFieldTest field pairs test = (facts : Facts) (number : Option ℕ)
     → number_of facts field ≡ field_number number
     → IsSmallField number
     → passes facts test ≡ holds_of pairs number
+
+-- the types whose lists are held against one number of a packet
+abbrev pub AsksOne : (kind : ℕ) → Type 0
+AsksOne kind =
+    (kind ≡ 3) ⊎ ((kind ≡ 5) ⊎ ((kind ≡ 6) ⊎ ((kind ≡ 7) ⊎ ((kind ≡ 8) ⊎ ((kind ≡ 10) ⊎ ((kind ≡ 11) ⊎ (kind ≡ 13)))))))
 
 -- the pattern holds the addresses whose bits from the offset up to the length are these
 pub record IsPatternOf (len offset bits : ℕ) (pattern : Pattern) : Type 0 where

@@ -2,13 +2,8 @@
 
 ghost use Rattle.std.specs.Prelude.{◌≡◌, ◌<◌, ◌^◌, ◌⊎◌, IfOk, IfSome};
 ghost use Rattle.fs_base.specs.Prefix.{last_address};
-ghost use Rattle.fs_nlri.specs.Component.{body_of, part_of};
-ghost use Rattle.fs_nlri.specs.Parts.{ListBody, V4Body, V6Body, part};
-ghost use Rattle.fs_nlri.specs.Sound.{IsSoundBody};
-ghost use Rattle.fs_ranges.specs.Flags.{is_match, is_syn};
-ghost use Rattle.fs_ranges.specs.Ranges.{range};
-ghost use Rattle.fs_ranges.specs.Numbers.{IsOnlyRange, is_equality, is_joined_most, is_least};
-ghost use Rattle.fs_ranges.specs.Tests.{IsFieldTest, IsPatternOf, IsTestOf};
+ghost use Rattle.fs_nlri.specs.{Component.{body_of, part_of}, Parts.{ListBody, V4Body, V6Body, part}, Sound.{IsSoundBody}};
+ghost use Rattle.fs_ranges.specs.{Flags.{is_match, is_syn}, Ranges.{range}, Numbers.{IsOnlyRange, is_equality, is_joined_most, is_least}, Tests.{AsksOne, IsPatternOf, IsTestOf}};
 
 use crate::facts::{ABSENT, SYN};
 use crate::pattern::Pattern;
@@ -122,7 +117,8 @@ fn is_match(operator: u8) -> bool
 
 /// The test of a list by the field of the type: a range, where the numbers are one.
 fn field_test(alloc: Global, field: u8, list: &NumList) -> Result<Test, Memory>
-    ensures { IfOk result (IsFieldTest field list.now) }
+    requires { AsksOne field }
+    ensures { IfOk result (IsTestOf (part field (ListBody list.now))) }
 {
     match only_range(list.pairs()) {
         Some((low, high)) => Ok(Test::Within(Range { field, low, high })),
@@ -170,7 +166,8 @@ fn is_joined_most(operator: u8) -> bool
 }
 
 fn numbers_test(alloc: Global, field: u8, list: &NumList) -> Result<Test, Memory>
-    ensures { IfOk result (IsFieldTest field list.now) }
+    requires { AsksOne field }
+    ensures { IfOk result (IsTestOf (part field (ListBody list.now))) }
 {
     let numbers = Spans::of(alloc, list)?;
     match numbers.range() {

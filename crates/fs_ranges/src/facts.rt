@@ -28,11 +28,11 @@ pub struct Facts<'a> {
 }
 
 impl<'a> Model for Facts<'a> {
-    ghost use Rattle.fs_ranges.specs.Facts.{Facts, facts_with};
+    ghost use Rattle.fs_ranges.specs.Facts.{Facts};
 
     ghost Value = { Facts };
 
-    ghost view = { λ a. facts_with a.view.now a.numbers };
+    ghost view = { λ a. record { view = a.view.now; numbers = a.numbers } };
 }
 
 impl<'a> Facts<'a> {

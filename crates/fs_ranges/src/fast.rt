@@ -1,16 +1,9 @@
 //! A rule compiled for packets.
 
-ghost use Rattle.std.specs.Prelude.{◌≡◌, ◌+◌, ◌≤◌, ◌&&◌, true, IfOk, OnOk, ℕ};
-ghost use Rattle.std.specs.List.{list_all};
-ghost use Rattle.fs_nlri.specs.Component.{parts_of};
-ghost use Rattle.fs_nlri.specs.Parts.{Ruled};
-ghost use Rattle.fs_nlri.specs.Sound.{AreSound};
+ghost use Rattle.std.specs.{Prelude.{◌≡◌, ◌+◌, ◌≤◌, ◌&&◌, true, IfOk, OnOk, ℕ}, List.{list_all}};
+ghost use Rattle.fs_nlri.specs.{Component.{parts_of}, Parts.{Ruled}, Sound.{AreSound}};
 ghost use Rattle.fs_packet.specs.Matching.{is_match};
-ghost use Rattle.fs_ranges.specs.Limits.{allows, allows_port};
-ghost use Rattle.fs_ranges.specs.Facts.{Facts, IsSmall, front_of, key_of, number_of};
-ghost use Rattle.fs_ranges.specs.Fast.{AreFree, AreTestsOf, IsPut, StandsFor, facts_hold, fast_holds, holds_of_facts};
-ghost use Rattle.fs_ranges.specs.Ranges.{ranges_hold};
-ghost use Rattle.fs_ranges.specs.Tests.{passes};
+ghost use Rattle.fs_ranges.specs.{Limits.{allows, allows_port}, Facts.{Facts, IsSmall, front_of, key_of, number_of}, Fast.{AreFree, AreTestsOf, IsPut, StandsFor, facts_hold, fast_holds, holds_of_facts}, Ranges.{ranges_hold}, Tests.{passes}};
 
 use crate::components::test_of;
 use crate::facts::{FRONT, Facts};
@@ -159,7 +152,7 @@ fn limit_of(tests: &[Test], field: u8) -> Limit<'_>
 fn front_limit_of(tests: &[Test]) -> Limit<'_>
     ensures { (facts : Facts)
         → list_all (passes facts) tests.now ≡ true
-        → allows result (front_of facts.source) ≡ true }
+        → allows result (front_of facts.view.source) ≡ true }
 {
     for test in tests {
         if let Some(limit) = test.front_limit() {

@@ -1,21 +1,19 @@
 //! What ranges of numbers leave out.
 
-ghost use Rattle.std.specs.Prelude.{◌≡◌, ℕ, ◌^◌, ◌<◌, ◌≤◌, ◌++◌, ◌||◌, [], not, OnOk};
-ghost use Rattle.std.specs.List.{All};
-ghost use Rattle.fs_ranges.specs.Gaps.{gap, gaps_from};
-ghost use Rattle.fs_ranges.specs.Spans.{AreApart, IsRange, contains};
+ghost use Rattle.std.specs.{Prelude.{◌≡◌, ℕ, ◌^◌, ◌<◌, ◌≤◌, ◌++◌, ◌||◌, [], not, OnOk}, List.{All}};
+ghost use Rattle.fs_ranges.specs.{Gaps.{gap, gaps_from}, Spans.{AreApart, IsRange, contains}};
 
 use fs_base::Memory;
+
+/// Ranges of numbers, each by its first and its last.
+pub(crate) type RangeList = Vec<(u64, u64)>;
 
 /// One more than the greatest number that a list can be asked for.
 const NUMBERS: u128 = 1 << 64;
 
 /// Appends the numbers that are in none of the ranges, as ranges in order with a gap before each next. The ranges are
 /// put in order.
-pub(crate) fn append_gaps(
-    ranges: &mut Vec<(u64, u64)>,
-    gaps: &mut Vec<(u64, u64)>,
-) -> Result<(), Memory>
+pub(crate) fn append_gaps(ranges: &mut RangeList, gaps: &mut RangeList) -> Result<(), Memory>
     requires { All IsRange ranges.old.items }
     ensures numbers { OnOk result ((n : ℕ)
         → n < 2 ^ 64
@@ -28,7 +26,7 @@ pub(crate) fn append_gaps(
 }
 
 /// Appends what stands before, between and behind the ranges, which begin one after the other.
-fn append_between(ranges: &[(u64, u64)], gaps: &mut Vec<(u64, u64)>) -> Result<(), Memory>
+fn append_between(ranges: &[(u64, u64)], gaps: &mut RangeList) -> Result<(), Memory>
     ensures { OnOk result (gaps.new.items ≡ gaps.old.items ++ gaps_from 0 ranges.now) }
 {
     let mut from = 0;
@@ -40,7 +38,7 @@ fn append_between(ranges: &[(u64, u64)], gaps: &mut Vec<(u64, u64)>) -> Result<(
 }
 
 /// Appends the numbers from the one on that are below the other, if there are any.
-fn append_gap(from: u128, end: u128, gaps: &mut Vec<(u64, u64)>) -> Result<(), Memory>
+fn append_gap(from: u128, end: u128, gaps: &mut RangeList) -> Result<(), Memory>
     requires { end ≤ 2 ^ 64 }
     ensures { OnOk result (gaps.new.items ≡ gaps.old.items ++ gap from end) }
 {

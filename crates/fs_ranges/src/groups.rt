@@ -1,13 +1,10 @@
 //! The numbers that a list holds of, group by group.
 
-ghost use Rattle.std.specs.Prelude.{◌≡◌, ℕ, ◌^◌, ◌<◌, ◌++◌, ◌||◌, [], false, not, OnOk};
-ghost use Rattle.std.specs.List.{All};
-ghost use Rattle.fs_ops.specs.Evaluation.{compares, holds};
-ghost use Rattle.fs_ops.specs.OperatorList.{first_joins};
-ghost use Rattle.fs_ranges.specs.Groups.{EndsGroup, TakesPair, missed_above, missed_at, missed_below};
-ghost use Rattle.fs_ranges.specs.Spans.{IsRange, contains};
+ghost use Rattle.std.specs.{Prelude.{◌≡◌, ℕ, ◌^◌, ◌<◌, ◌++◌, ◌||◌, [], false, not, OnOk}, List.{All}};
+ghost use Rattle.fs_ops.specs.{Evaluation.{compares, holds}, OperatorList.{first_joins}};
+ghost use Rattle.fs_ranges.specs.{Groups.{EndsGroup, missed_above, missed_at, missed_below}, Spans.{IsRange, contains}};
 
-use crate::gaps::append_gaps;
+use crate::gaps::{RangeList, append_gaps};
 use fs_base::Memory;
 
 /// The AND bit of an operator, and the bits of what it holds of (RFC 8955 section 4.2.1.1).
@@ -23,8 +20,8 @@ const EQUAL: u8 = 1;
 /// numbers that a group misses: those that one of its pairs misses.
 pub(crate) fn append_groups(
     pairs: &[(u8, u64)],
-    missed: &mut Vec<(u64, u64)>,
-    held: &mut Vec<(u64, u64)>,
+    missed: &mut RangeList,
+    held: &mut RangeList,
 ) -> Result<(), Memory>
     requires first { first_joins pairs.now ≡ false }
     requires missed { missed.old.items ≡ [] }
@@ -36,35 +33,14 @@ pub(crate) fn append_groups(
 {
     missed.push((0, u64::MAX))?;
     for &(operator, value) in pairs {
-        append_pair(operator, value, missed, held)?;
+        end_group(operator, missed, held)?;
+        append_missed(operator, value, missed)?;
     }
     append_gaps(missed, held)
 }
 
-/// Takes a pair more: into the group in hand, or into a group of its own behind that.
-fn append_pair(
-    operator: u8,
-    value: u64,
-    missed: &mut Vec<(u64, u64)>,
-    held: &mut Vec<(u64, u64)>,
-) -> Result<(), Memory>
-    requires { All IsRange missed.old.items }
-    ensures numbers { OnOk result ((n : ℕ)
-        → n < 2 ^ 64
-        → TakesPair (operator, value) n missed.old.items held.old.items missed.new.items held.new.items) }
-    ensures missed { OnOk result (All IsRange missed.new.items) }
-    ensures held { OnOk result (All IsRange held.old.items → All IsRange held.new.items) }
-{
-    end_group(operator, missed, held)?;
-    append_missed(operator, value, missed)
-}
-
 /// Ends the group in hand, unless the operator joins it.
-fn end_group(
-    operator: u8,
-    missed: &mut Vec<(u64, u64)>,
-    held: &mut Vec<(u64, u64)>,
-) -> Result<(), Memory>
+fn end_group(operator: u8, missed: &mut RangeList, held: &mut RangeList) -> Result<(), Memory>
     requires { All IsRange missed.old.items }
     ensures numbers { OnOk result ((n : ℕ)
         → n < 2 ^ 64
@@ -80,7 +56,7 @@ fn end_group(
 }
 
 /// Appends the numbers that a pair misses, as ranges.
-fn append_missed(operator: u8, value: u64, missed: &mut Vec<(u64, u64)>) -> Result<(), Memory>
+fn append_missed(operator: u8, value: u64, missed: &mut RangeList) -> Result<(), Memory>
     ensures numbers { OnOk result ((n : ℕ)
         → n < 2 ^ 64
         → contains missed.new.items n ≡ (contains missed.old.items n || not (compares n (operator, value)))) }
@@ -92,7 +68,7 @@ fn append_missed(operator: u8, value: u64, missed: &mut Vec<(u64, u64)>) -> Resu
 }
 
 /// Appends the numbers below the value, if the operator misses these.
-fn append_below(operator: u8, value: u64, missed: &mut Vec<(u64, u64)>) -> Result<(), Memory>
+fn append_below(operator: u8, value: u64, missed: &mut RangeList) -> Result<(), Memory>
     ensures { OnOk result (missed.new.items ≡ missed.old.items ++ missed_below (operator, value)) }
 {
     if operator & LESS == 0 && value != 0 {
@@ -102,7 +78,7 @@ fn append_below(operator: u8, value: u64, missed: &mut Vec<(u64, u64)>) -> Resul
 }
 
 /// Appends the value, if the operator misses it.
-fn append_at(operator: u8, value: u64, missed: &mut Vec<(u64, u64)>) -> Result<(), Memory>
+fn append_at(operator: u8, value: u64, missed: &mut RangeList) -> Result<(), Memory>
     ensures { OnOk result (missed.new.items ≡ missed.old.items ++ missed_at (operator, value)) }
 {
     if operator & EQUAL == 0 {
@@ -112,7 +88,7 @@ fn append_at(operator: u8, value: u64, missed: &mut Vec<(u64, u64)>) -> Result<(
 }
 
 /// Appends the numbers above the value, if the operator misses these.
-fn append_above(operator: u8, value: u64, missed: &mut Vec<(u64, u64)>) -> Result<(), Memory>
+fn append_above(operator: u8, value: u64, missed: &mut RangeList) -> Result<(), Memory>
     ensures { OnOk result (missed.new.items ≡ missed.old.items ++ missed_above (operator, value)) }
 {
     if operator & GREATER == 0 && value != u64::MAX {

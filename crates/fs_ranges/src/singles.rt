@@ -1,9 +1,7 @@
 //! Lists of single numbers.
 
-ghost use Rattle.std.specs.Prelude.{◌≡◌, IfOk, map};
-ghost use Rattle.std.specs.List.{All};
-ghost use Rattle.fs_ranges.specs.Numbers.{are_singles, is_single, lone};
-ghost use Rattle.fs_ranges.specs.Spans.{IsRange};
+ghost use Rattle.std.specs.{Prelude.{◌≡◌, IfOk, map}, List.{All}};
+ghost use Rattle.fs_ranges.specs.{Numbers.{are_singles, is_single, lone}, Spans.{IsRange}};
 
 use crate::components::is_equality;
 use fs_base::Memory;

@@ -1,11 +1,8 @@
 //! A list of numeric operators as the numbers that it holds of.
 
-ghost use Rattle.std.specs.Prelude.{◌≡◌, ◌↔◌, ℕ, ◌^◌, ◌<◌, false, true, IsTrue, IfOk};
-ghost use Rattle.fs_ops.specs.OperatorList.{first_joins};
-ghost use Rattle.std.specs.List.{list_all, list_any};
-ghost use Rattle.fs_ops.specs.Evaluation.{compares, holds};
-ghost use Rattle.fs_ranges.specs.Numbers.{has_field};
-ghost use Rattle.fs_ranges.specs.Spans.{AreApart, clipped, contains, encloses, field_range, is_in};
+ghost use Rattle.std.specs.{Prelude.{◌≡◌, ◌↔◌, ℕ, ◌^◌, ◌<◌, false, true, IsTrue, IfOk}, List.{list_all, list_any}};
+ghost use Rattle.fs_ops.specs.{OperatorList.{first_joins}, Evaluation.{compares, holds}};
+ghost use Rattle.fs_ranges.specs.{Numbers.{has_field}, Spans.{AreApart, clipped, contains, encloses, field_range, is_in}};
 
 use crate::facts::ABSENT;
 use crate::gaps::append_gaps;

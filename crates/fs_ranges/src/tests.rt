@@ -1,10 +1,7 @@
 //! The test of one component.
 
 ghost use Rattle.std.specs.Prelude.{◌≡◌, true, IfSome};
-ghost use Rattle.fs_ranges.specs.Limits.{allows, allows_port};
-ghost use Rattle.fs_ranges.specs.Facts.{Facts, front_of, number_of};
-ghost use Rattle.fs_ranges.specs.Ranges.{range_holds};
-ghost use Rattle.fs_ranges.specs.Tests.{flags_pass, is_under, passes, test_range};
+ghost use Rattle.fs_ranges.specs.{Limits.{allows, allows_port}, Facts.{Facts, front_of, number_of}, Ranges.{range_holds}, Tests.{flags_pass, is_under, passes, test_range}};
 
 use crate::facts::{Facts, top};
 use crate::limits::Limit;
@@ -72,7 +69,7 @@ impl Test {
     pub(crate) fn front_limit(&self) -> Option<Limit<'_>>
         ensures { (facts : Facts)
             → passes facts self.now ≡ true
-            → IfSome result (λ limit. allows limit (front_of facts.source) ≡ true) }
+            → IfSome result (λ limit. allows limit (front_of facts.view.source) ≡ true) }
     {
         match self {
             Test::Source(pattern) if pattern.offset == 0 => {

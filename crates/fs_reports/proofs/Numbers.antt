@@ -1,15 +1,7 @@
 -- A strictly rising list of the numbers that peers have is the list of them that the definition chooses among all numbers.
 use Rattle.fs_reports.proofs.Words.{◌≡◌, ℕ, zero, suc, ◌+◌, ◌<◌, ◌==◌, Bool, true, false, cond, not, List, [], ◌∷◌, ◌++◌, map, length, get_or, Some, is_some, All, Contains, filter, BTreeSet, nat_cmp, refl, sym, ap, ◌∙◌, arith, ⊎_elim, true≢false, eq-eqb, eqb-true, range_with_len, IsStrictlySortedBy-filter, Contains-permutation, IsPermutation-filter_both, sorted_from_strictly_increasing, numbers_below}
-use Rattle.std.specs.List.Sorted.{IsStrictlyIncreasing, IsStrictlySortedBy}
-use Rattle.std.specs.BTreeSet.{contains}
-use Rattle.std.proofs.lemmas.Cmp.{nat_cmp_total}
-use Rattle.std.proofs.lemmas.List.Elements.{All-contains, filter_passes, Contains-append_cases}
-use Rattle.std.proofs.lemmas.List.FromFn.{length-range_with_len, get_or-range_with_len}
-use Rattle.std.proofs.lemmas.Map.Lookups.{btree_set_from_contains, exact_unsigned}
-use Rattle.std.proofs.lemmas.Map.Views.{btree_set_contains_iff}
-use Rattle.fs_base.proofs.Bools.{same_tests}
-use Rattle.fs_base.specs.Config.{peer_of}
-use Rattle.fs_base.specs.declared.config.Peer.{Peer}
+use Rattle.std.{specs.{List.Sorted.{IsStrictlyIncreasing, IsStrictlySortedBy}, BTreeSet.{contains}}, proofs.lemmas.{Cmp.{nat_cmp_total}, List.{Elements.{All-contains, filter_passes, Contains-append_cases}, FromFn.{length-range_with_len, get_or-range_with_len}}, Map.{Lookups.{btree_set_from_contains, exact_unsigned}, Views.{btree_set_contains_iff}}}}
+use Rattle.fs_base.{proofs.Bools.{same_tests}, specs.{Config.{peer_of}, declared.config.Peer.{Peer}}}
 
 abbrev pub number_of : Peer → ℕ
 number_of peer = peer.number

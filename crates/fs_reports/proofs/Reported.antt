@@ -1,11 +1,7 @@
 -- What stands in the text when some frames have been read, and what follows at the end of a field.
-use Rattle.std.proofs.Common.{◌≡◌, ℕ, ◌+◌, ◌-◌, ◌≤◌, List, [], ◌∷◌, ◌++◌, length, take, drop, ap, sym, subst, ◌∙◌, arith, append_assoc, length-append}
-use Rattle.std.proofs.lemmas.List.{append-nil, take-append-drop, take_rest}
+use Rattle.std.proofs.{Common.{◌≡◌, ℕ, ◌+◌, ◌-◌, ◌≤◌, List, [], ◌∷◌, ◌++◌, length, take, drop, ap, sym, subst, ◌∙◌, arith, append_assoc, length-append}, lemmas.List.{append-nil, take-append-drop, take_rest}}
 use Rattle.fs_base.specs.declared.prefix.Family.{Family}
-use Rattle.fs_nlri.specs.Parts.{Ruled}
-use Rattle.fs_nlri.specs.Spelling.{IsFrame, IsLength}
-use Rattle.fs_nlri.specs.Feed.{Frames}
-use Rattle.fs_nlri.proofs.Fed.{frames_more}
+use Rattle.fs_nlri.{specs.{Parts.{Ruled}, Spelling.{IsFrame, IsLength}, Feed.{Frames}}, proofs.Fed.{frames_more}}
 use Rattle.fs_reports.specs.Report.{frame_line, frame_lines}
 
 -- the frames so far, each with its line, and the number of the next one

@@ -1,15 +1,10 @@
 -- The lines of a family's rules.
-use Rattle.std.specs.Prelude.{ℕ, ◌+◌, List, [], ◌∷◌, ◌++◌, flat_map, map, Option, Some, None, codes, decimal}
-use Rattle.std.specs.Option.{option_map_or}
-use Rattle.std.specs.List.{concat}
+use Rattle.std.specs.{Prelude.{ℕ, ◌+◌, List, [], ◌∷◌, ◌++◌, flat_map, map, Option, Some, None, codes, decimal}, Option.{option_map_or}, List.{concat}}
 use Rattle.hex.specs.Hex.{encode_lower}
 use Rattle.fs_base.specs.declared.prefix.Family.{Family}
-use Rattle.fs_nlri.specs.Parts.{Ruled}
-use Rattle.fs_nlri.specs.Rule.{canonical_frame}
-use Rattle.fs_validate.specs.declared.validity.Validity.{Validity}
-use Rattle.fs_validate.specs.declared.validity.Validity.TheVariants.{Valid, NoDestination, Originator, MoreSpecific, LeftAs}
-use Rattle.fs_rules.specs.Table.{Held, admitted}
-use Rattle.fs_rules.specs.Lent.{Listed, listed, Judged, held_flows}
+use Rattle.fs_nlri.specs.{Parts.{Ruled}, Rule.{canonical_frame}}
+use Rattle.fs_validate.specs.declared.validity.Validity.{Validity, TheVariants.{Valid, NoDestination, Originator, MoreSpecific, LeftAs}}
+use Rattle.fs_rules.specs.{Table.{Held, admitted}, Lent.{Listed, listed, Judged, held_flows}}
 use Rattle.fs_line.specs.Pieces.{family_name}
 
 -- a rule's canonical octets, and the peer that gave it

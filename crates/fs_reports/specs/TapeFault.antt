@@ -1,7 +1,6 @@
 -- The line of a tape's fault.
 use Rattle.std.specs.Prelude.{ℕ, List, ◌++◌, codes, decimal}
-use Rattle.fs_tape.specs.declared.fault.TapeReason.{TapeReason}
-use Rattle.fs_tape.specs.declared.fault.TapeReason.TheVariants.{Magic, Kind, Peer as UnknownPeer, Length, Cut, Moment}
+use Rattle.fs_tape.specs.declared.fault.TapeReason.{TapeReason, TheVariants.{Magic, Kind, Peer as UnknownPeer, Length, Cut, Moment}}
 
 -- what is wrong with the tape
 abbrev pub tape_reason_name : TapeReason → List ℕ

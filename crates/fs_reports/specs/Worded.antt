@@ -1,10 +1,7 @@
 -- The admitted rules in words.
 use Rattle.std.specs.Prelude.{List, ℕ, ◌++◌, flat_map, map, codes}
-use Rattle.fs_base.specs.declared.config.Config.{Config}
-use Rattle.fs_base.specs.declared.prefix.Family.{Family}
-use Rattle.fs_base.specs.declared.prefix.Family.TheVariants.{V4, V6}
-use Rattle.fs_rules.specs.Table.{Held, admitted}
-use Rattle.fs_rules.specs.Lent.{Listed, listed}
+use Rattle.fs_base.specs.declared.{config.Config.{Config}, prefix.Family.{Family, TheVariants.{V4, V6}}}
+use Rattle.fs_rules.specs.{Table.{Held, admitted}, Lent.{Listed, listed}}
 use Rattle.fs_tape.specs.Tape.{Item}
 use Rattle.fs_text.specs.Printed.{text_of}
 

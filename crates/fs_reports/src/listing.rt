@@ -1,10 +1,7 @@
 //! The listing of the peers and the rules, as a desk stands.
 
-ghost use Rattle.std.specs.Prelude.{◌≡◌, ◌++◌, IfOk, List, OnOk};
-ghost use Rattle.fs_base.specs.declared.config.Config.{Config};
-ghost use Rattle.fs_tape.specs.Tape.{Item};
-ghost use Rattle.fs_desk.specs.Desk.{Played};
-ghost use Rattle.fs_reports.specs.Listing.{desk_text, listing};
+ghost use Rattle.std.specs.Prelude.{◌≡◌, ◌++◌, IfOk, OnOk};
+ghost use Rattle.fs_reports.specs.Listing.{Tells, desk_text, listing};
 
 use crate::peers::append_peers;
 use crate::rules::append_rules;
@@ -19,19 +16,18 @@ use std::alloc::Global;
 ///
 /// `Memory` where the machine refused memory.
 pub fn desk_text(alloc: Global, desk: &Desk<'_>) -> Result<Vec<u8>, Memory>
-    ensures { IfOk result (λ text. (config : Config) (items : List Item) → Played config items desk.now
-        → text.items ≡ listing config items desk.now.held) }
+    ensures { IfOk result (λ text. Tells listing desk.now text.items) }
 {
     let mut text = Vec::new(alloc);
-    append_desk(alloc, desk, &mut text)?;
+    append_desk(desk, &mut text)?;
     Ok(text)
 }
 
 /// Appends the listing.
-fn append_desk(alloc: Global, desk: &Desk<'_>, text: &mut Vec<u8>) -> Result<(), Memory>
+fn append_desk(desk: &Desk<'_>, text: &mut Vec<u8>) -> Result<(), Memory>
     ensures { OnOk result (text.new.items ≡ text.old.items ++ desk_text desk.now) }
 {
-    append_peers(alloc, desk, text)?;
-    append_rules(alloc, Family::V4, desk.table(), text)?;
-    append_rules(alloc, Family::V6, desk.table(), text)
+    append_peers(desk, text)?;
+    append_rules(Family::V4, desk.table(), text)?;
+    append_rules(Family::V6, desk.table(), text)
 }

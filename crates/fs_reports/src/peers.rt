@@ -2,7 +2,7 @@
 
 ghost use Rattle.std.specs.Prelude.{◌≡◌, ◌++◌, IfOk, OnOk};
 ghost use Rattle.fs_desk.specs.Desk.{standing_at_desk};
-ghost use Rattle.fs_reports.specs.Peers.{codes_text, desk_peers, numbers_of, standing_text, state_name, peer_line, peers_text};
+ghost use Rattle.fs_reports.specs.Peers.{codes_text, desk_peers, numbers_of, standing_text, peer_line, peers_text};
 
 use fs_base::{Memory, Peer};
 use fs_desk::Desk;
@@ -11,10 +11,10 @@ use fs_speaker::{Closed, Standing, State};
 use std::alloc::Global;
 
 /// Appends the lines of the configured peers, by their numbers.
-pub fn append_peers(alloc: Global, desk: &Desk<'_>, text: &mut Vec<u8>) -> Result<(), Memory>
+pub fn append_peers(desk: &Desk<'_>, text: &mut Vec<u8>) -> Result<(), Memory>
     ensures { OnOk result (text.new.items ≡ text.old.items ++ desk_peers desk.now) }
 {
-    let numbers = numbers_of(alloc, desk.config().peers.as_slice())?;
+    let numbers = numbers_of(*text.allocator(), desk.config().peers.as_slice())?;
     append_each(desk, &numbers, text)
 }
 
@@ -58,7 +58,10 @@ fn append_standing(standing: Standing, text: &mut Vec<u8>) -> Result<(), Memory>
 {
     match standing {
         Standing::Down => append(b"down", text),
-        Standing::Live(state) => append(state_name(state), text),
+        Standing::Live(State::WaitOpen) => append(b"wait-open", text),
+        Standing::Live(State::WaitKeep) => append(b"wait-keepalive", text),
+        Standing::Live(State::Established) => append(b"established", text),
+        Standing::Live(State::Closed) => append(b"closed", text),
         Standing::Ended(Closed::Fault { code, subcode }) => append_codes(
             b"closed ", code, subcode, text,
         ),
@@ -84,16 +87,4 @@ pub fn append_codes(word: &[u8], code: u8, subcode: u8, text: &mut Vec<u8>) -> R
     append_decimal(code, text)?;
     append(b"/", text)?;
     append_decimal(subcode, text)
-}
-
-/// The name of an open session's state.
-fn state_name(state: State) -> &'static [u8]
-    ensures { result.now ≡ state_name state }
-{
-    match state {
-        State::WaitOpen => b"wait-open",
-        State::WaitKeep => b"wait-keepalive",
-        State::Established => b"established",
-        State::Closed => b"closed",
-    }
 }

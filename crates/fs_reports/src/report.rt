@@ -45,7 +45,7 @@ fn report_field(alloc: Global, family: Family, octets: &[u8]) -> Result<Report, 
     'frames: while !rest.is_empty() {
         match decode(alloc, family, rest) {
             Ok((rule, taken)) => {
-                append_rule(alloc, number, &rule, &mut text)?;
+                append_rule(number, &rule, &mut text)?;
                 number += 1;
                 rest = &rest[taken..];
             }
@@ -65,12 +65,12 @@ fn report_field(alloc: Global, family: Family, octets: &[u8]) -> Result<Report, 
     })
 }
 
-fn append_rule(alloc: Global, number: usize, rule: &Rule, text: &mut Vec<u8>) -> Result<(), Memory>
+fn append_rule(number: usize, rule: &Rule, text: &mut Vec<u8>) -> Result<(), Memory>
     ensures { OnOk result (text.new.items ≡ text.old.items ++ frame_line number rule.now) }
 {
     append_decimal(number, text)?;
     append(b" ", text)?;
-    append_frame(alloc, rule, text)?;
+    append_frame(rule, text)?;
     append(b"\n", text)
 }
 

@@ -12,42 +12,30 @@ use fs_line::{append, append_decimal, append_hex, family_name};
 use fs_nlri::{Rule, encode};
 use fs_rules::{HeldFlow, LentRule, Table};
 use fs_validate::Validity;
-use std::alloc::Global;
 
 /// Appends the lines of a family's rules: of the admitted ones in order, each with its number from 1, and then of each
 /// held route that isn't valid, with the reason, in the order of rules, then by peer.
-pub fn append_rules(
-    alloc: Global,
-    family: Family,
-    table: &Table<'_>,
-    text: &mut Vec<u8>,
-) -> Result<(), Memory>
+pub fn append_rules(family: Family, table: &Table<'_>, text: &mut Vec<u8>) -> Result<(), Memory>
     ensures { OnOk result (text.new.items ≡ text.old.items ++ family_text family table.now) }
 {
     let admitted = table.admitted(family)?;
-    append_admitted(alloc, family, &admitted, text)?;
+    append_admitted(family, &admitted, text)?;
     let held = table.held(family)?;
-    append_invalid(alloc, family, &held, text)
+    append_invalid(family, &held, text)
 }
 
 /// Appends the lines of admitted rules.
-fn append_admitted(
-    alloc: Global,
-    family: Family,
-    rules: &[LentRule<'_>],
-    text: &mut Vec<u8>,
-) -> Result<(), Memory>
+fn append_admitted(family: Family, rules: &[LentRule<'_>], text: &mut Vec<u8>) -> Result<(), Memory>
     ensures { OnOk result (text.new.items ≡ text.old.items ++ admitted_lines family 1 (map shown_lent rules.now)) }
 {
     for (place, rule) in rules.iter().enumerate() {
-        append_admitted_rule(alloc, family, place + 1, rule, text)?;
+        append_admitted_rule(family, place + 1, rule, text)?;
     }
     Ok(())
 }
 
 /// Appends the line of the admitted rule of this number.
 fn append_admitted_rule(
-    alloc: Global,
     family: Family,
     number: usize,
     rule: &LentRule<'_>,
@@ -56,8 +44,8 @@ fn append_admitted_rule(
     ensures { OnOk result (text.new.items ≡ text.old.items ++ admitted_line family number (shown_lent rule.now)) }
 {
     append_number(family, number, text)?;
-    append_head(alloc, rule.rule, rule.peer, text)?;
-    append_tail(alloc, rule.actions.actions(), text)
+    append_head(rule.rule, rule.peer, text)?;
+    append_tail(rule.actions.actions(), text)
 }
 
 /// Appends the family's name and the number of a rule.
@@ -70,82 +58,67 @@ fn append_number(family: Family, number: usize, text: &mut Vec<u8>) -> Result<()
 }
 
 /// Appends the rule's canonical octets and the peer's number.
-fn append_head(alloc: Global, rule: &Rule, peer: u16, text: &mut Vec<u8>) -> Result<(), Memory>
+fn append_head(rule: &Rule, peer: u16, text: &mut Vec<u8>) -> Result<(), Memory>
     ensures { OnOk result (text.new.items ≡ text.old.items ++ head_text rule.now peer) }
 {
     append(b" ", text)?;
-    append_frame(alloc, rule, text)?;
+    append_frame(rule, text)?;
     append(b" peer ", text)?;
     append_decimal(peer, text)
 }
 
 /// Appends the rule's canonical frame in hexadecimal.
-pub(crate) fn append_frame(alloc: Global, rule: &Rule, text: &mut Vec<u8>) -> Result<(), Memory>
+pub(crate) fn append_frame(rule: &Rule, text: &mut Vec<u8>) -> Result<(), Memory>
     ensures { OnOk result (text.new.items ≡ text.old.items ++ encode_lower (canonical_frame rule.now)) }
 {
-    let mut frame = Vec::new(alloc);
+    let mut frame = Vec::new(*text.allocator());
     encode(rule, &mut frame)?;
-    append_hex(alloc, &frame, text)
+    append_hex(*text.allocator(), &frame, text)
 }
 
 /// Appends what a rule's line says of its actions, and the line's end.
-pub(crate) fn append_tail(
-    alloc: Global,
-    actions: &Actions,
-    text: &mut Vec<u8>,
-) -> Result<(), Memory>
+pub(crate) fn append_tail(actions: &Actions, text: &mut Vec<u8>) -> Result<(), Memory>
     ensures { OnOk result (text.new.items ≡ text.old.items ++ tail_text actions.now) }
 {
     append(b" actions ", text)?;
-    append_actions(alloc, actions, text)?;
+    append_actions(actions, text)?;
     append(b"\n", text)
 }
 
 /// Appends the communities of the actions in hexadecimal, or `-` where there are none.
-fn append_actions(alloc: Global, actions: &Actions, text: &mut Vec<u8>) -> Result<(), Memory>
+fn append_actions(actions: &Actions, text: &mut Vec<u8>) -> Result<(), Memory>
     ensures { OnOk result (text.new.items ≡ text.old.items ++ actions_text actions.now) }
 {
     if actions.as_slice().is_empty() {
         return append(b"-", text);
     }
-    let mut octets = Vec::new(alloc);
+    let mut octets = Vec::new(*text.allocator());
     actions.to_communities(&mut octets)?;
-    append_hex(alloc, &octets, text)
+    append_hex(*text.allocator(), &octets, text)
 }
 
 /// Appends the lines of those held routes that aren't valid.
-fn append_invalid(
-    alloc: Global,
-    family: Family,
-    routes: &[HeldFlow<'_>],
-    text: &mut Vec<u8>,
-) -> Result<(), Memory>
+fn append_invalid(family: Family, routes: &[HeldFlow<'_>], text: &mut Vec<u8>) -> Result<(), Memory>
     ensures { OnOk result (text.new.items ≡ text.old.items ++ invalid_lines family (map shown_held routes.now)) }
 {
     for route in routes {
-        append_route(alloc, family, route, text)?;
+        append_route(family, route, text)?;
     }
     Ok(())
 }
 
 /// Appends the line of a held route, unless it is valid.
-fn append_route(
-    alloc: Global,
-    family: Family,
-    route: &HeldFlow<'_>,
-    text: &mut Vec<u8>,
-) -> Result<(), Memory>
+fn append_route(family: Family, route: &HeldFlow<'_>, text: &mut Vec<u8>) -> Result<(), Memory>
     ensures { OnOk result (text.new.items ≡ text.old.items ++ invalid_text family (shown_held route.now)) }
 {
     match reason_of(route.validity) {
-        Some(reason) => append_invalid_route(alloc, family, route, reason, text),
+        Some(reason) => append_invalid_route(family, route, reason, text),
         None => Ok(()),
     }
 }
 
 /// Appends the line of a held route that isn't valid for this reason.
 fn append_invalid_route(
-    alloc: Global,
     family: Family,
     route: &HeldFlow<'_>,
     reason: &[u8],
@@ -155,7 +128,7 @@ fn append_invalid_route(
 {
     append(family_name(family), text)?;
     append(b" invalid", text)?;
-    append_head(alloc, route.rule, route.peer, text)?;
+    append_head(route.rule, route.peer, text)?;
     append(b" ", text)?;
     append(reason, text)?;
     append(b"\n", text)

@@ -13,17 +13,12 @@ use fs_text::{TextFault, read};
 use std::alloc::Global;
 
 /// Appends the canonical octets of the rule and of the actions.
-fn append_pair(
-    alloc: Global,
-    rule: &Rule,
-    actions: &Actions,
-    text: &mut Vec<u8>,
-) -> Result<(), Memory>
+fn append_pair(rule: &Rule, actions: &Actions, text: &mut Vec<u8>) -> Result<(), Memory>
     ensures { OnOk result (text.new.items ≡ text.old.items ++ pair_line rule.now actions.now) }
 {
     append(b"1 ", text)?;
-    append_frame(alloc, rule, text)?;
-    append_tail(alloc, actions, text)
+    append_frame(rule, text)?;
+    append_tail(actions, text)
 }
 
 /// Appends why a word is no text.
@@ -50,7 +45,7 @@ pub fn report_on_text(alloc: Global, word: &str) -> Result<Report, Memory>
     let mut text = Vec::new(alloc);
     match read(alloc, word) {
         Ok((rule, actions)) => {
-            append_pair(alloc, &rule, &actions, &mut text)?;
+            append_pair(&rule, &actions, &mut text)?;
             Ok(Report {
                 text,
                 accepted: true,

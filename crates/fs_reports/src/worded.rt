@@ -1,12 +1,8 @@
 //! The admitted rules in words, as a desk stands.
 
-ghost use Rattle.std.specs.Prelude.{◌≡◌, ◌++◌, IfOk, List, OnOk, map};
-ghost use Rattle.std.specs.String.{string_bytes};
-ghost use Rattle.fs_base.specs.declared.config.Config.{Config};
-ghost use Rattle.fs_tape.specs.Tape.{Item};
-ghost use Rattle.fs_desk.specs.Desk.{Played};
+ghost use Rattle.std.specs.{Prelude.{◌≡◌, ◌++◌, IfOk, OnOk, map}, String.{string_bytes}};
 ghost use Rattle.fs_rules.specs.Lent.{shown_lent};
-ghost use Rattle.fs_reports.specs.Worded.{rule_line, rule_lines, words_of_held, worded};
+ghost use Rattle.fs_reports.specs.{Listing.{Tells}, Worded.{rule_line, rule_lines, words_of_held, worded}};
 
 use fs_base::{Family, Memory};
 use fs_desk::Desk;
@@ -20,8 +16,7 @@ use std::alloc::Global;
 ///
 /// `Memory` where the machine refused memory.
 pub fn desk_words(alloc: Global, desk: &Desk<'_>) -> Result<Vec<u8>, Memory>
-    ensures { IfOk result (λ text. (config : Config) (items : List Item) → Played config items desk.now
-        → text.items ≡ worded config items desk.now.held) }
+    ensures { IfOk result (λ text. Tells worded desk.now text.items) }
 {
     let mut text = String::new(alloc);
     append_table(desk.table(), &mut text)?;

@@ -1,6 +1,5 @@
 -- What the kept validities tell is what is defined over all held routes.
-use Rattle.fs_rules.proofs.Words.{ℕ, zero, suc, ◌≡◌, refl, sym, ap, ap₂, subst, ◌∙◌, Bool, true, false, not, ◌&&◌, ◌||◌, cond, List, [], ◌∷◌, filter, map, slice_get, option_map, Option, list_any, AllByRecursion, Config, Family, each_weaker, filter_on, each_mapped, Route, place_cmp, validity, FlowRoute, Kept, Held, is_of_family, is_valid, beats, is_most_preferred, admitted, IsRuleOf, Judged, judged, listed, held_flows, judgement, listing, routes_of, AreRight, Keeps, is_chosen, chosen, mended, AreSorted, of_family, routes-filter, AgreeOff, keeps-mended, agree_insert, agree_remove, insert_entry, is_at, remove_entry, Prefix, Path, Place, is_to, Entry, IsSound, AreLent, AreTold}
-use Rattle.fs_rules.proofs.Complete.{held_rising, is_admitted_list}
+use Rattle.fs_rules.proofs.{Words.{ℕ, zero, suc, ◌≡◌, refl, sym, ap, ap₂, subst, ◌∙◌, Bool, true, false, not, ◌&&◌, ◌||◌, cond, List, [], ◌∷◌, filter, map, slice_get, option_map, Option, list_any, AllByRecursion, Config, Family, each_weaker, filter_on, each_mapped, Route, place_cmp, validity, FlowRoute, Kept, Held, is_of_family, is_valid, beats, is_most_preferred, admitted, IsRuleOf, Judged, judged, listed, held_flows, judgement, listing, routes_of, AreRight, Keeps, is_chosen, chosen, mended, AreSorted, of_family, routes-filter, AgreeOff, keeps-mended, agree_insert, agree_remove, insert_entry, is_at, remove_entry, Prefix, Path, Place, is_to, Entry, IsSound, AreLent, AreTold}, Complete.{held_rising, is_admitted_list}}
 use Rattle.fs_flows.proofs.Places.{stands_here}
 
 abbrev pub held_of : Config → List Route → List FlowRoute → Held

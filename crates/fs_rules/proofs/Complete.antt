@@ -1,7 +1,6 @@
 -- Each rule that has a valid route has a most preferred one.
-use Rattle.fs_rules.proofs.Words.{ℕ, ◌≡◌, refl, sym, ap, ◌∙◌, Bool, true, false, true≢false, not, ◌&&◌, ◌||◌, ◌==◌, filter, map, List, [], ◌∷◌, Less, Equal, is_eq, is_lt, nat_cmp, arith, list_any, AllByRecursion, tied_itself, tied_back, nat_tests, Family, Path, or_first, or_second, and_both, and_first, and_second, false_from, each_weaker, each_mapped, none_each, each_none, any_filter, equal_of_is_eq, less_of_is_lt, rule_cmp, rule_total, preference_cmp, preferred, FlowRoute, Held, is_of_family, stands, same_rule, beats, is_most_preferred, admitted, IsAdmitted, AreSorted, judged, judged_cmp, AreRising, held_flows, sorted-filter, first_equal, preference_total}
+use Rattle.fs_rules.proofs.{Words.{ℕ, ◌≡◌, refl, sym, ap, ◌∙◌, Bool, true, false, true≢false, not, ◌&&◌, ◌||◌, ◌==◌, filter, map, List, [], ◌∷◌, Less, Equal, is_eq, is_lt, nat_cmp, arith, list_any, AllByRecursion, tied_itself, tied_back, nat_tests, Family, Path, or_first, or_second, and_both, and_first, and_second, false_from, each_weaker, each_mapped, none_each, each_none, any_filter, equal_of_is_eq, less_of_is_lt, rule_cmp, rule_total, preference_cmp, preferred, FlowRoute, Held, is_of_family, stands, same_rule, beats, is_most_preferred, admitted, IsAdmitted, AreSorted, judged, judged_cmp, AreRising, held_flows, sorted-filter, first_equal, preference_total}, Orders.{admitted_ordered}}
 use Rattle.fs_base.specs.Bits.{afi_of}
-use Rattle.fs_rules.proofs.Orders.{admitted_ordered}
 
 abbrev seen : FlowRoute → ℕ × Path
 seen r = (r.peer, r.path)

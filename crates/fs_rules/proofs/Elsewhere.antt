@@ -1,6 +1,5 @@
 -- Of the rules that a change doesn't touch the same routes are admitted, since a route is beaten only by one of its rule.
-use Rattle.fs_rules.proofs.Words.{◌≡◌, refl, sym, ap, ap₂, subst, ◌∙◌, Bool, true, false, not, ◌&&◌, ◌||◌, cond, List, [], ◌∷◌, filter, Ordering, Less, Equal, Greater, nat_cmp, ℕ, list_any, AllByRecursion, match_ordering, Config, Family, Prefix, and_both, and_first, and_second, false_of_not, or_second, same_tests, any_filter, any_on, each, each_both, each_weaker, filter_none, filter_on, each_mapped, equal_of_is_eq, Ruled, IsRule, destination_prefix, rule_cmp, first_equal, same_rules, preferred, Route, validity, FlowRoute, Kept, IsRight, AreRight, IsMarked, is_related_kept, routes_of, HaveRules, AdmitsElsewhere, Covers, Noted, StaysNoted, is_noted, touched_by, Held, admitted, beats, is_key, is_most_preferred, is_of_family, is_valid, key_cmp, put_route, same_rule, without_route, AgreeOff, each-filtered, each-put_route, unrelated}
-use Rattle.fs_rules.proofs.Chosen.{held_of}
+use Rattle.fs_rules.proofs.{Words.{◌≡◌, refl, sym, ap, ap₂, subst, ◌∙◌, Bool, true, false, not, ◌&&◌, ◌||◌, cond, List, [], ◌∷◌, filter, Ordering, Less, Equal, Greater, nat_cmp, ℕ, list_any, AllByRecursion, match_ordering, Config, Family, Prefix, and_both, and_first, and_second, false_of_not, or_second, same_tests, any_filter, any_on, each, each_both, each_weaker, filter_none, filter_on, each_mapped, equal_of_is_eq, Ruled, IsRule, destination_prefix, rule_cmp, first_equal, same_rules, preferred, Route, validity, FlowRoute, Kept, IsRight, AreRight, IsMarked, is_related_kept, routes_of, HaveRules, AdmitsElsewhere, Covers, Noted, StaysNoted, is_noted, touched_by, Held, admitted, beats, is_key, is_most_preferred, is_of_family, is_valid, key_cmp, put_route, same_rule, without_route, AgreeOff, each-filtered, each-put_route, unrelated}, Chosen.{held_of}}
 use Rattle.fs_flows.proofs.Noting.{filter_both, joined, spares}
 
 filter_swap : {X : Type 0} (p q : X → Bool) (xs : List X) → filter p (filter q xs) ≡ filter q (filter p xs)

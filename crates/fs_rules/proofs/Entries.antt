@@ -1,8 +1,6 @@
 -- Entries that are kept in the order of their keys, as an ordered map has them.
 use Rattle.fs_rules.proofs.Words.{◌≡◌, List, [], ◌∷◌, Bool, true, false, cond, Option, Some, if◌then◌else◌, refl, ap, sym, ◌∙◌, true≢false, match_ordering, ordering_reverse, IsTotalOrder, alike_right, AllByRecursion, IsStrictlySortedBy, lookup, remove_entry, keys_of, insert_entry, is_at, equal_of_is_eq}
-use Rattle.std.specs.declared.cmp.Ordering.{Ordering}
-use Rattle.std.specs.declared.cmp.Ordering.TheVariants.{Less, Equal, Greater}
-use Rattle.std.specs.Ordering.{is_eq}
+use Rattle.std.specs.{declared.cmp.Ordering.{Ordering, TheVariants.{Less, Equal, Greater}}, Ordering.{is_eq}}
 
 module _ {K : Type 0} (R : K → K → Ordering) (o : IsTotalOrder R) where
   apart : (q k p : K) → R k p ≡ Greater → is_eq (R q k) ≡ true → is_eq (R q p) ≡ false

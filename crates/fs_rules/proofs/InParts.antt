@@ -1,7 +1,6 @@
 -- What the kept validities tell, read one group after the other.
 use Rattle.fs_rules.proofs.Words.{ℕ, suc, ◌≡◌, ◌+◌, ◌≤◌, refl, sym, ap, ◌∙◌, Bool, true, false, true≢false, cond, List, [], ◌∷◌, ◌++◌, length, find, nat_le, is_some, Option, Some, None, option_map, slice_get, zero, ◌-◌, arith, length-map, map-append, Family, FlowRoute, Kept, routes_of, chosen, matching_from, flat, AreCut, chosen_flat}
-use Rattle.fs_packet.specs.Fields.{Viewed}
-use Rattle.fs_packet.specs.Matching.{is_match}
+use Rattle.fs_packet.specs.{Fields.{Viewed}, Matching.{is_match}}
 use Rattle.fs_flows.proofs.ChosenParts.{chosen-append}
 
 routes-append : (xs ys : List Kept) → routes_of (xs ++ ys) ≡ routes_of xs ++ routes_of ys

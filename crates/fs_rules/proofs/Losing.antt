@@ -1,6 +1,5 @@
 -- A peer's unicast routes are taken away one after the other.
-use Rattle.fs_rules.proofs.Words.{ℕ, ◌≡◌, ◌+◌, ◌<◌, ◌≤◌, refl, sym, ap, subst, ◌∙◌, Bool, true, false, true≢false, not, ◌&&◌, ◌==◌, cond, List, [], ◌∷◌, length, find, Option, Some, None, option_map, Ordering, Less, Equal, Greater, is_eq, is_le, nat_cmp, arith, AllByRecursion, ordering_then, nat_tests, is_at, keys_of, remove_entry, IsStrictlySortedBy, tied_itself, sorted_head, sorted_tail, not_of_true, prefix_total, prefix_cmp, Prefix, same_from_cmp, filter-remove_other, each, each_weaker, each_of_map, each_remove, find_on, is_le_of_then, is_eq_of_first, Route, place_cmp, Place, held_by, is_from, place, place_itself, FlowRoute, Held, without_peer_unicast, related_count, related_sum}
-use Rattle.fs_rules.proofs.Chosen.{with_unicast}
+use Rattle.fs_rules.proofs.{Words.{ℕ, ◌≡◌, ◌+◌, ◌<◌, ◌≤◌, refl, sym, ap, subst, ◌∙◌, Bool, true, false, true≢false, not, ◌&&◌, ◌==◌, cond, List, [], ◌∷◌, length, find, Option, Some, None, option_map, Ordering, Less, Equal, Greater, is_eq, is_le, nat_cmp, arith, AllByRecursion, ordering_then, nat_tests, is_at, keys_of, remove_entry, IsStrictlySortedBy, tied_itself, sorted_head, sorted_tail, not_of_true, prefix_total, prefix_cmp, Prefix, same_from_cmp, filter-remove_other, each, each_weaker, each_of_map, each_remove, find_on, is_le_of_then, is_eq_of_first, Route, place_cmp, Place, held_by, is_from, place, place_itself, FlowRoute, Held, without_peer_unicast, related_count, related_sum}, Chosen.{with_unicast}}
 
 -- the removed place is the peer's, and at the prefix
 pub peers_equal : (o : Ordering) (m n : ℕ) → is_eq (ordering_then o (nat_cmp m n)) ≡ true → (n == m) ≡ true

@@ -1,17 +1,8 @@
 -- The counts of the routes that each peer holds, and the prefixes at which it gave unicast routes.
-use Rattle.std.specs.Prelude.{◌≡◌, ℕ, ◌+◌, ◌<◌, ◌^◌, ◌==◌, Bool, true, false, Option, Some, None, List}
-use Rattle.std.specs.BTreeMap.{is_at}
-use Rattle.std.specs.List.{AllByRecursion}
-use Rattle.std.specs.List.Sorted.{IsStrictlySortedBy}
-use Rattle.std.specs.Map.{keys_of, lookup}
-use Rattle.std.specs.Ordering.{nat_cmp}
-use Rattle.fs_base.specs.declared.config.Config.{Config}
-use Rattle.fs_base.specs.declared.prefix.Prefix.{Prefix}
+use Rattle.std.specs.{Prelude.{◌≡◌, ℕ, ◌+◌, ◌<◌, ◌^◌, ◌==◌, Bool, true, false, Option, Some, None, List}, BTreeMap.{is_at}, List.{AllByRecursion, Sorted.{IsStrictlySortedBy}}, Map.{keys_of, lookup}, Ordering.{nat_cmp}}
+use Rattle.fs_base.specs.declared.{config.Config.{Config}, prefix.Prefix.{Prefix}}
 use Rattle.fs_unicast.specs.Unicast.{Route, place_cmp}
-use Rattle.fs_flows.specs.Kept.{Kept}
-use Rattle.fs_flows.specs.Group.{Keeps, routes_of}
-use Rattle.fs_flows.specs.Listed.{Prefixes, has, is_among}
-use Rattle.fs_flows.specs.Table.{count_in}
+use Rattle.fs_flows.specs.{Kept.{Kept}, Group.{Keeps, routes_of}, Listed.{Prefixes, has, is_among}, Table.{count_in}}
 
 -- how many routes a peer holds, and the prefixes at which it gave unicast routes
 pub record Holding : Type 0 where

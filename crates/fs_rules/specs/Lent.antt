@@ -1,19 +1,11 @@
 -- What the table lends of its routes.
-use Rattle.std.specs.Prelude.{ℕ, ◌≡◌, List, [], ◌∷◌, ◌++◌, map, filter}
-use Rattle.std.specs.List.{AllByRecursion}
-use Rattle.std.specs.Ordering.{nat_cmp, ordering_then}
-use Rattle.std.specs.declared.cmp.Ordering.{Ordering}
-use Rattle.std.specs.declared.cmp.Ordering.TheVariants.{Less}
+use Rattle.std.specs.{Prelude.{ℕ, ◌≡◌, List, [], ◌∷◌, ◌++◌, map, filter}, List.{AllByRecursion}, Ordering.{nat_cmp, ordering_then}, declared.cmp.Ordering.{Ordering, TheVariants.{Less}}}
 use Rattle.fs_base.specs.declared.prefix.Family.{Family}
 use Rattle.fs_nlri.specs.Parts.{Ruled}
 use Rattle.fs_order.specs.Comparison.{rule_cmp}
-use Rattle.fs_validate.specs.Validity.{validity}
-use Rattle.fs_validate.specs.declared.route.FlowRoute.{FlowRoute}
-use Rattle.fs_validate.specs.declared.validity.Validity.{Validity}
+use Rattle.fs_validate.specs.{Validity.{validity}, declared.{route.FlowRoute.{FlowRoute}, validity.Validity.{Validity}}}
 use Rattle.fs_flows.specs.Table.{Held, is_of_family}
-use Rattle.fs_rules.specs.declared.lent.Admitted.{Admitted}
-use Rattle.fs_rules.specs.declared.lent.HeldFlow.{HeldFlow}
-use Rattle.fs_rules.specs.declared.lent.LentRule.{LentRule}
+use Rattle.fs_rules.specs.declared.lent.{Admitted.{Admitted}, HeldFlow.{HeldFlow}, LentRule.{LentRule}}
 
 -- an admitted rule: with the peer and the actions of its most preferred valid route
 pub record Listed : Type 0 where

@@ -2,8 +2,7 @@
 use Rattle.std.specs.Prelude.{ℕ, Option, map, option_map, slice_get, List}
 use Rattle.fs_base.specs.declared.prefix.Family.{Family}
 use Rattle.fs_validate.specs.declared.route.FlowRoute.{FlowRoute}
-use Rattle.fs_flows.specs.Kept.{Kept}
-use Rattle.fs_flows.specs.Group.{routes_of, chosen}
+use Rattle.fs_flows.specs.{Kept.{Kept}, Group.{routes_of, chosen}}
 use Rattle.fs_rules.specs.Lent.{Listed, listed, Judged}
 
 abbrev pub judgement : Kept → Judged

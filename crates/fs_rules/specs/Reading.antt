@@ -1,16 +1,8 @@
 -- What is told of one group after the other.
-use Rattle.std.specs.Prelude.{◌≡◌, ◌<◌, ◌^◌, ℕ, Option, map, filter, length, option_map, slice_get, List, [], ◌∷◌, ◌++◌}
-use Rattle.std.specs.List.{AllByRecursion}
-use Rattle.fs_base.specs.declared.prefix.Family.{Family}
-use Rattle.fs_base.specs.declared.prefix.Prefix.{Prefix}
-use Rattle.fs_flows.specs.Kept.{Kept}
-use Rattle.fs_flows.specs.Changes.{is_to}
-use Rattle.fs_flows.specs.Group.{AreSorted, chosen, routes_of}
-use Rattle.fs_flows.specs.Groups.{Entry, HasSortedGroups, kept_in}
-use Rattle.fs_rules.specs.Lists.{listing, listings, judgement, judgements}
-use Rattle.fs_rules.specs.Lent.{AreRising, Judged, Listed, held_flows, listed}
-use Rattle.fs_flows.specs.Table.{Held, IsAdmitted, IsRuleOf, admitted}
-use Rattle.fs_flows.specs.Lending.{chosen_in, group_at}
+use Rattle.std.specs.{Prelude.{◌≡◌, ◌<◌, ◌^◌, ℕ, Option, map, filter, length, option_map, slice_get, List, [], ◌∷◌, ◌++◌}, List.{AllByRecursion}}
+use Rattle.fs_base.specs.declared.prefix.{Family.{Family}, Prefix.{Prefix}}
+use Rattle.fs_flows.specs.{Kept.{Kept}, Changes.{is_to}, Group.{AreSorted, chosen, routes_of}, Groups.{Entry, HasSortedGroups, kept_in}, Table.{Held, IsAdmitted, IsRuleOf, admitted}, Lending.{chosen_in, group_at}}
+use Rattle.fs_rules.specs.{Lists.{listing, listings, judgement, judgements}, Lent.{AreRising, Judged, Listed, held_flows, listed}}
 
 abbrev pub listings_in : Family → List Entry → List Kept → List Listed
 listings_in family groups rest = map listing (chosen_in family groups rest)

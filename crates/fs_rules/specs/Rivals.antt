@@ -1,11 +1,9 @@
 -- Routes of the same rule beside a place, and which of two is preferred.
-use Rattle.std.specs.Prelude.{◌&&◌, not, Bool, true, false, Option, Some, None}
-use Rattle.std.specs.Ordering.{is_gt}
+use Rattle.std.specs.{Prelude.{◌&&◌, not, Bool, true, false, Option, Some, None}, Ordering.{is_gt}}
 use Rattle.fs_nlri.specs.Parts.{Ruled}
 use Rattle.fs_unicast.specs.Preference.{preferred}
 use Rattle.fs_validate.specs.Validity.{validity}
-use Rattle.fs_flows.specs.Kept.{Kept}
-use Rattle.fs_flows.specs.Table.{key_cmp, is_valid, same_rule}
+use Rattle.fs_flows.specs.{Kept.{Kept}, Table.{key_cmp, is_valid, same_rule}}
 
 -- s is valid and preferred to k
 abbrev pub is_better : Kept → Kept → Bool

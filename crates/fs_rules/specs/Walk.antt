@@ -1,9 +1,7 @@
 -- The walk of a packet over the admitted rules of its family, in their order (RFC 8955 sections 5.1 and 7.3).
-use Rattle.std.specs.Prelude.{ℕ, ◌+◌, Bool, Option, Some, None, List, [], ◌∷◌, find, nat_le, if◌then◌else◌}
-use Rattle.std.specs.List.{list_any}
+use Rattle.std.specs.{Prelude.{ℕ, ◌+◌, Bool, Option, Some, None, List, [], ◌∷◌, find, nat_le, if◌then◌else◌}, List.{list_any}}
 use Rattle.fs_actions.specs.Community.{has_flag}
-use Rattle.fs_packet.specs.Fields.{Viewed}
-use Rattle.fs_packet.specs.Matching.{is_match}
+use Rattle.fs_packet.specs.{Fields.{Viewed}, Matching.{is_match}}
 use Rattle.fs_validate.specs.declared.route.FlowRoute.{FlowRoute}
 use Rattle.fs_rules.specs.Lent.{Listed}
 

@@ -1,11 +1,8 @@
 //! What the kept validities tell, read one block of a group after the other.
 
-ghost use Rattle.std.specs.Prelude.{◌≡◌, ◌≤◌, ◌<◌, ◌+◌, ◌^◌, ◌++◌, OnOk, map, filter, length, option_map, slice_get, nat_le, find};
-ghost use Rattle.fs_flows.specs.Blocks.{flat, AreCut, AreEachSorted};
-ghost use Rattle.fs_flows.specs.Group.{chosen, AreSorted, routes_of};
-ghost use Rattle.fs_rules.specs.Lent.{listed, shown_admitted, shown_held, shown_lent, all_admitted, all_held, AddsRules, AddsHeld};
-ghost use Rattle.fs_rules.specs.Lists.{judgement, routes_chosen, listing, listings, judgements, nth_listing};
-ghost use Rattle.fs_rules.specs.Walk.{matching_from};
+ghost use Rattle.std.specs.Prelude.{◌≡◌, ◌<◌, ◌+◌, ◌^◌, OnOk, length, option_map, slice_get, nat_le, find};
+ghost use Rattle.fs_flows.specs.{Blocks.{flat, AreCut}, Group.{chosen, AreSorted, routes_of}};
+ghost use Rattle.fs_rules.specs.{Lent.{shown_admitted, shown_held, AddsRules, AddsHeld}, Lists.{judgement, routes_chosen, listings, judgements, nth_listing}, Walk.{matching_from}};
 
 use crate::lent::{Admitted, HeldFlow, LentRule};
 use crate::lists;

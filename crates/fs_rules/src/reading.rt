@@ -1,13 +1,8 @@
 //! What the kept validities tell, read one group after the other.
 
-ghost use Rattle.std.specs.Prelude.{◌≡◌, ◌≤◌, ◌+◌, ◌<◌, ◌^◌, ◌++◌, OnOk, map, filter, length, option_map, slice_get};
-ghost use Rattle.fs_flows.specs.Group.{AreSorted, routes_of};
-ghost use Rattle.fs_flows.specs.Groups.{kept_in, HasSortedGroups};
-ghost use Rattle.fs_rules.specs.Lent.{listed, shown_admitted, shown_held, shown_lent, all_admitted, all_held, AddsRules, AddsHeld};
-ghost use Rattle.fs_rules.specs.Lists.{judgement, listing, listings};
-ghost use Rattle.fs_flows.specs.Lending.{group_at, chosen_in};
-ghost use Rattle.fs_rules.specs.Reading.{listings_in, judgements_in, nth_listing_in, nth_judgement_in};
-ghost use Rattle.fs_rules.specs.Walk.{next_match};
+ghost use Rattle.std.specs.Prelude.{◌≡◌, ◌+◌, ◌<◌, ◌^◌, OnOk, length, option_map};
+ghost use Rattle.fs_flows.specs.{Group.{AreSorted, routes_of}, Groups.{HasSortedGroups}, Lending.{group_at, chosen_in}};
+ghost use Rattle.fs_rules.specs.{Lent.{shown_admitted, shown_held, AddsRules, AddsHeld}, Lists.{listings}, Reading.{listings_in, judgements_in, nth_listing_in, nth_judgement_in}, Walk.{next_match}};
 
 use crate::blocks;
 use crate::lent::{Admitted, HeldFlow, LentRule};

@@ -1,9 +1,7 @@
 //! Whether a route is the most preferred valid one of its rule: its rivals stand beside it.
 
 ghost use Rattle.std.specs.Prelude.{◌≡◌, ◌≤◌, ◌<◌, length, slice_get, Some, true, false};
-ghost use Rattle.fs_flows.specs.Shared.{flow_of};
-ghost use Rattle.fs_flows.specs.Table.{is_of_family, is_valid, same_rule};
-ghost use Rattle.fs_flows.specs.Group.{AreSorted, is_beaten, is_chosen, place_in, routes_of};
+ghost use Rattle.fs_flows.specs.{Shared.{flow_of}, Table.{is_of_family, is_valid, same_rule}, Group.{AreSorted, is_beaten, is_chosen, place_in, routes_of}};
 ghost use Rattle.fs_rules.specs.Rivals.{is_apart, is_before_rule, is_better};
 
 use fs_base::Family;

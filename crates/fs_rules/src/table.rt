@@ -1,20 +1,11 @@
 //! The table.
 
-ghost use Rattle.std.specs.Prelude.{◌≡◌, ◌≤◌, ◌+◌, false, [], IfOk, OnOk, OnErr, option_map, length, map, filter, slice_get, true, Bool};
-ghost use Rattle.std.specs.BTreeMap.{insert_entry, is_at};
-ghost use Rattle.std.specs.List.{AllByRecursion};
-ghost use Rattle.std.specs.List.Sorted.{IsStrictlySortedBy};
-ghost use Rattle.std.specs.Map.{keys_of, remove_entry, lookup};
-ghost use Rattle.fs_unicast.specs.Unicast.{place_cmp, has_path};
-ghost use Rattle.fs_flows.specs.Table.{put_route, without_route, has_route, without_peer_unicast, without_peer_flows, related_count, related_sum, admitted, IsAdmitted, IsRuleOf, with_flow, with_path, without_path, without_peer, held_count, Held};
+ghost use Rattle.std.specs.{Prelude.{◌≡◌, ◌≤◌, ◌+◌, false, [], IfOk, OnOk, OnErr, option_map, length, map, filter, slice_get, true, Bool}, List.{AllByRecursion, Sorted.{IsStrictlySortedBy}}, Map.{keys_of}};
+ghost use Rattle.fs_unicast.specs.{Unicast.{place_cmp, has_path}, Search.{held_by}};
+ghost use Rattle.fs_flows.specs.{Table.{without_route, has_route, without_peer_unicast, without_peer_flows, related_count, related_sum, admitted, IsAdmitted, IsRuleOf, with_flow, with_path, without_path, without_peer, held_count, Held}, Changes.{AdmitsElsewhere, Covers, is_to}};
 ghost use Rattle.fs_base.specs.declared.prefix.Family.{Family};
 ghost use Rattle.fs_nlri.specs.Parts.{Ruled};
-ghost use Rattle.fs_flows.specs.Changes.{AdmitsElsewhere, Covers, is_to};
-ghost use Rattle.fs_rules.specs.Lent.{listed, shown_admitted, shown_held, shown_lent, held_flows, AreRising};
-ghost use Rattle.fs_rules.specs.Reading.{AreTold};
-ghost use Rattle.fs_rules.specs.Walk.{next_match};
-ghost use Rattle.fs_unicast.specs.Search.{held_by};
-ghost use Rattle.fs_rules.specs.Counts.{AreAmong};
+ghost use Rattle.fs_rules.specs.{Lent.{listed, shown_admitted, shown_held, shown_lent, held_flows, AreRising}, Reading.{AreTold}, Walk.{next_match}, Counts.{AreAmong}};
 
 use crate::counts::Counts;
 use crate::latest::Latest;
@@ -45,8 +36,7 @@ pub struct Table<'a> {
 }
 
 impl<'a> Model for Table<'a> {
-    ghost use Rattle.fs_flows.specs.Table.{Held};
-    ghost use Rattle.fs_flows.specs.Group.{routes_of};
+    ghost use Rattle.fs_flows.specs.{Table.{Held}, Group.{routes_of}};
     ghost use Rattle.fs_rules.specs.Counts.{IsKept};
 
     ghost Value = { Held };

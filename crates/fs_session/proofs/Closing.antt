@@ -1,7 +1,6 @@
 -- A message that closes the session.
-use Rattle.fs_session.proofs.Words.{◌≡◌, ℕ, Bool, true, false, List, ◌++◌, drop, Option, Some, None, Ok, Err, ap, sym, ◌∙◌, subst, if◌then◌else◌, Message, message_of, first_message, Framing, Feeds, standing_message, Closed, Fault, Notified, NoFamily, Memory, Machine, Phase, transition_by, IsTransition, step_by, CloseIs, at_fault, ClosesAs}
+use Rattle.fs_session.proofs.{Words.{◌≡◌, ℕ, Bool, true, false, List, ◌++◌, drop, Option, Some, None, Ok, Err, ap, sym, ◌∙◌, subst, if◌then◌else◌, Message, message_of, first_message, Framing, Feeds, standing_message, Closed, Fault, Notified, NoFamily, Memory, Machine, Phase, transition_by, IsTransition, step_by, CloseIs, at_fault, ClosesAs}, SessionSteps.{step_found}}
 use Rattle.std.proofs.lemmas.List.{append-nil}
-use Rattle.fs_session.proofs.SessionSteps.{step_found}
 
 -- A message stands, and it is the first of the octets in hand.
 pub record StandsIn (begun piece : List ℕ) (count : ℕ) (stands : Bool) (framing : Framing) (message : Message) : Type 0 where

@@ -1,9 +1,7 @@
 -- The update of a rule can be written, and with AS numbers of two octets it is no longer than with four.
 use Rattle.fs_session.proofs.Words.{◌≡◌, ℕ, ◌+◌, ◌≤◌, ◌==◌, Bool, true, false, ◌&&◌, nat_le, nat_lt, List, [], ◌∷◌, ◌++◌, length, Result, refl, subst, arith, if◌then◌else◌, length-append, IsTrue, bit_or, flat_map, list_all, nat_tests, leb-true, big_bytes, Config, Peer, Terms, Update, as_text, segments_text, segment, attribute_text, long_text, flags_of, Writes, update_text, written_attributes, local_pref_in, actions_in, reach_text, Sent, Sending, segments_sent, update_by, body_by, is_short, is_sending, terms_of}
 use Rattle.fs_base.proofs.Bools.{and_both, and_parts}
-use Rattle.fs_attrs.specs.declared.update.WriteFault.{WriteFault}
-use Rattle.fs_attrs.specs.declared.update.Routes.TheVariants.{Flow}
-use Rattle.fs_attrs.specs.Attributes.{attribute}
+use Rattle.fs_attrs.specs.{declared.update.{WriteFault.{WriteFault}, Routes.TheVariants.{Flow}}, Attributes.{attribute}}
 
 numbers_shorter : (numbers : List ℕ) → length (flat_map (as_text false) numbers) ≤ length (flat_map (as_text true) numbers)
 numbers_shorter [] = omega arith

@@ -1,8 +1,6 @@
 -- One step and all that is replied: what a call replies to the octets at hand is what the replies to the whole list begin
 -- with, whatever follows.
-use Rattle.fs_session.proofs.Words.{◌≡◌, ℕ, List, [], ◌++◌, Option, None, ap, sym, ◌∙◌, Config, Peer, parts_end, Message, first_message, wrong_at, Update, Closed, Machine, Phase, no_times, taken_in, waits, takes, stops, Handed, reply_to, reply_at, receiver, step_of, reply_rest, replies, replies_by, replies_from}
-use Rattle.fs_session.proofs.MessageRuns.{runs_takes, runs_stops, runs_waits}
-use Rattle.fs_session.proofs.SessionSteps.{replies_none, replies_seen}
+use Rattle.fs_session.proofs.{Words.{◌≡◌, ℕ, List, [], ◌++◌, Option, None, ap, sym, ◌∙◌, Config, Peer, parts_end, Message, first_message, wrong_at, Update, Closed, Machine, Phase, no_times, taken_in, waits, takes, stops, Handed, reply_to, reply_at, receiver, step_of, reply_rest, replies, replies_by, replies_from}, MessageRuns.{runs_takes, runs_stops, runs_waits}, SessionSteps.{replies_none, replies_seen}}
 pub use Rattle.fs_session.proofs.MessageRuns.{Shows, told, wrong_first}
 
 pub replies_rest : (machine : Machine) (now : Phase) (octets : List ℕ) → first_message octets ≡ None

@@ -3,9 +3,7 @@ use Rattle.fs_session.proofs.Words.{◌≡◌, ℕ, ◌+◌, ◌<◌, ◌≤◌,
 use Rattle.std.proofs.lemmas.List.Elements.{All-cons, All-from_recursion, All-nil}
 use Rattle.fs_base.proofs.Covers.{family_itself}
 use Rattle.fs_nlri.specs.Rule.{IsRule}
-use Rattle.fs_attrs.specs.Lists.{IsPrefix}
-use Rattle.fs_attrs.specs.Writable.{is_path_of_session, is_writable}
-use Rattle.fs_attrs.proofs.UpdateReadBack.{read_back}
+use Rattle.fs_attrs.{specs.{Lists.{IsPrefix}, Writable.{is_path_of_session, is_writable}}, proofs.UpdateReadBack.{read_back}}
 
 -- it can be written
 

@@ -1,7 +1,6 @@
 -- One step and the whole: what a call does with the octets at hand is what the session of the whole list begins with,
 -- whatever follows. Without the moments an end takes the session's updates, answers its replies, and comes to its end.
-use Rattle.fs_session.proofs.Words.{◌≡◌, ℕ, List, [], ◌∷◌, ◌++◌, Option, Some, None, Ok, Err, refl, ap, sym, ◌∙◌, Config, Peer, parts_of, parts_end, MessageFault, Message, first_message, wrong_at, Update, Closed, Times, no_times, taken_in, Machine, Phase, transition_by, waits, takes, stops, step_at, rest_step, step_by, receiver, at_fault, Handed, Point, rests, runs, runs_by, with_taken, reply_rest, replies, replies_by, Last, still, closed, with_update, rest_closes, plays, session_by, session_from, step_of}
-use Rattle.fs_session.proofs.MessageRuns.{runs_each, runs_takes, runs_stops, runs_waits}
+use Rattle.fs_session.proofs.{Words.{◌≡◌, ℕ, List, [], ◌∷◌, ◌++◌, Option, Some, None, Ok, Err, refl, ap, sym, ◌∙◌, Config, Peer, parts_of, parts_end, MessageFault, Message, first_message, wrong_at, Update, Closed, Times, no_times, taken_in, Machine, Phase, transition_by, waits, takes, stops, step_at, rest_step, step_by, receiver, at_fault, Handed, Point, rests, runs, runs_by, with_taken, reply_rest, replies, replies_by, Last, still, closed, with_update, rest_closes, plays, session_by, session_from, step_of}, MessageRuns.{runs_each, runs_takes, runs_stops, runs_waits}}
 pub use Rattle.fs_session.proofs.MessageRuns.{Transition}
 
 abbrev pub going : Transition → (Phase → List Update × Last) → List Update × Last

@@ -1,10 +1,6 @@
 -- What one message makes of an end, by cases.
-use Rattle.fs_session.proofs.Words.{◌≡◌, ◌⊎◌, inl, inr, ◌==◌, Bool, true, false, min, Option, None, Result, Ok, Err, refl, if◌then◌else◌, Open, Message, MessageFault, Update, UpdateFault, WaitOpen, WaitKeep, Established, Closed, Fault, NoFamily, Machine, Phase, phase, taken, not_taken, faulted, notified, closing_of, opened, updates, transition_at, transition_by}
-use Rattle.fs_message.specs.Open.{open_of}
-use Rattle.fs_message.specs.Notice.{notice_of}
-use Rattle.fs_session.specs.declared.state.State.{State}
-use Rattle.fs_session.specs.declared.state.State.TheVariants.{Closed as IsClosed}
-use Rattle.fs_session.proofs.MessageRuns.{Transition}
+use Rattle.fs_session.{proofs.{Words.{◌≡◌, ◌⊎◌, inl, inr, ◌==◌, Bool, true, false, min, Option, None, Result, Ok, Err, refl, if◌then◌else◌, Open, Message, MessageFault, Update, UpdateFault, WaitOpen, WaitKeep, Established, Closed, Fault, NoFamily, Machine, Phase, phase, taken, not_taken, faulted, notified, closing_of, opened, updates, transition_at, transition_by}, MessageRuns.{Transition}}, specs.declared.state.State.{State, TheVariants.{Closed as IsClosed}}}
+use Rattle.fs_message.specs.{Open.{open_of}, Notice.{notice_of}}
 
 either : (P : Transition → Type 0) (b : Bool) (x y : Transition) → P x → P y → P (if b then x else y)
 either P true x y p q = p

@@ -1,8 +1,5 @@
 -- Octets that are handed in two pieces, at whatever moments, give what they give at once.
-use Rattle.fs_session.proofs.Words.{◌≡◌, ℕ, List, [], ◌∷◌, ◌++◌, Option, Some, None, Ok, Err, refl, sym, ap, ◌∙◌, append_assoc, append-nil, parts_of, parts_append, MessageFault, Message, first_message, wrong_at, message_shrinks, message_stable, fault_stays, Update, Times, no_times, at_moment, Machine, Phase, transition_by, at_fault, Last, rest_closes, with_update, plays, session_by, reply_rest, replies, replies_by, Handed, Point, point, rests, runs, runs_by, with_taken, hand}
-use Rattle.fs_session.proofs.MessageRuns.{Transition, open_hand, runs_each, wrong_first}
-use Rattle.fs_session.proofs.SessionSteps.{going, plays_step, session_rest, answered, replies_step, last_of, session_seen, replies_seen, runs_updates}
-use Rattle.fs_session.proofs.ReplySteps.{replies_rest}
+use Rattle.fs_session.proofs.{Words.{◌≡◌, ℕ, List, [], ◌∷◌, ◌++◌, Option, Some, None, Ok, Err, refl, sym, ap, ◌∙◌, append_assoc, append-nil, parts_of, parts_append, MessageFault, Message, first_message, wrong_at, message_shrinks, message_stable, fault_stays, Update, Times, no_times, at_moment, Machine, Phase, transition_by, at_fault, Last, rest_closes, with_update, plays, session_by, reply_rest, replies, replies_by, Handed, Point, point, rests, runs, runs_by, with_taken, hand}, MessageRuns.{Transition, open_hand, runs_each, wrong_first}, SessionSteps.{going, plays_step, session_rest, answered, replies_step, last_of, session_seen, replies_seen, runs_updates}, ReplySteps.{replies_rest}}
 
 module _ (machine : Machine) (more : List ℕ) (later : ℕ) where
   -- the messages and the fault of a rest with more octets behind it

@@ -1,20 +1,9 @@
 -- The announcing end of a session: what it keeps, and what it says unasked: its OPEN, and then an UPDATE for each rule.
 use Rattle.std.specs.Prelude.{◌≡◌, ℕ, ◌+◌, Bool, true, false, if◌then◌else◌, List, [], ◌∷◌, ◌++◌, drop, Option, Some, None, Result, Ok, Err, IfSome, IsTrue}
-use Rattle.fs_base.specs.declared.config.Config.{Config}
-use Rattle.fs_base.specs.declared.config.Peer.{Peer}
+use Rattle.fs_base.specs.declared.config.{Config.{Config}, Peer.{Peer}}
 use Rattle.fs_message.specs.Write.{message_text, open_body}
 use Rattle.fs_attrs.specs.declared.update.Update.{Update}
-use Rattle.fs_session.specs.declared.state.State.{State}
-use Rattle.fs_session.specs.declared.state.State.TheVariants.{Established}
-use Rattle.fs_session.specs.declared.state.Closed.{Closed}
-use Rattle.fs_session.specs.declared.state.Closed.TheVariants.{Memory}
-use Rattle.fs_session.specs.declared.sending.Sent.{Sent}
-use Rattle.fs_session.specs.declared.sending.Sending.{Sending}
-use Rattle.fs_session.specs.declared.side.Needs.{Needs}
-use Rattle.fs_session.specs.Transition.{Machine}
-use Rattle.fs_session.specs.Side.{announcer}
-use Rattle.fs_session.specs.Line.{Lined, lined, state_in, FeedsAt, Ticks}
-use Rattle.fs_session.specs.Sending.{is_sending, needs_of, text_sent}
+use Rattle.fs_session.specs.{declared.{state.{State.{State, TheVariants.{Established}}, Closed.{Closed, TheVariants.{Memory}}}, sending.{Sent.{Sent}, Sending.{Sending}}, side.Needs.{Needs}}, Transition.{Machine}, Side.{announcer}, Line.{Lined, lined, state_in, FeedsAt, Ticks}, Sending.{is_sending, needs_of, text_sent}}
 
 -- Whose end it is and what it is to send, what it keeps of the other's octets, whether its OPEN was written, and how
 -- many of the rules were.

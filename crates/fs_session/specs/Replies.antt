@@ -1,12 +1,8 @@
 -- What an end of a session answers to the octets received from the other (RFC 4271, sections 6 and 8).
 use Rattle.std.specs.Prelude.{ℕ, List, [], ◌∷◌, ◌++◌, Option, Some, None, Ok, Err}
-use Rattle.fs_base.specs.declared.config.Config.{Config}
-use Rattle.fs_base.specs.declared.config.Peer.{Peer}
-use Rattle.fs_base.specs.Parts.{parts_of}
-use Rattle.fs_message.specs.declared.fault.MessageFault.{MessageFault}
-use Rattle.fs_message.specs.Stream.{Message, first_message, wrong_at}
-use Rattle.fs_session.specs.Side.{at_fault, receiver}
-use Rattle.fs_session.specs.Transition.{Machine, Phase, faulted, transition_by}
+use Rattle.fs_base.specs.{declared.config.{Config.{Config}, Peer.{Peer}}, Parts.{parts_of}}
+use Rattle.fs_message.specs.{declared.fault.MessageFault.{MessageFault}, Stream.{Message, first_message, wrong_at}}
+use Rattle.fs_session.specs.{Side.{at_fault, receiver}, Transition.{Machine, Phase, faulted, transition_by}}
 
 -- a fault of the rest behind the last message
 abbrev pub reply_rest : Machine → Option MessageFault → List ℕ

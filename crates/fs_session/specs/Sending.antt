@@ -1,21 +1,9 @@
 -- What an announcing end is to send: the rules of a file, under one path, to the peer that it speaks for.
-use Rattle.std.specs.Prelude.{ℕ, ◌+◌, ◌==◌, Bool, true, false, ◌&&◌, nat_le, nat_lt, if◌then◌else◌, List, [], ◌∷◌, length, find, Option, Some, None}
-use Rattle.std.specs.List.{list_all, list_any}
-use Rattle.fs_base.specs.declared.config.Config.{Config}
-use Rattle.fs_base.specs.declared.config.Peer.{Peer}
-use Rattle.fs_base.specs.declared.path.Path.{Path}
-use Rattle.fs_base.specs.declared.path.Segment.{Segment}
-use Rattle.fs_base.specs.Bits.{afi_of}
+use Rattle.std.specs.{Prelude.{ℕ, ◌+◌, ◌==◌, Bool, true, false, ◌&&◌, nat_le, nat_lt, if◌then◌else◌, List, [], ◌∷◌, length, find, Option, Some, None}, List.{list_all, list_any}}
+use Rattle.fs_base.specs.{declared.{config.{Config.{Config}, Peer.{Peer}}, path.{Path.{Path}, Segment.{Segment}}}, Bits.{afi_of}}
 use Rattle.fs_message.specs.Write.{message_text}
-use Rattle.fs_attrs.specs.declared.update.Terms.{Terms}
-use Rattle.fs_attrs.specs.declared.update.Update.{Update}
-use Rattle.fs_attrs.specs.declared.update.Routes.TheVariants.{Flow}
-use Rattle.fs_attrs.specs.Segments.{segment}
-use Rattle.fs_attrs.specs.Write.{update_text}
-use Rattle.fs_session.specs.declared.sending.Sent.{Sent}
-use Rattle.fs_session.specs.declared.sending.Sending.{Sending}
-use Rattle.fs_session.specs.declared.side.Needs.{Needs}
-use Rattle.fs_session.specs.Transition.{terms_of}
+use Rattle.fs_attrs.specs.{declared.update.{Terms.{Terms}, Update.{Update}, Routes.TheVariants.{Flow}}, Segments.{segment}, Write.{update_text}}
+use Rattle.fs_session.specs.{declared.{sending.{Sent.{Sent}, Sending.{Sending}}, side.Needs.{Needs}}, Transition.{terms_of}}
 
 -- The peer that rules are sent for: the one with the lowest number.
 abbrev pub is_lowest : List Peer → Peer → Bool

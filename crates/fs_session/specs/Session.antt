@@ -1,21 +1,10 @@
 -- The session that the octets received from the other end make (RFC 4271, sections 6 and 8). Timers and the opening of
 -- connections are left out here.
 use Rattle.std.specs.Prelude.{◌≡◌, ℕ, false, List, [], ◌∷◌, ◌++◌, Option, Some, None, option_map, Result, Ok, Err, IfSome}
-use Rattle.fs_base.specs.declared.config.Config.{Config}
-use Rattle.fs_base.specs.declared.config.Peer.{Peer}
-use Rattle.fs_base.specs.Config.{peer_of}
-use Rattle.fs_base.specs.Parts.{parts_of}
-use Rattle.fs_message.specs.declared.fault.MessageFault.{MessageFault}
-use Rattle.fs_message.specs.Stream.{Message, first_message, wrong_at}
-use Rattle.fs_message.specs.Deframer.{Framing, pending}
+use Rattle.fs_base.specs.{declared.config.{Config.{Config}, Peer.{Peer}}, Config.{peer_of}, Parts.{parts_of}}
+use Rattle.fs_message.specs.{declared.fault.MessageFault.{MessageFault}, Stream.{Message, first_message, wrong_at}, Deframer.{Framing, pending}}
 use Rattle.fs_attrs.specs.declared.update.Update.{Update}
-use Rattle.fs_session.specs.declared.state.State.{State}
-use Rattle.fs_session.specs.declared.state.State.TheVariants.{WaitOpen, Closed as IsClosed}
-use Rattle.fs_session.specs.declared.state.Closed.{Closed}
-use Rattle.fs_session.specs.declared.times.Times.{Times}
-use Rattle.fs_session.specs.Transition.{Machine, Phase, phase, faulted, transition_by}
-use Rattle.fs_session.specs.Side.{receiver}
-use Rattle.fs_session.specs.Line.{Lined, lined, fresh, Step, step_by, DoesAt, FeedsAt, answer_of}
+use Rattle.fs_session.specs.{declared.{state.{State.{State, TheVariants.{WaitOpen, Closed as IsClosed}}, Closed.{Closed}}, times.Times.{Times}}, Transition.{Machine, Phase, phase, faulted, transition_by}, Side.{receiver}, Line.{Lined, lined, fresh, Step, step_by, DoesAt, FeedsAt, answer_of}}
 
 abbrev pub at_start : Phase
 at_start = phase WaitOpen false 0

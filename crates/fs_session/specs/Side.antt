@@ -1,21 +1,9 @@
 -- The two ends of a session.
 use Rattle.std.specs.Prelude.{◌≡◌, ℕ, Bool, false, not, ◌&&◌, ◌||◌, List, [], ◌∷◌, ◌++◌, Option, Some, None, Result, Ok, Err, ⊤}
-use Rattle.fs_base.specs.declared.config.Config.{Config}
-use Rattle.fs_base.specs.declared.config.Peer.{Peer}
-use Rattle.fs_message.specs.declared.open_.Open.{Open}
-use Rattle.fs_message.specs.Write.{message_text, open_body}
-use Rattle.fs_attrs.specs.declared.update.Update.{Update}
-use Rattle.fs_attrs.specs.declared.update.UpdateFault.{UpdateFault}
-use Rattle.fs_attrs.specs.declared.update.UpdateFault.TheVariants.{Memory as NoMemory}
-use Rattle.fs_attrs.specs.Update.{update_of}
-use Rattle.fs_session.specs.declared.state.State.{State}
-use Rattle.fs_session.specs.declared.state.State.TheVariants.{WaitOpen}
-use Rattle.fs_session.specs.declared.state.Closed.{Closed}
-use Rattle.fs_session.specs.declared.state.Closed.TheVariants.{Memory, Fault}
-use Rattle.fs_session.specs.declared.side.Side.{Side}
-use Rattle.fs_session.specs.declared.side.Side.TheVariants.{Receiver, Announcer}
-use Rattle.fs_session.specs.declared.side.Needs.{Needs}
-use Rattle.fs_session.specs.Transition.{Machine, terms_of}
+use Rattle.fs_base.specs.declared.config.{Config.{Config}, Peer.{Peer}}
+use Rattle.fs_message.specs.{declared.open_.Open.{Open}, Write.{message_text, open_body}}
+use Rattle.fs_attrs.specs.{declared.update.{Update.{Update}, UpdateFault.{UpdateFault, TheVariants.{Memory as NoMemory}}}, Update.{update_of}}
+use Rattle.fs_session.specs.{declared.{state.{State.{State, TheVariants.{WaitOpen}}, Closed.{Closed, TheVariants.{Memory, Fault}}}, side.{Side.{Side, TheVariants.{Receiver, Announcer}}, Needs.{Needs}}}, Transition.{Machine, terms_of}}
 
 -- What the receiving end answers: to an OPEN our OPEN and a KEEPALIVE, to a fault a NOTIFICATION.
 abbrev pub reply_to : Config → State → List ℕ

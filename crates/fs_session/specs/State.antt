@@ -1,8 +1,6 @@
 -- How it stands with a peer: by what its octets come to, and by the session that is kept of it.
 use Rattle.std.specs.Prelude.{Option, Some, None}
-use Rattle.fs_session.specs.declared.state.Standing.{Standing}
-use Rattle.fs_session.specs.declared.state.Standing.TheVariants.{Down, Live as LiveIn, Ended}
-use Rattle.fs_session.specs.Session.{Last, still, closed, Live as Session}
+use Rattle.fs_session.specs.{declared.state.Standing.{Standing, TheVariants.{Down, Live as LiveIn, Ended}}, Session.{Last, still, closed, Live as Session}}
 
 -- with an open session the peer is up, and a closed one has ended
 abbrev pub standing_at : Last → Standing

@@ -1,10 +1,6 @@
 -- The moments of an end of a session, in milliseconds, and what its timers do (RFC 4271, sections 4.4, 6.5 and 10).
 use Rattle.std.specs.Prelude.{ℕ, ◌-◌, ◌*◌, ◌==◌, max, nat_le, if◌then◌else◌}
-use Rattle.fs_session.specs.declared.state.State.{State}
-use Rattle.fs_session.specs.declared.state.State.TheVariants.{WaitOpen}
-use Rattle.fs_session.specs.declared.times.Times.{Times}
-use Rattle.fs_session.specs.declared.times.Tick.{Tick}
-use Rattle.fs_session.specs.declared.times.Tick.TheVariants.{Quiet, Keeps, Expires}
+use Rattle.fs_session.specs.declared.{state.State.{State, TheVariants.{WaitOpen}}, times.{Times.{Times}, Tick.{Tick, TheVariants.{Quiet, Keeps, Expires}}}}
 
 -- the greatest moment so far, that of the last message taken, and that of what was last written
 abbrev pub times : ℕ → ℕ → ℕ → Times

@@ -3,7 +3,7 @@
 use crate::line::Line;
 use crate::sending::{Sending, append_rule, sender};
 use crate::side::{Needs, Side, terms};
-use crate::state::{Closed, State};
+use crate::state::{Closed, Fed, State};
 use fs_attrs::{Terms, Update};
 use fs_base::{Config, Memory, Peer};
 use fs_message::write_open;
@@ -35,9 +35,7 @@ impl<'a> Model for Announcer<'a> {
 
 impl<'a> Announcer<'a> {
     ghost use Rattle.std.specs.Prelude.{◌≡◌, ◌<◌, ◌≤◌, length, false, IfOk, IfSome};
-    ghost use Rattle.fs_session.specs.Announcer.{announcing, with_line, machine_in, counted, without_update, StaysEnded, StartsOpen, SaysOpen, FeedsEnd, TicksEnd, CanSend};
-    ghost use Rattle.fs_session.specs.Line.{fresh, state_in, closed_after};
-    ghost use Rattle.fs_session.specs.Sending.{sender_of};
+    ghost use Rattle.fs_session.specs.{Announcer.{announcing, with_line, machine_in, counted, without_update, StaysEnded, StartsOpen, SaysOpen, FeedsEnd, TicksEnd, CanSend}, Line.{fresh, state_in, closed_after}, Sending.{sender_of}};
 
     /// The end of the peer with the lowest number, before its OPEN.
     pub fn new(alloc: Global, config: &'a Config, sending: Sending) -> Result<Announcer<'a>, Memory>
@@ -164,12 +162,10 @@ impl<'a> Announcer<'a> {
     }
 }
 
-ghost use Rattle.std.specs.Prelude.{◌≡◌, ◌+◌, ◌^◌, ◌<◌, ◌≤◌, true, length, drop};
-ghost use Rattle.std.specs.List.{list_all};
-ghost use Rattle.fs_session.specs.Announcer.{counted, first_text, AppendsText};
-ghost use Rattle.fs_session.specs.Sending.{text_by, is_short};
+ghost use Rattle.std.specs.{Prelude.{◌≡◌, ◌+◌, ◌^◌, ◌<◌, ◌≤◌, true, length, drop}, List.{list_all}};
+ghost use Rattle.fs_session.specs.{Announcer.{counted, first_text, AppendsText}, Sending.{text_by, is_short}};
 
-fn count_of(fed: Result<(usize, Option<Update>), Closed>) -> Result<usize, Closed>
+fn count_of(fed: Fed) -> Result<usize, Closed>
     ensures { result ≡ counted fed }
 {
     match fed {

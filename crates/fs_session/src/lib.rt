@@ -17,4 +17,4 @@ pub use laws::{
 };
 pub use sending::{Sending, Sent, SentList, sender};
 pub use session::Session;
-pub use state::{Closed, Standing, State};
+pub use state::{Closed, Fed, Standing, State};

@@ -1,10 +1,9 @@
 //! What either end of a session keeps of the other's octets.
 
 use crate::side::{Side, refuse};
-use crate::state::{Closed, State};
+use crate::state::{Closed, Fed, State};
 use crate::times::{Tick, Times};
 use crate::transition::{Phase, transition};
-use fs_attrs::Update;
 use fs_base::Memory;
 use fs_message::{Deframer, write_keepalive};
 use std::alloc::Global;
@@ -31,9 +30,7 @@ impl Model for Line {
 
 impl Line {
     ghost use Rattle.std.specs.Prelude.{◌≡◌, ◌<◌, ◌≤◌, length, IfOk};
-    ghost use Rattle.fs_session.specs.Announcer.{out_of_memory};
-    ghost use Rattle.fs_session.specs.Line.{fresh, state_in, closed_after, StaysOver, FeedsOpen, TicksOpen, CeasesOpen};
-    ghost use Rattle.fs_session.specs.Side.{machine_of};
+    ghost use Rattle.fs_session.specs.{Announcer.{out_of_memory}, Line.{fresh, state_in, closed_after, StaysOver, FeedsOpen, TicksOpen, CeasesOpen}, Side.{machine_of}};
 
     /// Before the first octet.
     pub fn new(alloc: Global) -> Result<Line, Memory>
@@ -53,13 +50,7 @@ impl Line {
 
     /// Takes octets of the piece, up to and with the end of the first message that ends in it, else all of them.
     /// What this end answers is appended to `out`.
-    pub fn feed_at(
-        &mut self,
-        side: &Side<'_>,
-        moment: u64,
-        piece: &[u8],
-        out: &mut Vec<u8>,
-    ) -> Result<(usize, Option<Update>), Closed>
+    pub fn feed_at(&mut self, side: &Side<'_>, moment: u64, piece: &[u8], out: &mut Vec<u8>) -> Fed
         ensures again { StaysOver self.old self.new result out.old.items out.new.items }
         ensures closed { self.new.closed ≡ closed_after result }
         ensures some { IfOk result (λ fed. (fed.0 ≤ length piece.now) × (0 < length piece.now → 0 < fed.0)) }
@@ -156,8 +147,7 @@ impl Line {
 const CEASE: u8 = 6;
 
 ghost use Rattle.std.specs.Prelude.{◌≡◌, ◌<◌, ◌≤◌, None, length, IfOk};
-ghost use Rattle.fs_session.specs.Line.{lined, closed_after, Advances, TimesTick};
-ghost use Rattle.fs_session.specs.Side.{machine_of};
+ghost use Rattle.fs_session.specs.{Line.{lined, closed_after, Advances, TimesTick}, Side.{machine_of}};
 
 /// How a call closed this end, if it did.
 fn closing<T>(done: &Result<T, Closed>) -> Option<Closed>
@@ -177,7 +167,7 @@ fn advance(
     times: &mut Times,
     piece: &[u8],
     out: &mut Vec<u8>,
-) -> Result<(usize, Option<Update>), Closed>
+) -> Fed
     requires { deframer.old.fault ≡ None }
     ensures live { IfOk result (λ _. deframer.new.fault ≡ None) }
     ensures some { IfOk result (λ fed. (fed.0 ≤ length piece.now) × (0 < length piece.now → 0 < fed.0)) }

@@ -1,8 +1,6 @@
 //! The rules that an announcing end is to send.
 
-ghost use Rattle.std.specs.Prelude.{◌≡◌, ◌≤◌, nat_lt, true, length, IfOk};
-ghost use Rattle.std.specs.List.{list_all};
-ghost use Rattle.std.specs.Option.{option_copied};
+ghost use Rattle.std.specs.{Prelude.{◌≡◌, ◌≤◌, nat_lt, true, length, IfOk}, List.{list_all}, Option.{option_copied}};
 ghost use Rattle.fs_base.specs.Bits.{afi_of};
 ghost use Rattle.fs_attrs.specs.Write.{Writes};
 ghost use Rattle.fs_message.specs.Write.{AppendsWhole};
@@ -11,10 +9,9 @@ ghost use Rattle.fs_session.specs.Sending.{is_lowest, sender_of, has_family, seg
 use crate::side::{Needs, terms};
 use fs_actions::Actions;
 use fs_attrs::{PrefixList, Routes, RuleList, Terms, Update, WriteFault, write_update};
-use fs_base::{AS_SEQUENCE, Config, Family, Memory, Numbers, Path, Peer, Segment, Segments};
+use fs_base::{AS_SEQUENCE, Config, Family, Items, Memory, Numbers, Path, Peer, Segment, Segments};
 use fs_nlri::Rule;
 use std::alloc::Global;
-use std::marker::Model;
 
 /// A rule, and the actions that are sent with it.
 #[derive(Debug, PartialEq, Eq, Drop)]
@@ -23,65 +20,8 @@ pub struct Sent {
     pub actions: Actions,
 }
 
-/// Rules in the order in which they are sent.
-#[derive(Debug, Drop)]
-pub struct SentList {
-    items: Vec<Sent>,
-}
-
-impl Model for SentList {
-    ghost use Rattle.std.specs.Prelude.{List};
-    ghost use Rattle.fs_session.specs.declared.sending.Sent.{Sent};
-
-    ghost Value = { List Sent };
-
-    ghost view = { λ a. a.items.items };
-}
-
-impl PartialEq for SentList {
-    ghost use Rattle.std.specs.Cmp.Lexicographic.{pointwise, lists_equiv};
-    ghost use Rattle.std.specs.Cmp.{partial_equiv_from_equiv};
-    ghost use Rattle.fs_session.specs.contracts.sending.SentPartialEq.TheImpl.{ghosts};
-    ghost use Rattle.fs_session.specs.contracts.sending.SentEq.TheImpl.Laws.{laws-law};
-
-    ghost eq = { pointwise ghosts.eq };
-
-    ghost laws = { partial_equiv_from_equiv (lists_equiv laws-law) };
-
-    fn eq(&self, other: &SentList) -> bool {
-        self.items == other.items
-    }
-}
-
-impl Eq for SentList {
-    ghost use Rattle.std.specs.Cmp.Lexicographic.{lists_equiv};
-    ghost use Rattle.fs_session.specs.contracts.sending.SentEq.TheImpl.Laws.{laws-law};
-
-    ghost laws = { lists_equiv laws-law };
-}
-
-impl SentList {
-    /// These rules with their actions, in the order in which they are announced.
-    pub fn new(items: Vec<Sent>) -> SentList
-        ensures { result ≡ items.items }
-    {
-        SentList { items }
-    }
-
-    /// The rules as a vector, without memory.
-    pub fn into_vec(self) -> Vec<Sent>
-        ensures { result.items ≡ self }
-    {
-        self.items
-    }
-
-    /// Lends the rules.
-    pub fn as_slice(&self) -> &[Sent]
-        ensures { result.now ≡ self.now }
-    {
-        self.items.as_slice()
-    }
-}
+/// Rules with their actions, in the order in which they are announced.
+pub type SentList = Items<Sent>;
 
 /// What is sent: under this BGP identifier and these AS numbers as one AS_SEQUENCE the rules, one UPDATE for each.
 #[derive(Debug, PartialEq, Eq, Drop)]

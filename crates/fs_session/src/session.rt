@@ -2,8 +2,7 @@
 
 use crate::line::Line;
 use crate::side::Side;
-use crate::state::{Closed, State};
-use fs_attrs::Update;
+use crate::state::{Closed, Fed, State};
 use fs_base::{Config, Memory, Peer};
 use std::alloc::Global;
 use std::marker::Model;
@@ -28,8 +27,7 @@ impl<'a> Model for Session<'a> {
 impl<'a> Session<'a> {
     ghost use Rattle.std.specs.Prelude.{◌≡◌, ◌<◌, ◌≤◌, ◌++◌, length, IfOk, IfSome, IsSome};
     ghost use Rattle.fs_base.specs.Config.{peer_of};
-    ghost use Rattle.fs_session.specs.Line.{closed_after, TicksOpen, CeasesOpen};
-    ghost use Rattle.fs_session.specs.Session.{begins, state_of, line_of, StaysClosed, GoesOn, GoesOnAt};
+    ghost use Rattle.fs_session.specs.{Line.{closed_after, TicksOpen, CeasesOpen}, Session.{begins, state_of, line_of, StaysClosed, GoesOn, GoesOnAt}};
 
     /// A session with a peer of the configuration, before its first octet.
     pub fn new(alloc: Global, config: &'a Config, peer: u16) -> Result<Session<'a>, Memory>
@@ -51,11 +49,7 @@ impl<'a> Session<'a> {
     /// message was one. To an OPEN our OPEN and a KEEPALIVE are appended to `replies`, to a fault a
     /// NOTIFICATION without data. Once closed, it answers the same again and takes nothing. After `Memory`
     /// `replies` is as it was. The moment is the greatest so far.
-    pub fn feed(
-        &mut self,
-        piece: &[u8],
-        replies: &mut Vec<u8>,
-    ) -> Result<(usize, Option<Update>), Closed>
+    pub fn feed(&mut self, piece: &[u8], replies: &mut Vec<u8>) -> Fed
         ensures again { StaysClosed self.old self.new result replies.old.items replies.new.items }
         ensures closed { self.new.closed ≡ closed_after result }
         ensures same { (self.new.config ≡ self.old.config) × (self.new.peer ≡ self.old.peer) }
@@ -68,12 +62,7 @@ impl<'a> Session<'a> {
 
     /// As [`feed`](Session::feed) at a moment in milliseconds: a message that is taken moves the moment of the last
     /// one taken. A moment that falls counts as the greatest so far.
-    pub fn feed_at(
-        &mut self,
-        moment: u64,
-        piece: &[u8],
-        replies: &mut Vec<u8>,
-    ) -> Result<(usize, Option<Update>), Closed>
+    pub fn feed_at(&mut self, moment: u64, piece: &[u8], replies: &mut Vec<u8>) -> Fed
         ensures again { StaysClosed self.old self.new result replies.old.items replies.new.items }
         ensures closed { self.new.closed ≡ closed_after result }
         ensures same { (self.new.config ≡ self.old.config) × (self.new.peer ≡ self.old.peer) }

@@ -2,9 +2,7 @@
 
 ghost use Rattle.std.specs.Prelude.{◌≡◌};
 ghost use Rattle.fs_message.specs.Write.{AppendsWhole};
-ghost use Rattle.fs_session.specs.Line.{Refuses};
-ghost use Rattle.fs_session.specs.Side.{reply_to, keepalive_to, reads_update, lacks_of, machine_of, Takes, ClosesAs};
-ghost use Rattle.fs_session.specs.Transition.{terms_of};
+ghost use Rattle.fs_session.specs.{Line.{Refuses}, Side.{reply_to, keepalive_to, reads_update, lacks_of, machine_of, Takes, ClosesAs}, Transition.{terms_of}};
 
 use crate::state::{Closed, State};
 use fs_attrs::{Terms, Update, UpdateFault, read_update};

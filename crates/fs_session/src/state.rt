@@ -1,5 +1,6 @@
 //! The states of a session, and how it closes.
 
+use fs_attrs::Update;
 use fs_base::Memory;
 
 /// The state of a session (RFC 4271, section 8.2.2): OpenSent, OpenConfirm, Established, and closed.
@@ -27,6 +28,9 @@ pub enum Closed {
     /// The machine refused memory.
     Memory,
 }
+
+/// What an end answers to a piece: how many octets it took, and the update where the message was one; or how it closed.
+pub type Fed = Result<(usize, Option<Update>), Closed>;
 
 /// How it stands with a peer.
 #[derive(Clone, Copy, Debug, PartialEq, Eq, Drop)]

@@ -1,12 +1,8 @@
 //! The table of states: what one message does at either end (RFC 4271, section 8.2.2).
 
 ghost use Rattle.std.specs.Prelude.{◌≡◌, ◌+◌, length, IsTrue};
-ghost use Rattle.fs_message.specs.Header.{allows};
-ghost use Rattle.fs_message.specs.Deframer.{frame_of};
-ghost use Rattle.fs_message.specs.Notice.{notice_of};
-ghost use Rattle.fs_session.specs.declared.state.State.TheVariants.{Established};
-ghost use Rattle.fs_session.specs.Side.{machine_of};
-ghost use Rattle.fs_session.specs.Transition.{transition_by, at_wait_open, at_wait_keep, at_established, opened, notified, closing_of, IsTransition};
+ghost use Rattle.fs_message.specs.{Header.{allows}, Deframer.{frame_of}, Notice.{notice_of}};
+ghost use Rattle.fs_session.specs.{declared.state.State.TheVariants.{Established}, Side.{machine_of}, Transition.{transition_by, at_wait_open, at_wait_keep, at_established, opened, notified, closing_of, IsTransition}};
 
 use crate::side::Side;
 use crate::state::{Closed, State};

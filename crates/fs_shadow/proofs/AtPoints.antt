@@ -1,12 +1,9 @@
 -- Lists say the same of numbers between which no value stands, so what is so at the values and beside them is so
 -- everywhere.
-use Rattle.fs_shadow.proofs.Words.{◌≡◌, ℕ, zero, suc, ◌+◌, ◌-◌, ◌/◌, ◌^◌, ◌<◌, ◌≤◌, ◌==◌, min, List, [], ◌∷◌, Bool, true, false, ◌&&◌, ◌||◌, nat_lt, refl, sym, subst, ◌∙◌, arith, inl, inr, AllByRecursion, list_all, list_any, and_from, and_parts, cases_Bool, eqb-false, eqb-true, or_cases, or_parts, pow-le-pow_right, and_le_r, compares, has_bit, holds, implies, numbers_lie_in, are_implied, implied_around, implied_at}
+use Rattle.fs_shadow.proofs.{Words.{◌≡◌, ℕ, zero, suc, ◌+◌, ◌-◌, ◌/◌, ◌^◌, ◌<◌, ◌≤◌, ◌==◌, min, List, [], ◌∷◌, Bool, true, false, ◌&&◌, ◌||◌, nat_lt, refl, sym, subst, ◌∙◌, arith, inl, inr, AllByRecursion, list_all, list_any, and_from, and_parts, cases_Bool, eqb-false, eqb-true, or_cases, or_parts, pow-le-pow_right, and_le_r, compares, has_bit, holds, implies, numbers_lie_in, are_implied, implied_around, implied_at}, Below.{below_is}}
 use Rattle.std.proofs.lemmas.Bool.Decides.{nat_tests}
-use Rattle.fs_ops.specs.declared.kind.Kind.TheVariants.{Numeric}
-use Rattle.fs_ops.specs.Operator.{width_code, width_of}
-use Rattle.fs_ops.specs.OperatorList.{IsNormal}
+use Rattle.fs_ops.specs.{declared.kind.Kind.TheVariants.{Numeric}, Operator.{width_code, width_of}, OperatorList.{IsNormal}}
 use Rattle.fs_packet.proofs.Flags.{AreWide, holds_same, sound_is_wide}
-use Rattle.fs_shadow.proofs.Below.{below_is}
 
 -- no pair's value is the number behind n, or n itself
 same_pair : (n : ℕ) (pair : ℕ × ℕ) → (pair.1 ≡ n + 1 → ⊥) → (pair.1 + 1 ≡ n + 1 → ⊥) → compares n pair ≡ compares (n + 1) pair

@@ -1,8 +1,5 @@
 -- Prefixes compared by the bits that they know.
-use Rattle.fs_shadow.proofs.Words.{◌≡◌, ℕ, ◌+◌, ◌-◌, ◌*◌, ◌/◌, ◌%◌, ◌^◌, ◌<◌, ◌≤◌, ◌==◌, Bool, true, false, ◌&&◌, ◌||◌, if◌then◌else◌, nat_le, nat_lt, refl, sym, ap, subst, ◌∙◌, arith, inl, inr, ◌⊎◌, and_parts, cases_Bool, cases_lt, eq-eqb, eqb-false, eqb-true, le-leb, lt-leb, ltb-false, ltb-true, or_cases, or_parts, pow-add, mul_assoc, Family, V4, V6, Prefix, afi_of, cleared, width_of, covers, V4Body, V6Body, IsSoundBody, is_prefix_of, Known, bits_lie_in, all_below, body_lies_in, implies, highest_with, lowest_with}
-use Rattle.fs_shadow.proofs.Known.{counted, known_v4, known_v6, ordered, same_multiple, shift_dropped}
-use Rattle.fs_shadow.proofs.Lying.{Knows, by_ends, inner_bits, no_bits}
-use Rattle.fs_shadow.proofs.Patterns.{begins_within, bits_at, ends_within, first_of, highest_has, lowest_has, shifted}
+use Rattle.fs_shadow.proofs.{Words.{◌≡◌, ℕ, ◌+◌, ◌-◌, ◌*◌, ◌/◌, ◌%◌, ◌^◌, ◌<◌, ◌≤◌, ◌==◌, Bool, true, false, ◌&&◌, ◌||◌, if◌then◌else◌, nat_le, nat_lt, refl, sym, ap, subst, ◌∙◌, arith, inl, inr, ◌⊎◌, and_parts, cases_Bool, cases_lt, eq-eqb, eqb-false, eqb-true, le-leb, lt-leb, ltb-false, ltb-true, or_cases, or_parts, pow-add, mul_assoc, Family, V4, V6, Prefix, afi_of, cleared, width_of, covers, V4Body, V6Body, IsSoundBody, is_prefix_of, Known, bits_lie_in, all_below, body_lies_in, implies, highest_with, lowest_with}, Known.{counted, known_v4, known_v6, ordered, same_multiple, shift_dropped}, Lying.{Knows, by_ends, inner_bits, no_bits}, Patterns.{begins_within, bits_at, ends_within, first_of, highest_has, lowest_has, shifted}}
 
 both_same : (a b c : Bool) → a ≡ c → b ≡ c → c ≡ (a && b)
 both_same true true c h k = sym h

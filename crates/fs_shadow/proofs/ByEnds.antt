@@ -1,7 +1,5 @@
 -- Prefixes compared by the ends of the inner one.
-use Rattle.fs_shadow.proofs.Words.{◌≡◌, ℕ, ◌+◌, ◌-◌, ◌*◌, ◌/◌, ◌%◌, ◌^◌, ◌==◌, ◌&&◌, ap, ◌∙◌, Family, V4, V6, cleared, width_of, V4Body, V6Body, IsSoundBody, is_prefix_of, body_lies_in, highest_with}
-use Rattle.fs_shadow.proofs.Lying.{by_ends}
-use Rattle.fs_shadow.proofs.Known.{known_v4, known_v6, lowest_of, shift_dropped, v4_highest, v4_lowest}
+use Rattle.fs_shadow.proofs.{Words.{◌≡◌, ℕ, ◌+◌, ◌-◌, ◌*◌, ◌/◌, ◌%◌, ◌^◌, ◌==◌, ◌&&◌, ap, ◌∙◌, Family, V4, V6, cleared, width_of, V4Body, V6Body, IsSoundBody, is_prefix_of, body_lies_in, highest_with}, Lying.{by_ends}, Known.{known_v4, known_v6, lowest_of, shift_dropped, v4_highest, v4_lowest}}
 
 pub v4_by_ends : (f g : Family) (m a n b last : ℕ) → IsSoundBody (V4Body f m a) → IsSoundBody (V4Body g n b) → last ≡ a + 2 ^ (width_of f - m) - 1
     → ((cleared 32 n a == b) && (cleared 32 n last == b)) ≡ body_lies_in 1 (V4Body f m a) (V4Body g n b)

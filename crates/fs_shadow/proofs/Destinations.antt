@@ -1,17 +1,12 @@
 -- Which rules may contain which by their destinations: of rules in order an earlier contains a later one only where all
 -- between them have their destination too, or where its destination is all addresses.
 use Rattle.std.proofs.Common.{pow_pos}
-use Rattle.fs_shadow.proofs.Words.{◌≡◌, ℕ, zero, suc, ◌+◌, ◌-◌, ◌*◌, ◌^◌, ◌<◌, ◌≤◌, ◌==◌, ◌⊎◌, inl, inr, Bool, true, false, not, ◌&&◌, ◌||◌, nat_lt, cond, Option, Some, None, List, [], ◌∷◌, get_or, length, refl, sym, ap, subst, ◌∙◌, arith, list_all, list_any, slice_get, and_parts, and_right, cases_Bool, cases_eq, cases_lt, eq-eqb, eqb-true, ltb-true, or_cases, true≢false, none-some, same_Some, slice_get_within, Family, cleared, width_of, Body, V4Body, V6Body, ListBody, Part, Listed, IsOfFamily, span_by, span_of, spans_of, each_got, body_lies_in, may_lie_in, part_lies_in, AreInOrder, begins_anew, lie_apart, takes_all}
-use Rattle.fs_base.specs.declared.prefix.Family.TheVariants.{V4, V6}
-use Rattle.fs_base.proofs.Blocks.{IsBlock, block_inside, block_of}
-use Rattle.fs_nlri.specs.Forms.{form_of}
-use Rattle.fs_nlri.specs.Rule.{AreNormal, IsNormalAt, destination_body, destination_in}
-use Rattle.fs_nlri.proofs.Destination.{IsMade, destination_first}
+use Rattle.fs_shadow.{proofs.{Words.{◌≡◌, ℕ, zero, suc, ◌+◌, ◌-◌, ◌*◌, ◌^◌, ◌<◌, ◌≤◌, ◌==◌, ◌⊎◌, inl, inr, Bool, true, false, not, ◌&&◌, ◌||◌, nat_lt, cond, Option, Some, None, List, [], ◌∷◌, get_or, length, refl, sym, ap, subst, ◌∙◌, arith, list_all, list_any, slice_get, and_parts, and_right, cases_Bool, cases_eq, cases_lt, eq-eqb, eqb-true, ltb-true, or_cases, true≢false, none-some, same_Some, slice_get_within, Family, cleared, width_of, Body, V4Body, V6Body, ListBody, Part, Listed, IsOfFamily, span_by, span_of, spans_of, each_got, body_lies_in, may_lie_in, part_lies_in, AreInOrder, begins_anew, lie_apart, takes_all}, ByBits.{v4_less, v4_same, v6_less, v6_same}}, specs.Contains.{contains}}
+use Rattle.fs_base.{specs.declared.prefix.Family.TheVariants.{V4, V6}, proofs.Blocks.{IsBlock, block_inside, block_of}}
+use Rattle.fs_nlri.{specs.{Forms.{form_of}, Rule.{AreNormal, IsNormalAt, destination_body, destination_in}}, proofs.Destination.{IsMade, destination_first}}
 use Rattle.fs_order.specs.Laws.{last_shown}
 use Rattle.fs_rules.proofs.Noting.{family_of_destination}
 use Rattle.fs_buckets.proofs.Destinations.{HasDestination, from_span, made_destination}
-use Rattle.fs_shadow.specs.Contains.{contains}
-use Rattle.fs_shadow.proofs.ByBits.{v4_less, v4_same, v6_less, v6_same}
 
 -- a destination that lies in one with these ends, or none that does
 abbrev Within : Option (ℕ × ℕ) → (s : ℕ × ℕ) → (size : ℕ) → Type 0

@@ -1,8 +1,6 @@
 -- The bits that a prefix knows, in either family.
-use Rattle.fs_shadow.proofs.Words.{◌≡◌, ℕ, ◌+◌, ◌-◌, ◌*◌, ◌/◌, ◌%◌, ◌^◌, ◌<◌, ◌≤◌, ◌==◌, Bool, refl, sym, ap, subst, ◌∙◌, arith, bit_or, inl, inr, ◌⊎◌, eq-eqb, eqb-true, or_comm, or_shifted, pow-add, pow_pos, shl-shr, shr_high, add-mul, mod-mod, mul_assoc, Family, V4, V6, cleared, same_tests, V4Body, V6Body, IsSoundBody, is_prefix_of, highest_with, lowest_with}
+use Rattle.fs_shadow.proofs.{Words.{◌≡◌, ℕ, ◌+◌, ◌-◌, ◌*◌, ◌/◌, ◌%◌, ◌^◌, ◌<◌, ◌≤◌, ◌==◌, Bool, refl, sym, ap, subst, ◌∙◌, arith, bit_or, inl, inr, ◌⊎◌, eq-eqb, eqb-true, or_comm, or_shifted, pow-add, pow_pos, shl-shr, shr_high, add-mul, mod-mod, mul_assoc, Family, V4, V6, cleared, same_tests, V4Body, V6Body, IsSoundBody, is_prefix_of, highest_with, lowest_with}, Lying.{Knows, row}, Patterns.{below_all, bits_at, bits_below, first_of, first_shifted, ones_split}}
 use Rattle.fs_nlri.specs.Spelling.{IsRange}
-use Rattle.fs_shadow.proofs.Lying.{Knows, row}
-use Rattle.fs_shadow.proofs.Patterns.{below_all, bits_at, bits_below, first_of, first_shifted, ones_split}
 
 -- a multiple is told by its count
 pub same_multiple : (a b k : ℕ) → (a * 2 ^ k == b * 2 ^ k) ≡ (a == b)

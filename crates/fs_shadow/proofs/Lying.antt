@@ -1,7 +1,5 @@
 -- When all numbers that have some bits have some others too: by their ends, and by the bits.
-use Rattle.fs_shadow.proofs.Words.{◌≡◌, ℕ, ◌+◌, ◌-◌, ◌*◌, ◌/◌, ◌^◌, ◌<◌, ◌≤◌, ◌==◌, Bool, true, ◌&&◌, sym, ap, subst, ◌∙◌, arith, inl, inr, and_from, and_parts, cases_lt, eq-eqb, eqb-true, pow-add, pow_pos, shl_below, add-mul, mod-one, mul-le-mul_right, all_below, implies, highest_with, lowest_with}
-use Rattle.fs_shadow.proofs.Below.{below_is, follows, implied}
-use Rattle.fs_shadow.proofs.Patterns.{begins_within, bits_at, bits_of_bits, ends_within, highest_has, lowest_has}
+use Rattle.fs_shadow.proofs.{Words.{◌≡◌, ℕ, ◌+◌, ◌-◌, ◌*◌, ◌/◌, ◌^◌, ◌<◌, ◌≤◌, ◌==◌, Bool, true, ◌&&◌, sym, ap, subst, ◌∙◌, arith, inl, inr, and_from, and_parts, cases_lt, eq-eqb, eqb-true, pow-add, pow_pos, shl_below, add-mul, mod-one, mul-le-mul_right, all_below, implies, highest_with, lowest_with}, Below.{below_is, follows, implied}, Patterns.{begins_within, bits_at, bits_of_bits, ends_within, highest_has, lowest_has}}
 
 -- a test of numbers of w bits passes those that have these bits: n of them above the k lowest, below the o highest
 pub record Knows (w : ℕ) (test : ℕ → Bool) (o n k v : ℕ) : Type 0 where

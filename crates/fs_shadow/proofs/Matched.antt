@@ -1,7 +1,6 @@
 -- A packet that matches what lies in something matches that too: lists, prefixes, components, rules.
-use Rattle.fs_shadow.proofs.Words.{◌<◌, ◌≡◌, ℕ, ◌^◌, ◌==◌, Bool, true, false, cond, ◌||◌, Option, Some, None, List, [], ◌∷◌, refl, sym, subst, ◌∙◌, inl, inr, arith, list_all, list_any, and_from, and_parts, eq-eqb, eqb-true, or_cases, or_left, or_right, true≢false, or_false, or_weaker, Family, V4, V6, afi_of, compares, holds, Body, V4Body, V6Body, ListBody, Part, Viewed, body_matches, holds_of, is_prefix_of, list_matches, part_matches, IsSmall, IsSmallAddress, IsSmallField, are_same_pairs, body_lies_in, implies, is_same_pair, list_lies_in, may_lie_in, numbers_lie_in, part_lies_in, tests_bits, ContainedMatches}
+use Rattle.fs_shadow.proofs.{Words.{◌<◌, ◌≡◌, ℕ, ◌^◌, ◌==◌, Bool, true, false, cond, ◌||◌, Option, Some, None, List, [], ◌∷◌, refl, sym, subst, ◌∙◌, inl, inr, arith, list_all, list_any, and_from, and_parts, eq-eqb, eqb-true, or_cases, or_left, or_right, true≢false, or_false, or_weaker, Family, V4, V6, afi_of, compares, holds, Body, V4Body, V6Body, ListBody, Part, Viewed, body_matches, holds_of, is_prefix_of, list_matches, part_matches, IsSmall, IsSmallAddress, IsSmallField, are_same_pairs, body_lies_in, implies, is_same_pair, list_lies_in, may_lie_in, numbers_lie_in, part_lies_in, tests_bits, ContainedMatches}, Below.{each_below, follows}}
 use Rattle.fs_base.specs.declared.config.Address.{Address}
-use Rattle.fs_shadow.proofs.Below.{each_below, follows}
 
 no_truth : {P : Type 0} → false ≡ true → P
 no_truth h = absurd (true≢false (sym h))

@@ -1,11 +1,7 @@
 -- What the measures and outlines of rules tell is what the rules say.
-use Rattle.fs_shadow.proofs.Words.{◌≡◌, ℕ, ◌+◌, ◌^◌, ◌<◌, ◌==◌, Bool, true, false, not, ◌&&◌, ◌||◌, if◌then◌else◌, Some, List, [], ◌∷◌, get_or, length, zero, suc, refl, sym, ap, subst, ◌∙◌, arith, list_all, list_any, true≢false, afi_of, compares, holds, Prefix, covers, same_tests, part_of, parts_of, AreSound, IsSoundBody, Body, V4Body, V6Body, ListBody, Part, Listed, contains, Extent, Numbers, Bits, Measure, Known, Outline, all_below, are_same_pairs, body_lies_in, implies, may_lie_in, numbers_lie_in, part_lies_in, AreMeasuresOf, AreSpansOf, IsExtentOf, IsMeasureOf, bits_lie_in, extent_lies_in, measure_lies_in, AreOutlinesOf, IsOutlineOf, first_taker, outline_takes_all, first_taking, takes_all}
+use Rattle.fs_shadow.{proofs.{Words.{◌≡◌, ℕ, ◌+◌, ◌^◌, ◌<◌, ◌==◌, Bool, true, false, not, ◌&&◌, ◌||◌, if◌then◌else◌, Some, List, [], ◌∷◌, get_or, length, zero, suc, refl, sym, ap, subst, ◌∙◌, arith, list_all, list_any, true≢false, afi_of, compares, holds, Prefix, covers, same_tests, part_of, parts_of, AreSound, IsSoundBody, Body, V4Body, V6Body, ListBody, Part, Listed, contains, Extent, Numbers, Bits, Measure, Known, Outline, all_below, are_same_pairs, body_lies_in, implies, may_lie_in, numbers_lie_in, part_lies_in, AreMeasuresOf, AreSpansOf, IsExtentOf, IsMeasureOf, bits_lie_in, extent_lies_in, measure_lies_in, AreOutlinesOf, IsOutlineOf, first_taker, outline_takes_all, first_taking, takes_all}, Below.{below_from, below_is, each_below, follows, implied}, ByBits.{v4_covers, v6_covers}, Testing.{alike}}, specs.declared.extents.Extent.TheVariants.{V4, V6}}
 use Rattle.std.specs.Prelude.{IsTrue, ◌↔◌}
 use Rattle.fs_nlri.specs.declared.component.Component.{Component}
-use Rattle.fs_shadow.specs.declared.extents.Extent.TheVariants.{V4, V6}
-use Rattle.fs_shadow.proofs.Below.{below_from, below_is, each_below, follows, implied}
-use Rattle.fs_shadow.proofs.ByBits.{v4_covers, v6_covers}
-use Rattle.fs_shadow.proofs.Testing.{alike}
 
 record HasPairs (body : Body) (spans : List (ℕ × ℕ)) : Type 0 where
   pub pairs : List (ℕ × ℕ)

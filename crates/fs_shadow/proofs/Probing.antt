@@ -1,8 +1,6 @@
 -- Which rules may take all packets of another by the single numbers that they ask for, and where these stand in order.
-use Rattle.fs_shadow.proofs.Words.{◌≡◌, ℕ, zero, suc, ◌+◌, ◌-◌, ◌^◌, ◌<◌, ◌≤◌, ◌==◌, inl, inr, Bool, true, false, not, ◌&&◌, if◌then◌else◌, Option, Some, None, List, [], ◌∷◌, get_or, length, max, take, drop, refl, sym, ap, subst, ◌∙◌, arith, AllByRecursion, list_all, list_any, slice_get, cases_Bool, cases_lt, eq-eqb, or_cases, true≢false, none-some, afi_of, or_first, or_second, compares, holds, contains, Extent, Numbers, Bits, Measure, Outline, implies, may_lie_in, Part, Listed, each_got, AreMeasuresOf, IsMeasureOf, IsTold, TakesIn, TakesOne, extent_lies_in, has_probe, is_probed, key_in, measure_lies_in, number_or_none, AreOutlinesOf, IsFirst, IsOutlineOf, first_taker, is_asked, is_number, key_of, outline_takes_all, probes, takes_as}
+use Rattle.fs_shadow.{proofs.{Words.{◌≡◌, ℕ, zero, suc, ◌+◌, ◌-◌, ◌^◌, ◌<◌, ◌≤◌, ◌==◌, inl, inr, Bool, true, false, not, ◌&&◌, if◌then◌else◌, Option, Some, None, List, [], ◌∷◌, get_or, length, max, take, drop, refl, sym, ap, subst, ◌∙◌, arith, AllByRecursion, list_all, list_any, slice_get, cases_Bool, cases_lt, eq-eqb, or_cases, true≢false, none-some, afi_of, or_first, or_second, compares, holds, contains, Extent, Numbers, Bits, Measure, Outline, implies, may_lie_in, Part, Listed, each_got, AreMeasuresOf, IsMeasureOf, IsTold, TakesIn, TakesOne, extent_lies_in, has_probe, is_probed, key_in, measure_lies_in, number_or_none, AreOutlinesOf, IsFirst, IsOutlineOf, first_taker, is_asked, is_number, key_of, outline_takes_all, probes, takes_as}, Below.{each_below, follows}}, specs.declared.extents.Extent.TheVariants.{V4, V6}}
 use Rattle.fs_base.proofs.Bools.{and_parts}
-use Rattle.fs_shadow.specs.declared.extents.Extent.TheVariants.{V4, V6}
-use Rattle.fs_shadow.proofs.Below.{each_below, follows}
 
 -- the key
 

@@ -1,8 +1,6 @@
 -- The report, rule by rule: of each the first of the earlier rules that may contain it.
-use Rattle.fs_shadow.proofs.Words.{◌≡◌, ℕ, zero, suc, ◌+◌, ◌-◌, ◌<◌, ◌≤◌, Bool, true, false, Some, List, [], ◌∷◌, ◌++◌, if◌then◌else◌, get_or, length, take, drop, refl, sym, ap, subst, ◌∙◌, arith, slice_get, get_or_from_slice_get, none-some, same_Some, slice_get_within, append-nil, drop_all, drop_more, length-take-le, take_all, take_more, Listed, spans_of, each_dropped, each_taken, Outline, AreInOrder, AreOutlinesOf, IsOutlineOf, begins_anew, first_taker, covered_by, first_taking, report_behind, takes_all}
+use Rattle.fs_shadow.proofs.{Words.{◌≡◌, ℕ, zero, suc, ◌+◌, ◌-◌, ◌<◌, ◌≤◌, Bool, true, false, Some, List, [], ◌∷◌, ◌++◌, if◌then◌else◌, get_or, length, take, drop, refl, sym, ap, subst, ◌∙◌, arith, slice_get, get_or_from_slice_get, none-some, same_Some, slice_get_within, append-nil, drop_all, drop_more, length-take-le, take_all, take_more, Listed, spans_of, each_dropped, each_taken, Outline, AreInOrder, AreOutlinesOf, IsOutlineOf, begins_anew, first_taker, covered_by, first_taking, report_behind, takes_all}, Destinations.{AreApart, anew_apart}, Measuring.{taker_says}}
 use Rattle.std.proofs.lemmas.List.{append_assoc}
-use Rattle.fs_shadow.proofs.Destinations.{AreApart, anew_apart}
-use Rattle.fs_shadow.proofs.Measuring.{taker_says}
 
 -- the search may begin behind those that don't take all packets of the rule
 skips : (later : Listed) (s place : ℕ) (rules : List Listed) → ((i : ℕ) (a : Listed) → i < s → slice_get rules i ≡ Some a → takes_all a later ≡ false)

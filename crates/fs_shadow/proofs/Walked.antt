@@ -1,9 +1,7 @@
 -- A rule of which an earlier one takes all packets is walked by none.
-use Rattle.fs_shadow.proofs.Words.{◌≡◌, ◌≢◌, ℕ, zero, suc, ◌+◌, ◌<◌, Bool, true, false, not, Option, Some, None, List, [], ◌∷◌, ◌++◌, if◌then◌else◌, length, refl, sym, ap, subst, ◌∙◌, inl, inr, arith, append_assoc, AllByRecursion, slice_get, and_parts, cases_Bool, not-true, true≢false, none-some, same_Some, Viewed, is_match, IsSmall, Listed, covered_by, first_taking, report_behind, takes_all, ConfirmedNeverWalks, CoveredNeverWalks, NeverWalks}
+use Rattle.fs_shadow.{proofs.{Words.{◌≡◌, ◌≢◌, ℕ, zero, suc, ◌+◌, ◌<◌, Bool, true, false, not, Option, Some, None, List, [], ◌∷◌, ◌++◌, if◌then◌else◌, length, refl, sym, ap, subst, ◌∙◌, inl, inr, arith, append_assoc, AllByRecursion, slice_get, and_parts, cases_Bool, not-true, true≢false, none-some, same_Some, Viewed, is_match, IsSmall, Listed, covered_by, first_taking, report_behind, takes_all, ConfirmedNeverWalks, CoveredNeverWalks, NeverWalks}, Matched.{contained_matches}}, specs.Contains.{contains}}
 use Rattle.fs_base.proofs.Lists.{each_append}
 use Rattle.fs_rules.specs.Walk.{goes_on, walk_from, walk_of}
-use Rattle.fs_shadow.specs.Contains.{contains}
-use Rattle.fs_shadow.proofs.Matched.{contained_matches}
 
 abbrev Entry : Type 0
 Entry = ℕ × List (List ℕ)

@@ -1,14 +1,10 @@
 -- What it means for packets that a rule contains another.
-use Rattle.std.specs.Prelude.{◌≡◌, ◌≢◌, ℕ, ◌+◌, ◌<◌, true, false, Some, List}
-use Rattle.std.specs.List.{AllByRecursion, slice_get}
+use Rattle.std.specs.{Prelude.{◌≡◌, ◌≢◌, ℕ, ◌+◌, ◌<◌, true, false, Some, List}, List.{AllByRecursion, slice_get}}
 use Rattle.fs_nlri.specs.Parts.{Ruled}
-use Rattle.fs_packet.specs.Fields.{Viewed}
-use Rattle.fs_packet.specs.Matching.{is_match}
-use Rattle.fs_rules.specs.Lent.{Listed}
-use Rattle.fs_rules.specs.Walk.{goes_on, walk_of}
+use Rattle.fs_packet.specs.{Fields.{Viewed}, Matching.{is_match}}
+use Rattle.fs_rules.specs.{Lent.{Listed}, Walk.{goes_on, walk_of}}
 use Rattle.fs_ranges.specs.Facts.{IsSmall}
-use Rattle.fs_shadow.specs.Contains.{contains}
-use Rattle.fs_shadow.specs.Reporting.{report_of}
+use Rattle.fs_shadow.specs.{Contains.{contains}, Reporting.{report_of}}
 
 -- where rule a contains rule b, a matches each packet that b matches
 abbrev pub ContainedMatches : Type 0

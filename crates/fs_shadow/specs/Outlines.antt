@@ -1,17 +1,10 @@
 -- Rules as they are compared with many others, and which of them may contain a later one by their destinations,
 -- or by single numbers that they ask for.
-use Rattle.std.specs.Prelude.{◌≡◌, ℕ, ◌+◌, ◌-◌, ◌*◌, ◌^◌, ◌<◌, ◌≤◌, ◌==◌, Bool, true, false, not, ◌&&◌, ◌||◌, max, nat_le, nat_lt, Option, Some, None, List, [], ◌∷◌, get_or, if◌then◌else◌}
-use Rattle.std.specs.List.{AllByRecursion, list_all, list_any, slice_get, AllZip}
-use Rattle.std.specs.List.Sorted.{IsNonDecreasingBy}
-use Rattle.fs_base.specs.declared.prefix.Family.{Family}
-use Rattle.fs_base.specs.Bits.{afi_of}
-use Rattle.fs_rules.specs.Lent.{Listed}
-use Rattle.fs_rules.specs.Walk.{goes_on}
-use Rattle.fs_buckets.specs.Destinations.{IsOfFamily, spans_of}
-use Rattle.fs_buckets.specs.Runs.{AreNesting}
-use Rattle.fs_shadow.specs.declared.outlines.Outline.{Outline}
-use Rattle.fs_shadow.specs.Extents.{AreMeasuresOf, IsTold, key_in, measure_lies_in}
-use Rattle.fs_shadow.specs.declared.extents.Measure.{Measure}
+use Rattle.std.specs.{Prelude.{◌≡◌, ℕ, ◌+◌, ◌-◌, ◌*◌, ◌^◌, ◌<◌, ◌≤◌, ◌==◌, Bool, true, false, not, ◌&&◌, ◌||◌, max, nat_le, nat_lt, Option, Some, None, List, [], ◌∷◌, get_or, length, if◌then◌else◌}, List.{AllByRecursion, list_all, list_any, slice_get, AllZip, Sorted.{IsNonDecreasingBy}}}
+use Rattle.fs_base.specs.{declared.prefix.Family.{Family}, Bits.{afi_of}}
+use Rattle.fs_rules.specs.{Lent.{Listed}, Walk.{goes_on}}
+use Rattle.fs_buckets.specs.{Destinations.{IsOfFamily, spans_of}, Runs.{AreNesting}}
+use Rattle.fs_shadow.specs.{declared.{outlines.Outline.{Outline}, extents.Measure.{Measure}}, Extents.{AreMeasuresOf, IsTold, key_in, measure_lies_in}}
 
 abbrev pub outline_contains : (a b : Outline) → Bool
 outline_contains a b =
@@ -82,6 +75,12 @@ entries_from place (outline ∷ outlines) = (key_of outline.measures.items, plac
 pub record IsIndexOf (outlines : List Outline) (index : List (ℕ × ℕ)) : Type 0 where
   pub rising : IsNonDecreasingBy (λ entry. rank entry.0 entry.1) index
   pub has : (key place : ℕ) → list_any (is_entry key place) index ≡ list_any (is_entry key place) (entries_from 0 outlines)
+
+-- a stretch of the rules that have this index
+pub record IsStretch (outlines : List Outline) (entries : List (ℕ × ℕ)) (start end : ℕ) : Type 0 where
+  pub index : IsIndexOf outlines entries
+  pub order : start ≤ end
+  pub inside : end ≤ length outlines
 
 abbrev pub takes_as : Option Outline → Outline → Bool
 takes_as None later = false

@@ -1,6 +1,5 @@
 -- What holds of an inner list and of an outer one at some numbers.
-use Rattle.std.specs.Prelude.{ℕ, ◌+◌, ◌-◌, ◌^◌, min, Bool, ◌&&◌, List}
-use Rattle.std.specs.List.{list_all}
+use Rattle.std.specs.{Prelude.{ℕ, ◌+◌, ◌-◌, ◌^◌, min, Bool, ◌&&◌, List}, List.{list_all}}
 use Rattle.fs_ops.specs.Evaluation.{compares, holds}
 use Rattle.fs_shadow.specs.Contains.{implies}
 

@@ -1,7 +1,6 @@
 -- The rules that can never act, since an earlier one takes all of their packets.
 use Rattle.std.specs.Prelude.{ℕ, ◌+◌, Bool, not, ◌&&◌, Option, Some, None, List, [], ◌∷◌, ◌++◌, length, if◌then◌else◌}
-use Rattle.fs_rules.specs.Lent.{Listed}
-use Rattle.fs_rules.specs.Walk.{goes_on}
+use Rattle.fs_rules.specs.{Lent.{Listed}, Walk.{goes_on}}
 use Rattle.fs_shadow.specs.Contains.{contains}
 
 -- Each packet of the later rule is one of the earlier, which ends the walk: its terminal bit is clear (RFC 8955

@@ -1,24 +1,18 @@
 -- The lines of the report.
-use Rattle.std.specs.Prelude.{ℕ, ◌+◌, List, ◌++◌, flat_map, map, codes, decimal}
-use Rattle.fs_base.specs.declared.config.Config.{Config}
-use Rattle.fs_base.specs.declared.prefix.Family.{Family}
-use Rattle.fs_base.specs.declared.prefix.Family.TheVariants.{V4, V6}
-use Rattle.fs_rules.specs.Lent.{listed}
-use Rattle.fs_rules.specs.Table.{Held, admitted}
+use Rattle.std.specs.Prelude.{ℕ, ◌+◌, List, ◌++◌, flat_map, map, codes}
+use Rattle.fs_base.specs.declared.{config.Config.{Config}, prefix.Family.{Family, TheVariants.{V4, V6}}}
+use Rattle.fs_rules.specs.{Lent.{listed}, Table.{Held, admitted}}
 use Rattle.fs_tape.specs.Tape.{Item}
-use Rattle.fs_line.specs.Pieces.{family_name}
+use Rattle.fs_line.specs.{Line.{numbered}, Pieces.{family_name}}
 use Rattle.fs_shadow.specs.Reporting.{report_of}
 
 abbrev pub earlier_text : ℕ → List ℕ
-earlier_text earlier = codes " covered by " ++ (decimal earlier ++ codes "\n")
+earlier_text earlier = numbered (codes " covered by ") earlier ++ codes "\n"
 
--- a rule and the earlier one
-abbrev pub covered_text : Family → (number earlier : ℕ) → List ℕ
-covered_text family number earlier = family_name family ++ (codes " " ++ (decimal number ++ earlier_text earlier))
-
--- they are numbered from 1
+-- a rule and the earlier one; they are numbered from 1
 abbrev pub covered_line : Family → ℕ × ℕ → List ℕ
-covered_line family pair = covered_text family (pair.0 + 1) (pair.1 + 1)
+covered_line family pair =
+    family_name family ++ (numbered (codes " ") (pair.0 + 1) ++ earlier_text (pair.1 + 1))
 
 -- the lines of a family's admitted rules
 abbrev pub family_lines : Family → Held → List ℕ

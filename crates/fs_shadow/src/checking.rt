@@ -1,11 +1,8 @@
 //! The check of one pair of rules, component by component and without any memory.
 
-ghost use Rattle.std.specs.Prelude.{◌≡◌};
-ghost use Rattle.std.specs.List.{list_all, list_any};
-ghost use Rattle.fs_nlri.specs.Component.{part_of, parts_of};
-ghost use Rattle.fs_nlri.specs.Sound.{AreSound, IsSoundBody};
-ghost use Rattle.fs_shadow.specs.Contains.{contains, may_lie_in, part_lies_in};
-ghost use Rattle.fs_shadow.specs.Tested.{IsSound, tested_lies_in};
+ghost use Rattle.std.specs.{Prelude.{◌≡◌}, List.{list_all, list_any}};
+ghost use Rattle.fs_nlri.specs.{Component.{part_of, parts_of}, Sound.{AreSound, IsSoundBody}};
+ghost use Rattle.fs_shadow.specs.{Contains.{contains, may_lie_in, part_lies_in}, Tested.{IsSound, tested_lies_in}};
 
 use crate::ends::prefix_lies_in;
 use crate::points::numbers_lie_in;

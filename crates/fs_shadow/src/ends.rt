@@ -3,11 +3,8 @@
 
 ghost use Rattle.std.specs.Prelude.{◌≡◌, ◌-◌, ◌/◌, ◌^◌, ◌≤◌, ◌==◌, ◌&&◌};
 ghost use Rattle.fs_base.specs.Bits.{cleared, width_of};
-ghost use Rattle.fs_nlri.specs.Component.{body_of};
-ghost use Rattle.fs_nlri.specs.Parts.{V6Body};
-ghost use Rattle.fs_nlri.specs.Sound.{IsSoundBody};
-ghost use Rattle.fs_shadow.specs.Contains.{body_lies_in};
-ghost use Rattle.fs_shadow.specs.Ends.{highest_with};
+ghost use Rattle.fs_nlri.specs.{Component.{body_of}, Parts.{V6Body}, Sound.{IsSoundBody}};
+ghost use Rattle.fs_shadow.specs.{Contains.{body_lies_in}, Ends.{highest_with}};
 
 use fs_base::{Family, Prefix};
 use fs_nlri::PrefixForm;

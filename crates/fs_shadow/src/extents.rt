@@ -3,11 +3,8 @@
 ghost use Rattle.std.specs.Prelude.{◌≡◌, ◌^◌, ◌<◌, ℕ, IfOk, Some, false, true};
 ghost use Rattle.fs_ops.specs.Evaluation.{compares, holds};
 ghost use Rattle.fs_ranges.specs.Spans.{contains};
-ghost use Rattle.fs_nlri.specs.Component.{body_of, part_of};
-ghost use Rattle.fs_nlri.specs.Parts.{ListBody, part};
-ghost use Rattle.fs_nlri.specs.Sound.{IsSoundBody};
-ghost use Rattle.fs_shadow.specs.Contains.{may_lie_in, tests_bits};
-ghost use Rattle.fs_shadow.specs.Extents.{IsMeasureOf, bits_lie_in, extent_lies_in, is_probed, key_in, measure_lies_in};
+ghost use Rattle.fs_nlri.specs.{Component.{body_of, part_of}, Parts.{ListBody, part}, Sound.{IsSoundBody}};
+ghost use Rattle.fs_shadow.specs.{Contains.{may_lie_in, tests_bits}, Extents.{IsMeasureOf, bits_lie_in, extent_lies_in, is_probed, key_in, measure_lies_in}};
 
 use crate::prefixes::Known;
 use fs_base::{Family, Memory, Prefix};

@@ -5,7 +5,7 @@
 //! has the key 0, and is compared with all.
 
 ghost use Rattle.std.specs.Prelude.{◌≡◌, ◌≤◌, ◌==◌, IfOk, length};
-ghost use Rattle.fs_shadow.specs.Outlines.{IsFirst, IsIndexOf, entries_from, first_entry, is_asked, rank, takes_before};
+ghost use Rattle.fs_shadow.specs.Outlines.{IsFirst, IsIndexOf, IsStretch, entries_from, first_entry, is_asked, rank, takes_before};
 
 use crate::outlines::Outline;
 use fs_base::Memory;
@@ -47,9 +47,7 @@ pub(crate) fn first_by_keys(
     end: usize,
     later: &Outline,
 ) -> usize
-    requires index { IsIndexOf outlines.now index.now }
-    requires order { start ≤ end }
-    requires inside { end ≤ length outlines.now }
+    requires { IsStretch outlines.now index.now start end }
     ensures { IsFirst outlines.now later.now (is_asked later.now.measures.items) start end result }
 {
     let mut place = end;
@@ -70,9 +68,7 @@ fn first_of_key(
     end: usize,
     later: &Outline,
 ) -> usize
-    requires index { IsIndexOf outlines.now index.now }
-    requires order { start ≤ end }
-    requires inside { end ≤ length outlines.now }
+    requires { IsStretch outlines.now index.now start end }
     ensures { IsFirst outlines.now later.now (λ other. other == key) start end result }
 {
     let from = index.partition_point(|entry| rank(entry.0, entry.1) < rank(key, start));

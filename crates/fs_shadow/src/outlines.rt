@@ -1,12 +1,9 @@
 //! Rules made ready to be compared with many others.
 
-ghost use Rattle.std.specs.Prelude.{◌≡◌, IfOk};
-ghost use Rattle.std.specs.List.{list_all, list_any};
-ghost use Rattle.fs_nlri.specs.Component.{parts_of};
-ghost use Rattle.fs_nlri.specs.Sound.{AreSound};
+ghost use Rattle.std.specs.{Prelude.{◌≡◌, IfOk}, List.{list_all, list_any}};
+ghost use Rattle.fs_nlri.specs.{Component.{parts_of}, Sound.{AreSound}};
 ghost use Rattle.fs_rules.specs.Lent.{all_admitted, shown_lent};
-ghost use Rattle.fs_shadow.specs.Extents.{AreMeasuresOf, is_probed, measure_lies_in};
-ghost use Rattle.fs_shadow.specs.Outlines.{AreOutlinesOf, IsOutlineOf, key_of, outline_takes_all};
+ghost use Rattle.fs_shadow.specs.{Extents.{AreMeasuresOf, is_probed, measure_lies_in}, Outlines.{AreOutlinesOf, IsOutlineOf, key_of, outline_takes_all}};
 
 use crate::extents::Measure;
 use fs_base::{Family, Memory};

@@ -1,10 +1,8 @@
 //! Lists of numbers compared at a few points. Where no value of a list stands between two numbers it says the same of
 //! both, so what is so at the ends, at the values and beside these is so everywhere.
 
-ghost use Rattle.std.specs.Prelude.{◌≡◌, ◌-◌, ◌+◌, ◌^◌, min};
-ghost use Rattle.std.specs.List.{list_all};
-ghost use Rattle.fs_shadow.specs.Contains.{numbers_lie_in};
-ghost use Rattle.fs_shadow.specs.Points.{are_implied, implied_around, implied_at};
+ghost use Rattle.std.specs.{Prelude.{◌≡◌, ◌-◌, ◌+◌, ◌^◌, min}, List.{list_all}};
+ghost use Rattle.fs_shadow.specs.{Contains.{numbers_lie_in}, Points.{are_implied, implied_around, implied_at}};
 
 use fs_ops::NumList;
 

@@ -5,15 +5,10 @@
 //! destination, or with one that isn't the first bits of an address, may lie in one of another destination: in that of
 //! all addresses, which stands last.
 
-ghost use Rattle.std.specs.Prelude.{◌≡◌, ◌≤◌, ◌<◌, ◌+◌, ◌-◌, ◌++◌, ◌^◌, IfOk, None, OnOk, if◌then◌else◌, true};
-ghost use Rattle.std.specs.Prelude.{drop, get_or, length, map, take};
-ghost use Rattle.std.specs.List.{AllByRecursion, list_all};
+ghost use Rattle.std.specs.{Prelude.{◌≡◌, ◌≤◌, ◌<◌, ◌+◌, ◌-◌, ◌++◌, ◌^◌, IfOk, None, OnOk, if◌then◌else◌, drop, get_or, length, map, take}, List.{AllByRecursion}};
 ghost use Rattle.fs_buckets.specs.Destinations.{span_of, spans_of};
-ghost use Rattle.fs_rules.specs.Lent.{all_admitted, listed};
-ghost use Rattle.fs_rules.specs.Table.{admitted};
-ghost use Rattle.fs_shadow.specs.Extents.{IsTold, is_probed};
-ghost use Rattle.fs_shadow.specs.Outlines.{AreInOrder, AreOutlinesOf, AreTold, IsIndexOf, begins_anew, first_taker, lie_apart};
-ghost use Rattle.fs_shadow.specs.Reporting.{covered_by, report_of};
+ghost use Rattle.fs_rules.specs.{Lent.{all_admitted, listed}, Table.{admitted}};
+ghost use Rattle.fs_shadow.specs.{Extents.{IsTold}, Outlines.{AreInOrder, AreOutlinesOf, AreTold, IsIndexOf, IsStretch, begins_anew, first_taker, lie_apart}, Reporting.{covered_by, report_of}};
 
 use crate::keys::{first_by_keys, index_of};
 use crate::outlines::{Outline, outlines_of};
@@ -86,9 +81,7 @@ fn append_covered(
 ) -> Result<(), Memory>
     requires told { AreTold outlines.now }
     requires later { AllByRecursion IsTold later.now.measures.items }
-    requires index { IsIndexOf outlines.now index.now }
-    requires order { start ≤ number }
-    requires inside { number ≤ length outlines.now }
+    requires stretch { IsStretch outlines.now index.now start number }
     ensures { OnOk result (pairs.new.items
         ≡ pairs.old.items
         ++ covered_by number (first_taker start (take (number - start) (drop start outlines.now)) later.now)) }
@@ -113,36 +106,12 @@ fn first_earlier(
 ) -> Option<usize>
     requires told { AreTold outlines.now }
     requires later { AllByRecursion IsTold later.now.measures.items }
-    requires index { IsIndexOf outlines.now index.now }
-    requires order { start ≤ number }
-    requires inside { number ≤ length outlines.now }
+    requires stretch { IsStretch outlines.now index.now start number }
     ensures { result ≡ first_taker start (take (number - start) (drop start outlines.now)) later.now }
 {
-    if number - start <= FEW_RULES {
+    if number - start <= FEW_RULES || !later.is_probed() {
         return first_taker(&outlines[start..number], start, later);
     }
-    if later.is_probed() {
-        return first_probed(outlines, index, start, number, later);
-    }
-    first_taker(&outlines[start..number], start, later)
-}
-
-/// The same where a number is known of each of the later rule's components that takes in numbers.
-fn first_probed(
-    outlines: &[Outline],
-    index: &[(u64, usize)],
-    start: usize,
-    number: usize,
-    later: &Outline,
-) -> Option<usize>
-    requires told { AreTold outlines.now }
-    requires later { AllByRecursion IsTold later.now.measures.items }
-    requires probed { list_all is_probed later.now.measures.items ≡ true }
-    requires index { IsIndexOf outlines.now index.now }
-    requires order { start ≤ number }
-    requires inside { number ≤ length outlines.now }
-    ensures { result ≡ first_taker start (take (number - start) (drop start outlines.now)) later.now }
-{
     let place = first_by_keys(outlines, index, start, number, later);
     if place < number { Some(place) } else { None }
 }

@@ -1,13 +1,5 @@
 -- How both ends close, whatever happens between them.
-use Rattle.fs_speaker.proofs.Words.{◌≡◌, inl, inr, ℕ, ◌==◌, Bool, true, false, if◌then◌else◌, List, [], ◌∷◌, ◌++◌, take, Option, Some, None, refl, ap, sym, ◌∙◌, subst, append_assoc, append-nil, Config, Peer, Point, Handed, hand, Last, at_start, closed, session_by, at_moment, tick_at, Machine, Sending, Closed, Fault, Notified, NoFamily, Memory, Tick, Quiet, Keeps, Expires, Event, Send, Deliver, Cut, ticks, ticked, CanArrive, ClosesSo, IsDue, handed_over, point_of, taken_in, World, sent, taker_of, teller_of, taker_comes, teller_comes, happens, at_first, runs_on, run}
-use Rattle.fs_speaker.specs.declared.event.Event.TheVariants.{Tick as TickEvent}
-use Rattle.fs_speaker.proofs.Events.{each_event, told_over}
-use Rattle.fs_speaker.proofs.Fronting.{Holds, Lines, holds_first, holds_on, lines_cut, lines_delivered, lines_same, lines_spoken}
-use Rattle.fs_speaker.proofs.SessionInPieces.{Follows, closes_by, follows_first, follows_none, follows_piece, follows_tick}
-use Rattle.fs_speaker.proofs.Reading.{IsCalm}
-use Rattle.fs_speaker.proofs.Running.{run_more}
-use Rattle.fs_speaker.proofs.ReceiverReplies.{Says, says_first, says_piece, says_tick}
-use Rattle.fs_speaker.proofs.Waking.{hand_opens, hand_stays, tick_each, tick_opens, tick_stays, ticked_by}
+use Rattle.fs_speaker.{proofs.{Words.{◌≡◌, inl, inr, ℕ, ◌==◌, Bool, true, false, if◌then◌else◌, List, [], ◌∷◌, ◌++◌, take, Option, Some, None, refl, ap, sym, ◌∙◌, subst, append_assoc, append-nil, Config, Peer, Point, Handed, hand, Last, at_start, closed, session_by, at_moment, tick_at, Machine, Sending, Closed, Fault, Notified, NoFamily, Memory, Tick, Quiet, Keeps, Expires, Event, Send, Deliver, Cut, ticks, ticked, CanArrive, ClosesSo, IsDue, handed_over, point_of, taken_in, World, sent, taker_of, teller_of, taker_comes, teller_comes, happens, at_first, runs_on, run}, Events.{each_event, told_over}, Fronting.{Holds, Lines, holds_first, holds_on, lines_cut, lines_delivered, lines_same, lines_spoken}, SessionInPieces.{Follows, closes_by, follows_first, follows_none, follows_piece, follows_tick}, Reading.{IsCalm}, Running.{run_more}, ReceiverReplies.{Says, says_first, says_piece, says_tick}, Waking.{hand_opens, hand_stays, tick_each, tick_opens, tick_stays, ticked_by}}, specs.declared.event.Event.TheVariants.{Tick as TickEvent}}
 
 module _ (config : Config) (peer : Peer) (sending : Sending) where
   abbrev taker : Machine

@@ -1,6 +1,5 @@
 -- What an event does, by cases: an end says something, is handed a piece or hears the clock, or the wire is cut.
-use Rattle.fs_speaker.proofs.Words.{◌≡◌, ℕ, ◌==◌, Bool, true, false, if◌then◌else◌, List, [], ◌∷◌, ◌++◌, take, drop, Option, Some, None, refl, append_assoc, append-nil, Config, Peer, hand, Machine, Sending, Event, Send, Deliver, Cut, ticked, delivered_on, handed_over, taken_in, World, cuts, taker_of, teller_of, taker_comes, teller_comes, says, next_said, happens, runs_on}
-use Rattle.fs_speaker.specs.declared.event.Event.TheVariants.{Tick}
+use Rattle.fs_speaker.{proofs.Words.{◌≡◌, ℕ, ◌==◌, Bool, true, false, if◌then◌else◌, List, [], ◌∷◌, ◌++◌, take, drop, Option, Some, None, refl, append_assoc, append-nil, Config, Peer, hand, Machine, Sending, Event, Send, Deliver, Cut, ticked, delivered_on, handed_over, taken_in, World, cuts, taker_of, teller_of, taker_comes, teller_comes, says, next_said, happens, runs_on}, specs.declared.event.Event.TheVariants.{Tick}}
 
 -- the octets that an event hands to the announcing end while it is open
 abbrev pub told_over : Event → World → List ℕ

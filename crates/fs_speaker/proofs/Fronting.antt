@@ -1,12 +1,7 @@
 -- Whatever happens between two joined ends, what was delivered is a front of what the announcing end said, and what it
 -- said is its OPEN, KEEPALIVEs and the UPDATEs of its rules, in their order.
-use Rattle.fs_speaker.proofs.Words.{◌≡◌, ◌⊎◌, inl, inr, ℕ, zero, suc, ◌+◌, Bool, true, false, if◌then◌else◌, List, [], ◌∷◌, ◌++◌, length, take, drop, map, Option, Some, None, refl, ap, sym, ◌∙◌, subst, append_assoc, append-nil, take-append-drop, Config, Peer, Update, message_text, Closed, Fault, Tick, Quiet, Keeps, Expires, Times, Sending, Sent, Phase, first_text, is_established, open_sent, Point, Handed, hand, runs_by, needs_of, text_sent, update_sent, at_start, session_by, at_moment, tick_at, Machine, hand_each, front_first, Event, Cut, ticks, ticked, CanArrive, taken_in, handed_over, delivered, World, sent, taker_of, teller_of, teller_comes, says, next_said, happens, at_first, run}
+use Rattle.fs_speaker.proofs.{Words.{◌≡◌, ◌⊎◌, inl, inr, ℕ, zero, suc, ◌+◌, Bool, true, false, if◌then◌else◌, List, [], ◌∷◌, ◌++◌, length, take, drop, map, Option, Some, None, refl, ap, sym, ◌∙◌, subst, append_assoc, append-nil, take-append-drop, Config, Peer, Update, message_text, Closed, Fault, Tick, Quiet, Keeps, Expires, Times, Sending, Sent, Phase, first_text, is_established, open_sent, Point, Handed, hand, runs_by, needs_of, text_sent, update_sent, at_start, session_by, at_moment, tick_at, Machine, hand_each, front_first, Event, Cut, ticks, ticked, CanArrive, taken_in, handed_over, delivered, World, sent, taker_of, teller_of, teller_comes, says, next_said, happens, at_first, run}, Events.{each_event, each_run}, Opening.{Begins, Comes, Heads, IsSafe, IsSilent, Quietly, awaits, heads_more, heads_safe, none_safe, quiet_by, safe_front, taker_begins, teller_begins}, Reading.{Gives, Reads, calmly_none, front_of, hears_calmly, hears_none, hears_notice, met, reads_alive, reads_first_alive, reads_open, reads_rule, up}, Taking.{takes_delivered}, Waking.{hand_opens, open_not, tick_each, tick_opens}}
 use Rattle.fs_base.proofs.Octets.{take_of_none}
-use Rattle.fs_speaker.proofs.Events.{each_event, each_run}
-use Rattle.fs_speaker.proofs.Opening.{Begins, Comes, Heads, IsSafe, IsSilent, Quietly, awaits, heads_more, heads_safe, none_safe, quiet_by, safe_front, taker_begins, teller_begins}
-use Rattle.fs_speaker.proofs.Reading.{Gives, Reads, calmly_none, front_of, hears_calmly, hears_none, hears_notice, met, reads_alive, reads_first_alive, reads_open, reads_rule, up}
-use Rattle.fs_speaker.proofs.Taking.{takes_delivered}
-use Rattle.fs_speaker.proofs.Waking.{hand_opens, open_not, tick_each, tick_opens}
 
 -- What was delivered is a front of all that was said; and while the receiving end is open and the wire isn't cut, the
 -- rest of it is in flight.

@@ -1,7 +1,6 @@
 -- An end that takes a piece message by message comes to what the whole piece makes of it.
 use Rattle.fs_speaker.proofs.Words.{◌≡◌, ℕ, List, [], ◌∷◌, ◌++◌, length, drop, max, Option, Some, None, Result, Ok, Err, refl, ap, sym, ◌∙◌, subst, arith, append_assoc, append-nil, IfSome, take, ◌-◌, drop_all, take_rest, nil_from_length, Update, pending, State, WaitOpen, WaitKeep, Established, Closed, Fault, Notified, NoFamily, Memory, Times, Point, point, Handed, handed, shuts, updates_with, with_taken, runs_by, hand, Lined, Step, waits, takes, stops, step_by, answer_of, closed_after, Advanced, CloseIs, FeedsAt, FeedsOpen, StaysOver, moved, at_fault, times, at_moment, Phase, Machine, runs_takes, runs_stops, runs_waits, StandsAt, HandsOver}
-use Rattle.fs_session.specs.declared.state.State.TheVariants.{Closed as IsClosed}
-use Rattle.fs_session.specs.Times.{taken_in}
+use Rattle.fs_session.specs.{declared.state.State.TheVariants.{Closed as IsClosed}, Times.{taken_in}}
 pub use Rattle.fs_session.proofs.MessageRuns.{open_hand, closed_hand}
 
 -- what was taken and answered before, and what is to come
@@ -56,22 +55,14 @@ module _ (machine : Machine) (moment : ℕ) (whole : Handed) (taken : List Updat
   by_step taken' out' out2 old new rest count update c waits h did said =
       let gone : drop count rest ≡ [] = drop_all count rest (omega (arith, did.0)) in
       record {
-        moved_is = ap (at_moment moment) did.4 ∙ moment_stays moment old.times ∙ sym did.4;
+        moved_is = rw did.4 (moment_stays moment old.times);
         comes = record {
           updates = c.updates ++ updates_with update [];
           text = c.text ++ [];
           took = ap (λ (u : List Update). u ++ updates_with update []) c.took ∙ append_assoc taken c.updates (updates_with update []);
           said = said ∙ ap (λ (t : List ℕ). t ++ []) c.said ∙ append_assoc out c.text [];
-          goes = c.goes
-              ∙ ap (λ (u : List Update). behind u c.text (runs_by machine old.phase (at_moment moment old.times) (pending old.framing ++ rest)))
-              (sym (append-nil c.updates) ∙ ap (λ (u : Option Update). c.updates ++ updates_with u []) (sym did.3))
-              ∙ ap (λ (t : List ℕ). behind (c.updates ++ updates_with update []) t (runs_by machine old.phase (at_moment moment old.times) (pending old.framing ++ rest))) (sym (append-nil c.text))
-              ∙ ap (λ (z : List ℕ). behind (c.updates ++ updates_with update []) (c.text ++ []) (runs_by machine old.phase (at_moment moment old.times) z))
-              (sym (ap (λ (z : List ℕ). z ++ drop count rest) did.1 ∙ ap (λ (z : List ℕ). (pending old.framing ++ rest) ++ z) gone ∙ append-nil (pending old.framing ++ rest)))
-              ∙ ap (λ (t : Times). behind (c.updates ++ updates_with update []) (c.text ++ []) (runs_by machine old.phase t (pending new.framing ++ drop count rest)))
-              (sym (ap (at_moment moment) did.4 ∙ moment_stays moment old.times))
-              ∙ ap (λ (p : Phase). behind (c.updates ++ updates_with update []) (c.text ++ []) (runs_by machine p (at_moment moment new.times) (pending new.framing ++ drop count rest))) (sym did.2);
-          waits_is = ap (λ (z : List ℕ). step_by machine new.phase z) did.1 ∙ ap (λ (p : Phase). step_by machine p (pending old.framing ++ rest)) did.2 ∙ h;
+          goes = rw (did.1, did.2, did.3, did.4, gone, append-nil c.updates, append-nil c.text, append-nil (pending old.framing ++ rest), moment_stays moment old.times) c.goes;
+          waits_is = rw (did.1, did.2) h;
         };
       }
   by_step taken' out' out2 old new rest count update c (takes next took left) h did said =
@@ -82,31 +73,22 @@ module _ (machine : Machine) (moment : ℕ) (whole : Handed) (taken : List Updat
       ∙ ap (λ (z : List ℕ). with_taken (machine.answer old.phase.state) took (runs_by machine next (taken_in old.phase.state (at_moment moment old.times)) z)) (append-nil left) in
       let later : Handed = runs_by machine next (taken_in old.phase.state (at_moment moment old.times)) left in
       record {
-        moved_is = ap (at_moment moment) did.5 ∙ took_stays moment old.phase.state old.times ∙ sym did.5;
+        moved_is = rw did.5 (took_stays moment old.phase.state old.times);
         comes = record {
           updates = c.updates ++ updates_with update [];
           text = c.text ++ machine.answer old.phase.state;
           took = ap (λ (u : List Update). u ++ updates_with update []) c.took ∙ append_assoc taken c.updates (updates_with update []);
           said = said ∙ ap (λ (t : List ℕ). t ++ machine.answer old.phase.state) c.said ∙ append_assoc out c.text (machine.answer old.phase.state);
-          goes = c.goes ∙ ap (behind c.updates c.text) at ∙ join c.updates c.text (machine.answer old.phase.state) took later
-              ∙ ap (λ (u : Option Update). behind (c.updates ++ updates_with u []) (c.text ++ machine.answer old.phase.state) later) (sym did.4)
-              ∙ ap (λ (z : List ℕ). behind (c.updates ++ updates_with update []) (c.text ++ machine.answer old.phase.state) (runs_by machine next (taken_in old.phase.state (at_moment moment old.times)) z))
-              (did.1 ∙ ap (λ (z : List ℕ). z ++ drop count rest) (sym did.2))
-              ∙ ap (λ (t : Times). behind (c.updates ++ updates_with update []) (c.text ++ machine.answer old.phase.state) (runs_by machine next t (pending new.framing ++ drop count rest)))
-              (sym (ap (at_moment moment) did.5 ∙ took_stays moment old.phase.state old.times))
-              ∙ ap (λ (p : Phase). behind (c.updates ++ updates_with update []) (c.text ++ machine.answer old.phase.state) (runs_by machine p (at_moment moment new.times) (pending new.framing ++ drop count rest))) (sym did.3);
-          waits_is = ap (λ (z : List ℕ). step_by machine new.phase z) did.2 ∙ nothing_waits machine new.phase;
+          goes = rw (did.2, did.3, did.4, did.5, ← did.1, took_stays moment old.phase.state old.times)
+              (c.goes ∙ ap (behind c.updates c.text) at ∙ join c.updates c.text (machine.answer old.phase.state) took later);
+          waits_is = rw did.2 (nothing_waits machine new.phase);
         };
       }
     where
       join : (updates : List Update) (text answer : List ℕ) (took : Option Update) (later : Handed)
           → behind updates text (with_taken answer took later) ≡ behind (updates ++ updates_with took []) (text ++ answer) later
-      join updates text answer None later =
-          ap (λ (u : List Update). handed later.point (u ++ later.updates) (text ++ (answer ++ later.text))) (sym (append-nil updates))
-          ∙ ap (λ (t : List ℕ). handed later.point ((updates ++ []) ++ later.updates) t) (sym (append_assoc text answer later.text))
-      join updates text answer (Some update) later =
-          ap (λ (u : List Update). handed later.point u (text ++ (answer ++ later.text))) (sym (append_assoc updates (update ∷ []) later.updates))
-          ∙ ap (λ (t : List ℕ). handed later.point ((updates ++ update ∷ []) ++ later.updates) t) (sym (append_assoc text answer later.text))
+      join updates text answer None later = rw (append-nil updates, append_assoc text answer later.text) refl
+      join updates text answer (Some update) later = rw (append_assoc updates (update ∷ []) later.updates, append_assoc text answer later.text) refl
   by_step taken' out' out2 old new rest count update c (stops why) h did said = absurd did
 
   -- one call of an opened end
@@ -123,14 +105,9 @@ module _ (machine : Machine) (moment : ℕ) (whole : Handed) (taken : List Updat
   comes_closed taken' out' out2 old rest why c h said =
       let at : whole ≡ behind c.updates c.text (shuts machine old.phase (at_moment moment old.times) why) =
       c.goes ∙ ap (λ (z : List ℕ). behind c.updates c.text (runs_by machine old.phase (at_moment moment old.times) z)) (sym (append-nil (pending old.framing ++ rest)))
-      ∙ ap (behind c.updates c.text) (runs_stops machine old.phase (at_moment moment old.times) why (pending old.framing ++ rest) [] h) in (
-        ap (λ (h : Handed). h.point.closed) at,
-        (
-          c.took ∙ ap (λ (u : List Update). taken ++ u) (sym (append-nil c.updates) ∙ sym (ap (λ (h : Handed). h.updates) at)),
-          said ∙ ap (λ (t : List ℕ). t ++ at_fault machine.farewell why) c.said ∙ append_assoc out c.text (at_fault machine.farewell why)
-              ∙ ap (λ (t : List ℕ). out ++ t) (sym (ap (λ (h : Handed). h.text) at)),
-        ),
-      )
+      ∙ ap (behind c.updates c.text) (runs_stops machine old.phase (at_moment moment old.times) why (pending old.framing ++ rest) [] h) in
+      let told : out2 ≡ out ++ (c.text ++ at_fault machine.farewell why) = said ∙ ap (λ (t : List ℕ). t ++ at_fault machine.farewell why) c.said ∙ append_assoc out c.text (at_fault machine.farewell why) in
+      rw (at, append-nil c.updates) (refl, (c.took, told))
 
   -- all of the piece was taken
   came_all : (taken' : List Update) (out' : List ℕ) (line : Lined) (rest : List ℕ) → Came machine moment whole taken taken' out out' line rest → rest ≡ []
@@ -142,15 +119,10 @@ module _ (machine : Machine) (moment : ℕ) (whole : Handed) (taken : List Updat
       ∙ ap (λ (z : List ℕ). behind c.comes.updates c.comes.text (runs_by machine line.phase (at_moment moment line.times) z))
       (ap (λ (z : List ℕ). pending line.framing ++ z) none ∙ append-nil (pending line.framing))
       ∙ ap (λ (t : Times). behind c.comes.updates c.comes.text (runs_by machine line.phase t (pending line.framing))) c.moved_is
-      ∙ ap (behind c.comes.updates c.comes.text) (runs_waits machine line.phase line.times (pending line.framing) c.comes.waits_is) in (
-        subst (λ (h : Handed). StandsAt machine line h.point) (sym at) (record {
-          closed_is = opened;
-          open_is = λ e. record { waiting_is = refl; phase_is = refl; times_is = refl; waits_is = c.comes.waits_is };
-        }),
-        (
-          c.comes.took ∙ ap (λ (u : List Update). taken ++ u) (sym (append-nil c.comes.updates) ∙ sym (ap (λ (h : Handed). h.updates) at)),
-          c.comes.said ∙ ap (λ (t : List ℕ). out ++ t) (sym (append-nil c.comes.text) ∙ sym (ap (λ (h : Handed). h.text) at)),
-        ),
+      ∙ ap (behind c.comes.updates c.comes.text) (runs_waits machine line.phase line.times (pending line.framing) c.comes.waits_is) in
+      rw (at, append-nil c.comes.updates, append-nil c.comes.text) (
+        record { closed_is = opened; open_is = λ e. record { waiting_is = refl; phase_is = refl; times_is = refl; waits_is = c.comes.waits_is } },
+        (c.comes.took, c.comes.said),
       )
 
 -- From a point: a closed end did nothing, and an opened one has come so far.
@@ -178,11 +150,8 @@ going_start machine moment old piece taken out now stands = by now.closed refl
             text = [];
             took = sym (append-nil taken);
             said = sym (append-nil out);
-            waits_is = ap (λ (p : Phase). step_by machine p (pending old.framing)) at.phase_is ∙ ap (λ (z : List ℕ). step_by machine now.phase z) at.waiting_is ∙ at.waits_is;
-            goes =
-                ap (λ (z : List ℕ). runs_by machine now.phase (at_moment moment now.times) (z ++ piece)) (sym at.waiting_is)
-                ∙ ap (λ (t : Times). runs_by machine now.phase (at_moment moment t) (pending old.framing ++ piece)) (sym at.times_is)
-                ∙ ap (λ (p : Phase). runs_by machine p (at_moment moment old.times) (pending old.framing ++ piece)) (sym at.phase_is);
+            waits_is = rw (at.phase_is, at.waiting_is) at.waits_is;
+            goes = rw (at.waiting_is, at.times_is, at.phase_is) refl;
           },
         )
 
@@ -213,13 +182,6 @@ going_more machine moment old line new piece rest taken taken' out out' out2 cou
     subst (λ (how : Option Closed). GoesFrom machine moment old new piece (drop count rest) taken (taken' ++ updates_with update []) out out2 now how) (sym w.0)
     (closed ∙ ap closed_after e, w.1.comes)
 
--- what the piece made of the end, by whatever it is called
-by_whole : (machine : Machine) (new : Lined) (taken taken' : List Update) (out out' : List ℕ) (whole whole' : Handed) → whole' ≡ whole
-    → StandsAt machine new whole.point × ((taken' ≡ taken ++ whole.updates) × (out' ≡ out ++ whole.text))
-    → StandsAt machine new whole'.point × ((taken' ≡ taken ++ whole'.updates) × (out' ≡ out ++ whole'.text))
-by_whole machine new taken taken' out out' whole whole' e h =
-    subst (λ (w : Handed). StandsAt machine new w.point × ((taken' ≡ taken ++ w.updates) × (out' ≡ out ++ w.text))) (sym e) h
-
 -- the last call took the rest
 pub hands_all : (machine : Machine) (moment : ℕ) (old line new : Lined) (piece rest : List ℕ) (taken taken' : List Update) (out out' out2 : List ℕ) (count : ℕ)
     (update : Option Update) (result : Result (ℕ × Option Update) Closed) → result ≡ Ok (count, update) → Going machine moment old line piece rest taken taken' out out'
@@ -227,8 +189,7 @@ pub hands_all : (machine : Machine) (moment : ℕ) (old line new : Lined) (piece
     → HandsOver machine moment old new piece taken (taken' ++ updates_with update []) out out2
 hands_all machine moment old line new piece rest taken taken' out out' out2 count update result e g stays feeds closed none now stands =
     let w = went machine moment old line new piece rest taken taken' out out' out2 count update result now e stands stays feeds now.closed refl (g now stands) in
-    by_whole machine new taken (taken' ++ updates_with update []) out out2 (runs_by machine now.phase (at_moment moment now.times) (now.waiting ++ piece)) (hand machine moment now piece)
-    (open_hand machine moment now piece w.0)
+    rw (open_hand machine moment now piece w.0)
     (came_all machine moment (runs_by machine now.phase (at_moment moment now.times) (now.waiting ++ piece)) taken out (taken' ++ updates_with update []) out2 new (drop count rest) w.1 none
     (closed ∙ ap closed_after e))
 
@@ -255,14 +216,14 @@ hands_closed machine moment old line new piece rest taken taken' out out' out2 w
         subst (λ (r : Result (ℕ × Option Update) Closed). FeedsAt machine moment line new rest out' out2 r) e (feeds g.0) in
         let whole : Handed = runs_by machine now.phase (at_moment moment now.times) (now.waiting ++ piece) in
         let c = comes_closed machine moment whole taken out taken' out' out2 line rest why g.1 (close_is (step_by machine line.phase (pending line.framing ++ rest)) why other fed.0) fed.1 in
-        by_whole machine new taken taken' out out2 whole (hand machine moment now piece) (open_hand machine moment now piece opened)
+        rw (open_hand machine moment now piece opened)
         (record { closed_is = closed ∙ ap closed_after e ∙ sym c.0; open_is = λ h. absurd (never why (sym c.0 ∙ h)) }, c.1)
     by (Some what) shut g =
         let was : line.closed ≡ Some what = ap (λ (l : Lined). l.closed) g.0 ∙ stands.closed_is ∙ shut in
         let kept = subst (λ (o : Option Closed). IfSome o (λ (w : Closed). (result ≡ Err w) × (new ≡ line) × (out2 ≡ out'))) was stays in
-        by_whole machine new taken taken' out out2 (handed now [] []) (hand machine moment now piece) (closed_hand machine moment now piece what shut) (
+        rw (closed_hand machine moment now piece what shut, append-nil taken, append-nil out) (
           record { closed_is = ap (λ (l : Lined). l.closed) kept.1 ∙ was ∙ sym shut; open_is = λ h. absurd (never what (sym shut ∙ h)) },
-          (g.1 ∙ sym (append-nil taken), kept.2 ∙ g.2 ∙ sym (append-nil out)),
+          (g.1, kept.2 ∙ g.2),
         )
 
 -- nothing lies behind a count that leaves nothing

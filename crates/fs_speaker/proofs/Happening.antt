@@ -1,7 +1,5 @@
 -- What each event makes of both ends.
-use Rattle.fs_speaker.proofs.Words.{◌≡◌, ℕ, Bool, if◌then◌else◌, List, [], ◌++◌, take, drop, Option, Some, None, refl, ap, sym, ◌∙◌, subst, append-nil, unwrap_or, Config, Peer, Update, Closed, Tick, Quiet, Keeps, Expires, Times, Sending, Announcing, machine_in, is_established, first_text, next_text, Point, Handed, hand, needs_of, text_sent, Lined, Live, line_of, receiver, announcer, at_moment, tick_at, Phase, Machine, Own, own_of_taker, own_of_teller, ticks, ticked, StandsAt, HandsOver, TicksOver, Both, both, IsTaker, IsTeller, AreIn, Flying, flying, World, sent, taker_of, teller_of, next_said, delivers, wakes}
-use Rattle.fs_session.specs.declared.state.State.TheVariants.{Closed as IsClosed}
-use Rattle.fs_speaker.proofs.Waking.{tick_each}
+use Rattle.fs_speaker.proofs.{Words.{◌≡◌, ℕ, Bool, List, [], ◌++◌, take, drop, Option, Some, refl, ap, sym, ◌∙◌, subst, append-nil, unwrap_or, Config, Peer, Update, Tick, Quiet, Keeps, Expires, Times, Sending, Announcing, machine_in, Point, Handed, hand, needs_of, Lined, Live, line_of, receiver, announcer, at_moment, tick_at, Phase, Machine, Own, own_of_taker, own_of_teller, ticks, ticked, StandsAt, HandsOver, TicksOver, Both, both, IsTaker, IsTeller, AreIn, Flying, flying, World, sent, taker_of, teller_of, taker_comes, teller_comes, delivers, wakes}, Waking.{tick_each}}
 
 -- no update comes of the clock
 no_update : (tick : Tick) (waiting : List ℕ) (phase : Phase) (times : Times) → (ticks tick waiting phase times).updates ≡ []
@@ -63,6 +61,34 @@ module _ (config : Config) (peer : Peer) (sending : Sending) (w : World) (old : 
   flies : (cut : Bool) (octets said text : List ℕ) (flying : List ℕ) → cut ≡ w.cut → octets ≡ flying → said ≡ text → sent cut octets said ≡ sent w.cut flying text
   flies cut octets said text flying c o s = ap (λ (b : Bool). sent b octets said) c ∙ ap (λ (z : List ℕ). sent w.cut z said) o ∙ ap (λ (z : List ℕ). sent w.cut flying z) s
 
+  -- the receiving end came to this, and so much of what is in flight to it is left
+  taker_came : (made : Handed) (rest : List ℕ) (taker : Live) (flight : Flying) (taken : List Update) (left said : List ℕ) → own_of_taker taker ≡ own_of_taker old.taker
+      → StandsAt (taker_of config peer sending) (line_of taker) made.point → taken ≡ old.taken ++ made.updates → said ≡ made.text → left ≡ rest
+      → flight ≡ flying left (sent old.flight.cut old.flight.to_teller said) old.flight.cut
+      → AreIn config peer sending (both taker old.teller flight taken) (taker_comes made rest w)
+  taker_came made rest taker flight taken left said own stands takes says is put = record {
+    first = taker_is taker made.point own stands;
+    second = here.second;
+    to_taker_is = ap (λ (f : Flying). f.to_taker) put ∙ is;
+    to_teller_is = ap (λ (f : Flying). f.to_teller) put ∙ flies old.flight.cut old.flight.to_teller said made.text w.to_teller here.cut_is here.to_teller_is says;
+    cut_is = ap (λ (f : Flying). f.cut) put ∙ here.cut_is;
+    taken_is = takes ∙ ap (λ (u : List Update). u ++ made.updates) here.taken_is;
+  }
+
+  -- so the announcing end
+  teller_came : (made : Handed) (rest : List ℕ) (teller : Announcing) (flight : Flying) (left said : List ℕ) → own_of_teller teller ≡ own_of_teller old.teller
+      → StandsAt (teller_of config peer sending) teller.line made.point → said ≡ made.text → left ≡ rest
+      → flight ≡ flying (sent old.flight.cut old.flight.to_taker said) left old.flight.cut
+      → AreIn config peer sending (both old.taker teller flight old.taken) (teller_comes made rest w)
+  teller_came made rest teller flight left said own stands says is put = record {
+    first = here.first;
+    second = teller_is teller made.point own stands;
+    to_taker_is = ap (λ (f : Flying). f.to_taker) put ∙ flies old.flight.cut old.flight.to_taker said made.text w.to_taker here.cut_is here.to_taker_is says;
+    to_teller_is = ap (λ (f : Flying). f.to_teller) put ∙ is;
+    cut_is = ap (λ (f : Flying). f.cut) put ∙ here.cut_is;
+    taken_is = here.taken_is;
+  }
+
   pub taker_delivered : (taker : Live) (flight1 flight : Flying) (taken : List Update) (piece said : List ℕ) (count moment : ℕ) → piece ≡ take count old.flight.to_taker
       → flight1 ≡ flying (drop count old.flight.to_taker) old.flight.to_teller old.flight.cut → own_of_taker taker ≡ own_of_taker old.taker
       → HandsOver (receiver old.taker.config old.taker.peer) moment (line_of old.taker) (line_of taker) piece old.taken taken [] said
@@ -70,20 +96,11 @@ module _ (config : Config) (peer : Peer) (sending : Sending) (w : World) (old : 
       → AreIn config peer sending (both taker old.teller flight taken) (delivers config peer sending 0 count moment w)
   taker_delivered taker flight1 flight taken piece said count moment front left own hands put =
       let machine : Machine = taker_of config peer sending in
-      let whole : piece ≡ take count w.to_taker = front ∙ ap (take count) here.to_taker_is in
-      let made : Handed = hand machine moment w.taker (take count w.to_taker) in
-      let came = subst (λ (z : List ℕ). StandsAt machine (line_of taker) (hand machine moment w.taker z).point
-      × ((taken ≡ old.taken ++ (hand machine moment w.taker z).updates) × (said ≡ [] ++ (hand machine moment w.taker z).text))) whole
-      (subst (λ (m : Machine). HandsOver m moment (line_of old.taker) (line_of taker) piece old.taken taken [] said) takes_as hands w.taker here.first.stands) in
-      record {
-        first = taker_is taker made.point own came.0;
-        second = here.second;
-        to_taker_is = ap (λ (f : Flying). f.to_taker) put ∙ ap (λ (f : Flying). f.to_taker) left ∙ ap (drop count) here.to_taker_is;
-        to_teller_is = ap (λ (f : Flying). f.to_teller) put
-            ∙ flies flight1.cut flight1.to_teller said made.text w.to_teller (ap (λ (f : Flying). f.cut) left ∙ here.cut_is) (ap (λ (f : Flying). f.to_teller) left ∙ here.to_teller_is) came.1.1;
-        cut_is = ap (λ (f : Flying). f.cut) put ∙ ap (λ (f : Flying). f.cut) left ∙ here.cut_is;
-        taken_is = came.1.0 ∙ ap (λ (u : List Update). u ++ made.updates) here.taken_is;
-      }
+      let came = subst (λ (m : Machine). HandsOver m moment (line_of old.taker) (line_of taker) piece old.taken taken [] said) takes_as hands w.taker here.first.stands in
+      subst (λ (z : List ℕ). AreIn config peer sending (both taker old.teller flight taken) (taker_comes (hand machine moment w.taker z) (drop count w.to_taker) w))
+      (front ∙ ap (take count) here.to_taker_is)
+      (taker_came (hand machine moment w.taker piece) (drop count w.to_taker) taker flight taken (drop count old.flight.to_taker) said own came.0 came.1.0 came.1.1
+      (ap (drop count) here.to_taker_is) (put ∙ ap (λ (f : Flying). flying f.to_taker (sent f.cut f.to_teller said) f.cut) left))
 
   pub teller_delivered : (teller : Announcing) (flight1 flight : Flying) (none : List Update) (piece said : List ℕ) (count moment : ℕ) → piece ≡ take count old.flight.to_teller
       → flight1 ≡ flying old.flight.to_taker (drop count old.flight.to_teller) old.flight.cut → own_of_teller teller ≡ own_of_teller old.teller
@@ -92,65 +109,25 @@ module _ (config : Config) (peer : Peer) (sending : Sending) (w : World) (old : 
       → AreIn config peer sending (both old.taker teller flight old.taken) (delivers config peer sending 1 count moment w)
   teller_delivered teller flight1 flight none piece said count moment front left own hands put =
       let machine : Machine = teller_of config peer sending in
-      let whole : piece ≡ take count w.to_teller = front ∙ ap (take count) here.to_teller_is in
-      let made : Handed = hand machine moment w.teller (take count w.to_teller) in
-      let came = subst (λ (z : List ℕ). StandsAt machine teller.line (hand machine moment w.teller z).point
-      × ((none ≡ [] ++ (hand machine moment w.teller z).updates) × (said ≡ [] ++ (hand machine moment w.teller z).text))) whole
-      (subst (λ (m : Machine). HandsOver m moment old.teller.line teller.line piece [] none [] said) tells_as hands w.teller here.second.stands) in
-      record {
-        first = here.first;
-        second = teller_is teller made.point own came.0;
-        to_taker_is = ap (λ (f : Flying). f.to_taker) put
-            ∙ flies flight1.cut flight1.to_taker said made.text w.to_taker (ap (λ (f : Flying). f.cut) left ∙ here.cut_is) (ap (λ (f : Flying). f.to_taker) left ∙ here.to_taker_is) came.1.1;
-        to_teller_is = ap (λ (f : Flying). f.to_teller) put ∙ ap (λ (f : Flying). f.to_teller) left ∙ ap (drop count) here.to_teller_is;
-        cut_is = ap (λ (f : Flying). f.cut) put ∙ ap (λ (f : Flying). f.cut) left ∙ here.cut_is;
-        taken_is = here.taken_is;
-      }
+      let came = subst (λ (m : Machine). HandsOver m moment old.teller.line teller.line piece [] none [] said) tells_as hands w.teller here.second.stands in
+      subst (λ (z : List ℕ). AreIn config peer sending (both old.taker teller flight old.taken) (teller_comes (hand machine moment w.teller z) (drop count w.to_teller) w))
+      (front ∙ ap (take count) here.to_teller_is)
+      (teller_came (hand machine moment w.teller piece) (drop count w.to_teller) teller flight (drop count old.flight.to_teller) said own came.0 came.1.1
+      (ap (drop count) here.to_teller_is) (put ∙ ap (λ (f : Flying). flying (sent f.cut f.to_taker said) f.to_teller f.cut) left))
 
   pub taker_woke : (taker : Live) (flight : Flying) (said : List ℕ) (moment : ℕ) → own_of_taker taker ≡ own_of_taker old.taker
       → TicksOver (receiver old.taker.config old.taker.peer) moment (line_of old.taker) (line_of taker) [] said
       → flight ≡ flying old.flight.to_taker (sent old.flight.cut old.flight.to_teller said) old.flight.cut
       → AreIn config peer sending (both taker old.teller flight old.taken) (wakes config peer sending 0 moment w)
   taker_woke taker flight said moment own ticks put =
-      let machine : Machine = taker_of config peer sending in
-      let made : Handed = ticked moment w.taker in
       let came = subst (λ (m : Machine). TicksOver m moment (line_of old.taker) (line_of taker) [] said) takes_as ticks w.taker here.first.stands in
-      record {
-        first = taker_is taker made.point own came.0;
-        second = here.second;
-        to_taker_is = ap (λ (f : Flying). f.to_taker) put ∙ here.to_taker_is;
-        to_teller_is = ap (λ (f : Flying). f.to_teller) put ∙ flies old.flight.cut old.flight.to_teller said made.text w.to_teller here.cut_is here.to_teller_is came.1;
-        cut_is = ap (λ (f : Flying). f.cut) put ∙ here.cut_is;
-        taken_is = here.taken_is ∙ sym (append-nil w.taken) ∙ ap (λ (u : List Update). w.taken ++ u) (sym (nothing_taken moment w.taker));
-      }
+      taker_came (ticked moment w.taker) w.to_taker taker flight old.taken old.flight.to_taker said own came.0
+      (sym (append-nil old.taken) ∙ ap (λ (u : List Update). old.taken ++ u) (sym (nothing_taken moment w.taker))) came.1 here.to_taker_is put
 
   pub teller_woke : (teller : Announcing) (flight : Flying) (said : List ℕ) (moment : ℕ) → own_of_teller teller ≡ own_of_teller old.teller
       → TicksOver (machine_in old.teller) moment old.teller.line teller.line [] said
       → flight ≡ flying (sent old.flight.cut old.flight.to_taker said) old.flight.to_teller old.flight.cut
       → AreIn config peer sending (both old.taker teller flight old.taken) (wakes config peer sending 1 moment w)
   teller_woke teller flight said moment own ticks put =
-      let machine : Machine = teller_of config peer sending in
-      let made : Handed = ticked moment w.teller in
       let came = subst (λ (m : Machine). TicksOver m moment old.teller.line teller.line [] said) tells_as ticks w.teller here.second.stands in
-      record {
-        first = here.first;
-        second = teller_is teller made.point own came.0;
-        to_taker_is = ap (λ (f : Flying). f.to_taker) put ∙ flies old.flight.cut old.flight.to_taker said made.text w.to_taker here.cut_is here.to_taker_is came.1;
-        to_teller_is = ap (λ (f : Flying). f.to_teller) put ∙ here.to_teller_is;
-        cut_is = ap (λ (f : Flying). f.cut) put ∙ here.cut_is;
-        taken_is = here.taken_is;
-      }
-
-  -- what an opened end says next
-  next_is : w.teller.closed ≡ None → next_text old.teller ≡ next_said config peer sending w.teller w.appended
-  next_is opened =
-      let at = here.second.stands.open_is opened in
-      let line_open : old.teller.line.closed ≡ None = here.second.stands.closed_is ∙ opened in
-      let text : Config → Peer → Sending → Bool → ℕ → Option (List ℕ) = λ c p s four n. first_text (text_sent c p four s) (drop n s.rules) in
-      ap (λ (o : Option Closed). if is_established (elim o [ Some why ↦ IsClosed | None ↦ old.teller.line.phase.state ]) then text old.teller.config old.teller.peer old.teller.sending old.teller.line.phase.four old.teller.appended else None) line_open
-      ∙ ap (λ (p : Phase). if is_established p.state then text old.teller.config old.teller.peer old.teller.sending p.four old.teller.appended else None) at.phase_is
-      ∙ ap (λ (c : Config). if is_established w.teller.phase.state then text c old.teller.peer old.teller.sending w.teller.phase.four old.teller.appended else None) here.second.config_is
-      ∙ ap (λ (p : Peer). if is_established w.teller.phase.state then text config p old.teller.sending w.teller.phase.four old.teller.appended else None) here.second.peer_is
-      ∙ ap (λ (s : Sending). if is_established w.teller.phase.state then text config peer s w.teller.phase.four old.teller.appended else None) here.second.sending_is
-      ∙ ap (λ (n : ℕ). if is_established w.teller.phase.state then text config peer sending w.teller.phase.four n else None) here.second.appended_is
-      ∙ sym (ap (λ (o : Option Closed). elim o [ Some why ↦ None | None ↦ if is_established w.teller.phase.state then text config peer sending w.teller.phase.four w.appended else None ]) opened)
+      teller_came (ticked moment w.teller) w.to_teller teller flight old.flight.to_teller said own came.0 came.1 here.to_teller_is put

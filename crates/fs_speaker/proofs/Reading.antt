@@ -113,7 +113,7 @@ module _ (config : Config) (peer : Peer) (sending : Sending) where
       let fits = open_fits (length body) refl in
       let opening : transition_by machine at_start (record { kind = 1; body = body }) ≡ Ok (met, None) =
       ap (λ (r : Result Open MessageFault). opened machine r)
-      (open_read peer.asn config.hold_time sending.id can.peer_as can.hold_time can.id can.some_peer can.not_one can.not_two can.named)
+      (open_read peer.asn config.hold_time sending.id can.asn.small can.own.hold_time.small can.id.small can.asn.some can.own.hold_time.not_one can.own.hold_time.not_two can.id.some)
       ∙ ap (λ (n : ℕ). Ok (phase WaitKeep true n, None)) (least config.hold_time) in
       record { goes = λ more. one_message machine at_start met None 1 body more (omega arith) (omega arith) fits.0 fits.1 opening }
 

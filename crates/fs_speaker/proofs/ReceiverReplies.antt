@@ -1,10 +1,6 @@
 -- What a receiving end says that hears an announcing end, and what the announcing end comes to that hears all of it.
-use Rattle.fs_speaker.proofs.Words.{◌≡◌, ◌⊎◌, inl, inr, ◌&&◌, ◌||◌, not, ℕ, List, [], ◌++◌, length, Bool, true, false, if◌then◌else◌, min, Option, Some, None, Result, Ok, Err, refl, ap, sym, ◌∙◌, subst, arith, append_assoc, append-nil, parts_of, Config, Peer, first_message, wrong_at, message_text, open_body, MessageFault, Open, open_read, Update, Handed, Point, hand, rests, runs_by, shuts, needs_of, at_start, session_by, announcer, at_fault, notice_text, receiver, reply_to, at_moment, tick_at, Machine, faulted, opened, phase, taken, transition_by, Sending, Closed, Fault, Notified, NoFamily, Memory, State, WaitOpen, WaitKeep, Established, Tick, Quiet, Keeps, Expires, Times, Phase, hand_each, runs_begun, runs_each, ticked, ticks, CanArrive, one_message, open_fits}
-use Rattle.fs_session.specs.Times.{taken_in}
-use Rattle.fs_session.specs.declared.state.State.TheVariants.{Closed as IsClosed}
-use Rattle.fs_speaker.proofs.Opening.{awaits, Past, past}
-use Rattle.fs_speaker.proofs.Reading.{Calmly, Hears, calmly_none, hears_calmly, hears_more, hears_none, hears_notice, least, met, up}
-use Rattle.fs_speaker.proofs.Waking.{open_not, tick_each}
+use Rattle.fs_speaker.proofs.{Words.{◌≡◌, ◌⊎◌, inl, inr, ◌&&◌, ◌||◌, not, ℕ, List, [], ◌++◌, length, Bool, true, false, if◌then◌else◌, min, Option, Some, None, Result, Ok, Err, refl, ap, sym, ◌∙◌, subst, arith, append_assoc, append-nil, parts_of, Config, Peer, first_message, wrong_at, message_text, open_body, MessageFault, Open, open_read, Update, Handed, Point, hand, rests, runs_by, shuts, needs_of, at_start, session_by, announcer, at_fault, notice_text, receiver, reply_to, at_moment, tick_at, Machine, faulted, opened, phase, taken, transition_by, Sending, Closed, Fault, Notified, NoFamily, Memory, State, WaitOpen, WaitKeep, Established, Tick, Quiet, Keeps, Expires, Times, Phase, hand_each, runs_begun, runs_each, ticked, ticks, CanArrive, one_message, open_fits}, Opening.{awaits, Past, past}, Reading.{Calmly, Hears, calmly_none, hears_calmly, hears_more, hears_none, hears_notice, least, met, up}, Waking.{open_not, tick_each}}
+use Rattle.fs_session.specs.{Times.{taken_in}, declared.state.State.TheVariants.{Closed as IsClosed}}
 
 abbrev Made : Type 0
 Made = Result (Phase × Option Update) Closed
@@ -102,7 +98,7 @@ module _ (config : Config) (peer : Peer) (sending : Sending) (can : CanArrive co
       ≡ Ok (met config peer sending, None)
   opening =
       ap (λ (r : Result Open MessageFault). opened teller r)
-      (open_read config.local_as config.hold_time config.local_id can.local_as can.hold_time can.local_id can.some_as can.not_one can.not_two can.some_id)
+      (open_read config.local_as config.hold_time config.local_id can.own.asn.small can.own.hold_time.small can.own.id.small can.own.asn.some can.own.hold_time.not_one can.own.hold_time.not_two can.own.id.some)
       ∙ ap with_lack (no_lack (needs_of sending.rules).v4 (needs_of sending.rules).v6)
       ∙ ap (λ (n : ℕ). Ok (phase WaitKeep true n, None)) (least config.hold_time)
 

@@ -1,6 +1,5 @@
 -- A list of events, and one event more.
-use Rattle.fs_speaker.proofs.Words.{◌≡◌, ℕ, Bool, true, false, List, [], ◌∷◌, ◌++◌, Option, Some, None, Ok, option_map, unwrap_or, refl, ap, sym, ◌∙◌, subst, IfSome, Config, Peer, Sending, Closed, Announcing, announcing, open_sent, StartsOpen, fresh, step_by, waits, sender_of, Live, live, begins, at_start, Machine, Event, Both, both, AreIn, Becomes, SameOnes, flying, Jointed, jointed, one_more, run_of, IsRun, World, taker_of, teller_of, happens, runs_on, run}
-use Rattle.fs_speaker.proofs.Lowest.{sender_told}
+use Rattle.fs_speaker.proofs.{Words.{◌≡◌, ℕ, Bool, true, false, List, [], ◌∷◌, ◌++◌, Option, Some, None, Ok, option_map, unwrap_or, refl, ap, sym, ◌∙◌, subst, IfSome, Config, Peer, Sending, Closed, Announcing, announcing, open_sent, StartsOpen, fresh, step_by, waits, sender_of, Live, live, begins, at_start, Machine, Event, Both, both, AreIn, Becomes, SameOnes, flying, Jointed, jointed, one_more, run_of, IsRun, World, taker_of, teller_of, happens, runs_on, run}, Lowest.{sender_told}}
 
 pub run_more : (config : Config) (peer : Peer) (sending : Sending) (w : World) (events : List Event) (event : Event)
     → runs_on config peer sending w (events ++ event ∷ []) ≡ happens config peer sending event (runs_on config peer sending w events)

@@ -1,7 +1,5 @@
 -- What a session comes to that is handed on, in pieces, and that a front of the octets closed.
-use Rattle.fs_speaker.proofs.Words.{◌≡◌, ℕ, List, [], ◌++◌, Option, Some, None, refl, ap, sym, ◌∙◌, subst, append_assoc, Update, Handed, Point, hand, runs_by, Last, at_start, closed, still, session_by, with_update, at_moment, tick_at, Machine, Closed, Tick, Quiet, Keeps, Expires, Times, Phase, hand_each, open_hand, both_by, last_of, session_seen, ticked, ticks}
-use Rattle.fs_speaker.specs.JointLaws.{taken_in as octets_in}
-use Rattle.fs_speaker.proofs.Waking.{open_not, hand_stays, tick_each}
+use Rattle.fs_speaker.{proofs.{Words.{◌≡◌, ℕ, List, [], ◌++◌, Option, Some, None, refl, ap, sym, ◌∙◌, subst, append_assoc, Update, Handed, Point, hand, runs_by, Last, at_start, closed, still, session_by, with_update, at_moment, tick_at, Machine, Closed, Tick, Quiet, Keeps, Expires, Times, Phase, hand_each, open_hand, both_by, last_of, session_seen, ticked, ticks}, Waking.{open_not, hand_stays, tick_each}}, specs.JointLaws.{taken_in as octets_in}}
 
 -- an update more changes nothing of what the session comes to
 pub last_update : (update : Option Update) (played : List Update × Last) → (with_update update played).1 ≡ played.1

@@ -1,8 +1,5 @@
 -- What the receiving end takes of all that is delivered to it.
-use Rattle.fs_speaker.proofs.Words.{◌≡◌, ℕ, List, [], ◌++◌, take, Option, Some, None, refl, ap, sym, ◌∙◌, append_assoc, append-nil, Config, Peer, Update, Closed, Tick, Quiet, Keeps, Expires, Sending, Point, Handed, handed, hand, Last, at_start, session_by, at_moment, tick_at, Machine, both_hands, machine_waits, runs_updates, Event, ticks, ticked, taken_in, handed_over, delivered, World, taker_of, happens, at_first, run}
-use Rattle.fs_speaker.proofs.Handover.{open_hand, closed_hand}
-use Rattle.fs_speaker.proofs.Events.{each_event, each_run}
-use Rattle.fs_speaker.proofs.Waking.{tick_each}
+use Rattle.fs_speaker.proofs.{Words.{◌≡◌, ℕ, List, [], ◌++◌, take, Option, Some, None, refl, ap, sym, ◌∙◌, append_assoc, append-nil, Config, Peer, Update, Closed, Tick, Quiet, Keeps, Expires, Sending, Point, Handed, handed, hand, Last, at_start, session_by, at_moment, tick_at, Machine, both_hands, machine_waits, runs_updates, Event, ticks, ticked, taken_in, handed_over, delivered, World, taker_of, happens, at_first, run}, Handover.{open_hand, closed_hand}, Events.{each_event, each_run}, Waking.{tick_each}}
 
 abbrev updates_in : Machine → Point → List ℕ → List Update
 updates_in machine now more = (session_by machine now.phase (now.waiting ++ more)).0

@@ -1,13 +1,5 @@
 -- An announcing end whose identifier is 0.0.0.0: its OPEN is refused, and nothing of what it says is taken.
-use Rattle.fs_speaker.proofs.Words.{◌≡◌, ◌⊎◌, inl, inr, ℕ, ◌==◌, ◌^◌, ◌<◌, true, List, [], ◌∷◌, ◌++◌, length, take, Option, Some, None, Result, Err, refl, ap, sym, ◌∙◌, subst, append_assoc, append-nil, arith, Config, Peer, Update, message_text, open_body, MessageFault, Open, open_unnamed, text_first, open_sent, Point, hand, step_by, Last, at_start, closed, session_by, Machine, opened, Sending, Closed, Fault, front_first, machine_stops, step_found, Event, Send, Deliver, Cut, ticked, ClosesSo, IsUnnamed, delivered, delivered_on, handed_over, taken_in, World, sent, taker_of, teller_of, happens, at_first, runs_on, run, open_fits}
-use Rattle.fs_speaker.specs.declared.event.Event.TheVariants.{Tick as TickEvent}
-use Rattle.fs_speaker.proofs.Closing.{so_later, so_tick, takes_on}
-use Rattle.fs_speaker.proofs.Events.{each_event}
-use Rattle.fs_speaker.proofs.Fronting.{Lines, lines_cut, lines_delivered, lines_same, lines_spoken}
-use Rattle.fs_speaker.proofs.SessionInPieces.{Follows, closes_by, follows_first}
-use Rattle.fs_speaker.proofs.Running.{run_more}
-use Rattle.fs_speaker.proofs.Taking.{takes_delivered}
-use Rattle.fs_speaker.proofs.Waking.{hand_opens, hand_stays, tick_opens, tick_stays}
+use Rattle.fs_speaker.{proofs.{Words.{◌≡◌, ◌⊎◌, inl, inr, ℕ, ◌==◌, ◌^◌, ◌<◌, true, List, [], ◌∷◌, ◌++◌, length, take, Option, Some, Result, Err, refl, ap, sym, ◌∙◌, subst, append_assoc, append-nil, arith, Config, Peer, Update, message_text, open_body, MessageFault, Open, open_unnamed, text_first, open_sent, Point, hand, step_by, Last, at_start, closed, session_by, Machine, opened, Sending, Closed, Fault, front_first, machine_stops, step_found, Event, Send, Deliver, Cut, ticked, ClosesSo, IsUnnamed, delivered, delivered_on, handed_over, taken_in, World, sent, taker_of, teller_of, happens, at_first, runs_on, run, open_fits}, Closing.{so_later, so_tick, takes_on}, Events.{each_event}, Fronting.{Lines, lines_cut, lines_delivered, lines_same, lines_spoken}, SessionInPieces.{Follows, closes_by, follows_first}, Running.{run_more}, Taking.{takes_delivered}, Waking.{hand_opens, tick_opens, tick_stays}}, specs.declared.event.Event.TheVariants.{Tick as TickEvent}}
 
 zero_small : (n : ℕ) → n ≡ 0 → n < 2 ^ 32
 zero_small n e = rw e (omega arith)
@@ -68,7 +60,7 @@ module _ (config : Config) (peer : Peer) (sending : Sending) where
         ∙ step_found taker at_start (text ++ []) (record { kind = 1; body = body }, []) (Err (Fault 2 3))
         (text_first 1 body [] (omega arith) (omega arith) fits.0 fits.1)
         (ap (λ (r : Result Open MessageFault). opened taker r)
-        (open_unnamed peer.asn config.hold_time sending.id un.peer_as un.hold_time (zero_small sending.id un.unnamed) un.some_peer un.not_one un.not_two un.unnamed)))
+        (open_unnamed peer.asn config.hold_time sending.id un.asn.small un.hold_time.small (zero_small sending.id un.unnamed) un.asn.some un.hold_time.not_one un.hold_time.not_two un.unnamed)))
 
     none_taken : (octets : List ℕ) (w : World) → Begun octets w → (session_by taker at_start octets).0 ≡ []
     none_taken octets w b =

@@ -1,15 +1,9 @@
 -- The parts of two joined ends, and the world that they are.
 use Rattle.std.specs.Prelude.{◌≡◌, ℕ, true, List}
-use Rattle.fs_base.specs.declared.config.Config.{Config}
-use Rattle.fs_base.specs.declared.config.Peer.{Peer}
+use Rattle.fs_base.specs.declared.config.{Config.{Config}, Peer.{Peer}}
 use Rattle.fs_attrs.specs.declared.update.Update.{Update}
-use Rattle.fs_session.specs.declared.sending.Sending.{Sending}
-use Rattle.fs_session.specs.Announcer.{Announcing}
-use Rattle.fs_session.specs.Handed.{Point}
-use Rattle.fs_session.specs.Session.{Live, line_of}
-use Rattle.fs_speaker.specs.End.{StandsAt}
-use Rattle.fs_speaker.specs.Flight.{Flying}
-use Rattle.fs_speaker.specs.World.{World, taker_of, teller_of, says, next_said}
+use Rattle.fs_session.specs.{declared.sending.Sending.{Sending}, Announcer.{Announcing}, Handed.{Point}, Session.{Live, line_of}}
+use Rattle.fs_speaker.specs.{End.{StandsAt}, Flight.{Flying}, World.{World, taker_of, teller_of, says, next_said}}
 
 -- what both ends keep
 pub record Both : Type 0 where

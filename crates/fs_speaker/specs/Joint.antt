@@ -1,13 +1,8 @@
 -- Two joined ends and the events that happened between them.
 use Rattle.std.specs.Prelude.{◌≡◌, ℕ, ◌≤◌, ◌==◌, Bool, true, false, if◌then◌else◌, List, [], ◌∷◌, ◌++◌, Option, ⊤}
-use Rattle.fs_base.specs.declared.config.Config.{Config}
-use Rattle.fs_base.specs.declared.config.Peer.{Peer}
-use Rattle.fs_session.specs.declared.state.Closed.{Closed}
-use Rattle.fs_session.specs.declared.sending.Sending.{Sending}
-use Rattle.fs_speaker.specs.declared.event.Event.{Event}
-use Rattle.fs_speaker.specs.declared.event.Event.TheVariants.{Send, Deliver, Tick, Cut}
-use Rattle.fs_speaker.specs.Ends.{Both, AreIn}
-use Rattle.fs_speaker.specs.World.{World, run}
+use Rattle.fs_base.specs.declared.config.{Config.{Config}, Peer.{Peer}}
+use Rattle.fs_session.specs.declared.{state.Closed.{Closed}, sending.Sending.{Sending}}
+use Rattle.fs_speaker.specs.{declared.event.Event.{Event, TheVariants.{Send, Deliver, Tick, Cut}}, Ends.{Both, AreIn}, World.{World, run}}
 
 -- Whose session it is and what is to be sent, what happened by the steps that were not refused, and whether one was.
 pub record Jointed : Type 0 where

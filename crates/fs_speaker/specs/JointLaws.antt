@@ -1,35 +1,15 @@
 -- What two joined ends come to, whatever happens between them.
-use Rattle.std.specs.Prelude.{◌≡◌, ◌≢◌, ◌⊎◌, ℕ, ◌==◌, ◌^◌, ◌<◌, if◌then◌else◌, Bool, true, false, List, [], ◌∷◌, ◌++◌, take, map, Option, Some, None}
-use Rattle.std.specs.List.{AllByRecursion}
-use Rattle.fs_base.specs.declared.config.Config.{Config}
-use Rattle.fs_base.specs.declared.config.Peer.{Peer}
-use Rattle.fs_session.specs.declared.state.Closed.{Closed}
-use Rattle.fs_session.specs.declared.state.Closed.TheVariants.{Fault, Notified}
-use Rattle.fs_session.specs.declared.times.Tick.TheVariants.{Expires}
-use Rattle.fs_session.specs.declared.sending.Sending.{Sending}
-use Rattle.fs_session.specs.Handed.{Point}
-use Rattle.fs_session.specs.Laws.{ComesBack}
-use Rattle.fs_session.specs.Sending.{update_sent}
-use Rattle.fs_session.specs.Session.{at_start, session_from}
-use Rattle.fs_session.specs.Times.{at_moment, tick_at}
-use Rattle.fs_speaker.specs.declared.event.Event.{Event}
-use Rattle.fs_speaker.specs.declared.event.Event.TheVariants.{Deliver, Tick}
-use Rattle.fs_speaker.specs.World.{World, at_first, happens, run}
+use Rattle.std.specs.{Prelude.{◌≡◌, ◌⊎◌, ℕ, ◌==◌, if◌then◌else◌, Bool, true, false, List, [], ◌∷◌, ◌++◌, take, map, Option, Some, None}, List.{AllByRecursion}}
+use Rattle.fs_base.specs.declared.config.{Config.{Config}, Peer.{Peer}}
+use Rattle.fs_session.specs.{declared.{state.Closed.{Closed, TheVariants.{Fault, Notified}}, times.Tick.TheVariants.{Expires}, sending.Sending.{Sending}}, Handed.{Point}, Laws.{ComesBack}, Sending.{update_sent}, Session.{at_start, session_from}, Times.{at_moment, tick_at}}
+use Rattle.fs_speaker.specs.{declared.event.Event.{Event, TheVariants.{Deliver, Tick}}, Numbers.{HasOwnNumbers, IsFourOctet, IsHoldTime}, World.{World, at_first, happens, run}}
 
 -- The numbers of both OPENs are as a configuration's and the rules' are, and each rule's UPDATE is read as the rule's
 -- update.
 pub record CanArrive (config : Config) (peer : Peer) (sending : Sending) : Type 0 where
-  pub local_as : config.local_as < 2 ^ 32
-  pub some_as : 0 < config.local_as
-  pub local_id : config.local_id < 2 ^ 32
-  pub some_id : 0 < config.local_id
-  pub hold_time : config.hold_time < 2 ^ 16
-  pub not_one : config.hold_time ≢ 1
-  pub not_two : config.hold_time ≢ 2
-  pub peer_as : peer.asn < 2 ^ 32
-  pub some_peer : 0 < peer.asn
-  pub id : sending.id < 2 ^ 32
-  pub named : 0 < sending.id
+  pub own : HasOwnNumbers config
+  pub asn : IsFourOctet peer.asn
+  pub id : IsFourOctet sending.id
   pub read : AllByRecursion (ComesBack config peer sending) sending.rules
 
 -- the octets that an event hands to the receiving end while it is open
@@ -106,11 +86,8 @@ ClosesWhereDue =
 
 -- The numbers of the announcing end's OPEN are as a configuration's, but its identifier is 0.0.0.0.
 pub record IsUnnamed (config : Config) (peer : Peer) (sending : Sending) : Type 0 where
-  pub peer_as : peer.asn < 2 ^ 32
-  pub some_peer : 0 < peer.asn
-  pub hold_time : config.hold_time < 2 ^ 16
-  pub not_one : config.hold_time ≢ 1
-  pub not_two : config.hold_time ≢ 2
+  pub asn : IsFourOctet peer.asn
+  pub hold_time : IsHoldTime config.hold_time
   pub unnamed : sending.id ≡ 0
 
 -- Then nothing is taken, and the receiving end closes only as above or by refusing the identifier (RFC 4271,

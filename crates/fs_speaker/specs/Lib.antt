@@ -15,3 +15,4 @@ pub mod World
 pub mod Ends
 pub mod Joint
 pub mod JointLaws
+pub mod Numbers

@@ -1,14 +1,12 @@
 //! Either end of a session, as what is handed to it leaves it.
 
 ghost use Rattle.std.specs.Prelude.{◌≡◌, ◌≢◌, ◌<◌, ◌≤◌, ◌++◌, [], length, IfOk, OnOk};
-ghost use Rattle.fs_session.specs.Handed.{updates_with};
-ghost use Rattle.fs_session.specs.Line.{closed_after, StaysOver, FeedsOpen, TicksOpen, Lined};
-ghost use Rattle.fs_session.specs.Transition.{Machine};
+ghost use Rattle.fs_session.specs.{Handed.{updates_with}, Line.{closed_after, StaysOver, FeedsOpen, TicksOpen, Lined}, Transition.{Machine}};
 ghost use Rattle.fs_speaker.specs.End.{Own, HandsOver, TicksOver};
 
 use fs_attrs::Update;
 use fs_base::Memory;
-use fs_session::{Announcer, Closed, Session};
+use fs_session::{Announcer, Closed, Fed, Session};
 
 /// An end that takes octets message by message.
 pub trait End {
@@ -26,12 +24,7 @@ pub trait End {
     /// # Errors
     ///
     /// How it has closed.
-    fn take(
-        &mut self,
-        moment: u64,
-        piece: &[u8],
-        out: &mut Vec<u8>,
-    ) -> Result<(usize, Option<Update>), Closed>
+    fn take(&mut self, moment: u64, piece: &[u8], out: &mut Vec<u8>) -> Fed
         ensures same { machine self.new ≡ machine self.old }
         ensures own { own self.new ≡ own self.old }
         ensures again { StaysOver (line self.old) (line self.new) result out.old.items out.new.items }
@@ -54,8 +47,7 @@ pub trait End {
 }
 
 impl<'a> End for Session<'a> {
-    ghost use Rattle.fs_session.specs.Side.{receiver};
-    ghost use Rattle.fs_session.specs.Session.{line_of};
+    ghost use Rattle.fs_session.specs.{Side.{receiver}, Session.{line_of}};
     ghost use Rattle.fs_speaker.specs.End.{own_of_taker};
 
     ghost machine = { λ session. receiver session.config session.peer };
@@ -64,12 +56,7 @@ impl<'a> End for Session<'a> {
 
     ghost line = { line_of };
 
-    fn take(
-        &mut self,
-        moment: u64,
-        piece: &[u8],
-        out: &mut Vec<u8>,
-    ) -> Result<(usize, Option<Update>), Closed> {
+    fn take(&mut self, moment: u64, piece: &[u8], out: &mut Vec<u8>) -> Fed {
         self.feed_at(moment, piece, out)
     }
 
@@ -88,12 +75,7 @@ impl<'a> End for Announcer<'a> {
 
     ghost line = { λ end. end.line };
 
-    fn take(
-        &mut self,
-        moment: u64,
-        piece: &[u8],
-        out: &mut Vec<u8>,
-    ) -> Result<(usize, Option<Update>), Closed> {
+    fn take(&mut self, moment: u64, piece: &[u8], out: &mut Vec<u8>) -> Fed {
         without_update(self.feed_at(moment, piece, out))
     }
 
@@ -105,7 +87,7 @@ impl<'a> End for Announcer<'a> {
 ghost use Rattle.fs_session.specs.Announcer.{without_update};
 
 /// The announcing end takes no update.
-fn without_update(fed: Result<usize, Closed>) -> Result<(usize, Option<Update>), Closed>
+fn without_update(fed: Result<usize, Closed>) -> Fed
     ensures { result ≡ without_update fed }
 {
     match fed {

@@ -27,9 +27,7 @@ impl<'a> Model for Ends<'a> {
 
 impl<'a> Ends<'a> {
     ghost use Rattle.std.specs.Prelude.{◌≡◌, ◌≤◌, [], OnOk, OnErr, option_map, slice_get};
-    ghost use Rattle.fs_speaker.specs.Ends.{both, Becomes, SameOnes, says_next};
-    ghost use Rattle.fs_speaker.specs.Joint.{IsEnd};
-    ghost use Rattle.fs_speaker.specs.World.{delivers, wakes, cuts, happens};
+    ghost use Rattle.fs_speaker.specs.{Ends.{both, Becomes, SameOnes, says_next}, Joint.{IsEnd}, World.{delivers, wakes, cuts, happens}};
 
     /// Before the first event.
     pub fn new(
@@ -61,56 +59,6 @@ impl<'a> Ends<'a> {
         }
     }
 
-    fn deliver_taker(&mut self, count: usize, moment: u64) -> Result<(), Memory>
-        ensures ok { OnOk result (Becomes (λ config peer sending. delivers config peer sending 0 count moment)
-            self.old self.new) }
-        ensures same { SameOnes self.old self.new }
-        ensures err { OnErr result (self.new.taken ≡ self.old.taken) }
-    {
-        let piece = self.flight.take_taker(count)?;
-        let mut updates = Vec::new(self.flight.alloc());
-        let mut said = Vec::new(self.flight.alloc());
-        hand(&mut self.taker, moment, &piece, &mut updates, &mut said)?;
-        self.flight.tell_teller(&said)?;
-        self.taken.append(&mut updates)?;
-        Ok(())
-    }
-
-    fn deliver_teller(&mut self, count: usize, moment: u64) -> Result<(), Memory>
-        ensures ok { OnOk result (Becomes (λ config peer sending. delivers config peer sending 1 count moment)
-            self.old self.new) }
-        ensures same { SameOnes self.old self.new }
-        ensures err { OnErr result (self.new.taken ≡ self.old.taken) }
-    {
-        let piece = self.flight.take_teller(count)?;
-        let mut none = Vec::new(self.flight.alloc());
-        let mut said = Vec::new(self.flight.alloc());
-        hand(&mut self.teller, moment, &piece, &mut none, &mut said)?;
-        self.flight.tell_taker(&said)
-    }
-
-    fn wake_taker(&mut self, moment: u64) -> Result<(), Memory>
-        ensures ok { OnOk result (Becomes (λ config peer sending. wakes config peer sending 0 moment)
-            self.old self.new) }
-        ensures same { SameOnes self.old self.new }
-        ensures err { OnErr result (self.new.taken ≡ self.old.taken) }
-    {
-        let mut said = Vec::new(self.flight.alloc());
-        tick(&mut self.taker, moment, &mut said)?;
-        self.flight.tell_teller(&said)
-    }
-
-    fn wake_teller(&mut self, moment: u64) -> Result<(), Memory>
-        ensures ok { OnOk result (Becomes (λ config peer sending. wakes config peer sending 1 moment)
-            self.old self.new) }
-        ensures same { SameOnes self.old self.new }
-        ensures err { OnErr result (self.new.taken ≡ self.old.taken) }
-    {
-        let mut said = Vec::new(self.flight.alloc());
-        tick(&mut self.teller, moment, &mut said)?;
-        self.flight.tell_taker(&said)
-    }
-
     fn cut(&mut self)
         ensures done { Becomes (λ config peer sending. cuts) self.old self.new }
         ensures same { SameOnes self.old self.new }
@@ -118,6 +66,7 @@ impl<'a> Ends<'a> {
         self.flight.cut();
     }
 
+    /// The first octets in flight to an end arrive there.
     fn deliver(&mut self, to: u8, count: usize, moment: u64) -> Result<(), Memory>
         requires { to ≤ 1 }
         ensures ok { OnOk result (Becomes (λ config peer sending. delivers config peer sending to count moment)
@@ -125,12 +74,21 @@ impl<'a> Ends<'a> {
         ensures same { SameOnes self.old self.new }
         ensures err { OnErr result (self.new.taken ≡ self.old.taken) }
     {
+        let mut updates = Vec::new(self.flight.alloc());
+        let mut said = Vec::new(self.flight.alloc());
         if to == 0 {
-            return self.deliver_taker(count, moment);
+            let piece = self.flight.take_taker(count)?;
+            hand(&mut self.taker, moment, &piece, &mut updates, &mut said)?;
+            self.flight.tell_teller(&said)?;
+            self.taken.append(&mut updates)?;
+            return Ok(());
         }
-        self.deliver_teller(count, moment)
+        let piece = self.flight.take_teller(count)?;
+        hand(&mut self.teller, moment, &piece, &mut updates, &mut said)?;
+        self.flight.tell_taker(&said)
     }
 
+    /// The clock at an end.
     fn wake(&mut self, end: u8, moment: u64) -> Result<(), Memory>
         requires { end ≤ 1 }
         ensures ok { OnOk result (Becomes (λ config peer sending. wakes config peer sending end moment)
@@ -138,10 +96,13 @@ impl<'a> Ends<'a> {
         ensures same { SameOnes self.old self.new }
         ensures err { OnErr result (self.new.taken ≡ self.old.taken) }
     {
+        let mut said = Vec::new(self.flight.alloc());
         if end == 0 {
-            return self.wake_taker(moment);
+            tick(&mut self.taker, moment, &mut said)?;
+            return self.flight.tell_teller(&said);
         }
-        self.wake_teller(moment)
+        tick(&mut self.teller, moment, &mut said)?;
+        self.flight.tell_taker(&said)
     }
 
     /// Lets an event happen.

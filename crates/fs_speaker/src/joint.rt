@@ -32,8 +32,7 @@ impl<'a> Model for Joint<'a> {
 
 impl<'a> Joint<'a> {
     ghost use Rattle.std.specs.Prelude.{◌≡◌, ◌≤◌, [], true, false, OnOk, IfOk, IfSome, OnErr, IsTrue, option_copied, option_map, slice_get};
-    ghost use Rattle.fs_session.specs.Announcer.{CanSend};
-    ghost use Rattle.fs_session.specs.Sending.{sender_of};
+    ghost use Rattle.fs_session.specs.{Announcer.{CanSend}, Sending.{sender_of}};
     ghost use Rattle.fs_speaker.specs.Joint.{jointed, one_more, refused, world_of, closed_at, IsEnd};
 
     /// Both ends before the first event: the announcing end's OPEN is in flight.

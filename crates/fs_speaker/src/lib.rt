@@ -11,7 +11,7 @@ mod laws;
 pub use end::{End, hand, tick};
 pub use event::Event;
 pub use fs_session::{
-    Announcer, Closed, Sending, Sent, SentList, Session, Standing, State, pieces_join,
+    Announcer, Closed, Fed, Sending, Sent, SentList, Session, Standing, State, pieces_join,
     rules_arrive, rules_come_back, sender, steps_make_the_session, steps_make_what_is_handed,
 };
 pub use joint::Joint;

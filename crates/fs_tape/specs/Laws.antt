@@ -1,17 +1,9 @@
 -- A tape is done exactly where it is the text of its items in one of the versions, and moments don't fall.
-use Rattle.std.specs.Prelude.{ℕ, List, [], ◌∷◌, ◌++◌, IsSome, ◌≡◌, ◌↔◌, ◌<◌, ◌≤◌, ◌^◌, length, flat_map}
-use Rattle.std.specs.List.{AllByRecursion}
+use Rattle.std.specs.{Prelude.{ℕ, List, [], ◌∷◌, ◌++◌, IsSome, ◌≡◌, ◌↔◌, ◌<◌, ◌≤◌, ◌^◌, length, flat_map}, List.{AllByRecursion}}
 use Rattle.byteorder.specs.Endian.{big_bytes}
-use Rattle.fs_base.specs.Language.{IsOctets}
-use Rattle.fs_base.specs.Config.{peer_of}
-use Rattle.fs_base.specs.declared.config.Config.{Config}
-use Rattle.fs_input.specs.Parts.{AllFrom}
-use Rattle.fs_input.specs.Records.{done}
-use Rattle.fs_tape.specs.Header.{IsTimed, Stands, longest_payload}
-use Rattle.fs_tape.specs.Magic.{magic_of}
-use Rattle.fs_tape.specs.Tape.{Item, Timed, came_up, items_to_come, received, stands, tape_of, was_lost}
-use Rattle.fs_tape.specs.declared.magic.Version.{Version}
-use Rattle.fs_tape.specs.declared.magic.Version.TheVariants.{One, Two}
+use Rattle.fs_base.specs.{Language.{IsOctets}, Config.{peer_of}, declared.config.Config.{Config}}
+use Rattle.fs_input.specs.{Parts.{AllFrom}, Records.{done}}
+use Rattle.fs_tape.specs.{Header.{IsTimed, Stands, longest_payload}, Magic.{magic_of}, Tape.{Item, Timed, came_up, items_to_come, received, stands, tape_of, was_lost}, declared.magic.Version.{Version, TheVariants.{One, Two}}}
 
 abbrev pub moment_text : Version → ℕ → List ℕ
 moment_text One moment = []

@@ -1,11 +1,7 @@
 -- The octets that a tape begins with, which tell its version, and where other octets first differ from them.
 use Rattle.std.specs.Prelude.{ℕ, List, [], ◌∷◌, Option, Some, None, ◌+◌, ◌==◌, length, max, nat_lt, if◌then◌else◌}
-use Rattle.fs_input.specs.declared.head.Head.{Head}
-use Rattle.fs_input.specs.declared.head.Head.TheVariants.{Whole, Wrong, Partial}
-use Rattle.fs_tape.specs.declared.fault.TapeReason.{TapeReason}
-use Rattle.fs_tape.specs.declared.fault.TapeReason.TheVariants.{Magic}
-use Rattle.fs_tape.specs.declared.magic.Version.{Version}
-use Rattle.fs_tape.specs.declared.magic.Version.TheVariants.{One, Two}
+use Rattle.fs_input.specs.declared.head.Head.{Head, TheVariants.{Whole, Wrong, Partial}}
+use Rattle.fs_tape.specs.declared.{fault.TapeReason.{TapeReason, TheVariants.{Magic}}, magic.Version.{Version, TheVariants.{One, Two}}}
 
 abbrev pub version_number : Version → ℕ
 version_number One = 1

@@ -41,11 +41,8 @@ impl<'a> Model for Context<'a> {
 }
 
 impl<'a> Heads for Context<'a> {
-    ghost use Rattle.std.specs.Prelude.{◌<◌};
-    ghost use Rattle.std.proofs.Common.{rules};
-    ghost use Rattle.fs_tape.specs.declared.magic.Version.TheVariants.{One, Two};
-    ghost use Rattle.fs_tape.specs.Header.{head_size, longest_payload, IsSaid};
-    ghost use Rattle.fs_tape.specs.Tape.{Timed, records};
+    ghost use Rattle.std.{specs.Prelude.{◌<◌}, proofs.Common.{rules}};
+    ghost use Rattle.fs_tape.specs.{declared.magic.Version.TheVariants.{One, Two}, Header.{head_size, longest_payload, IsSaid}, Tape.{Timed, records}};
 
     type Said = Said;
 

@@ -1,17 +1,8 @@
 //! A tape, read record by record.
-ghost use Rattle.std.specs.Prelude.{◌≡◌, ◌≤◌, ◌++◌, [], None, IsSome, IsTrue, IfOk, IfSome, drop, length, take};
-ghost use Rattle.std.specs.Result.{IsErrOf};
-ghost use Rattle.fs_base.specs.Config.{peer_of};
-ghost use Rattle.fs_base.specs.Files.{OnlySlot};
-ghost use Rattle.fs_base.specs.Outside.{Rose};
-ghost use Rattle.fs_base.specs.Parts.{with_part};
-ghost use Rattle.fs_base.specs.declared.config.Config.{Config};
-ghost use Rattle.fs_input.specs.Opening.{Opens};
-ghost use Rattle.fs_input.specs.NextRecord.{GivesNext};
-ghost use Rattle.fs_input.specs.Reading.{Grows};
-ghost use Rattle.fs_tape.specs.Header.{longest_payload};
-ghost use Rattle.fs_tape.specs.Magic.{version_number};
-ghost use Rattle.fs_tape.specs.Tape.{IsBegun, IsItem, Tells, Times, item_from, timed, version_of};
+ghost use Rattle.std.specs.{Prelude.{◌≡◌, ◌≤◌, ◌++◌, [], None, IsSome, IsTrue, IfOk, IfSome, drop, length, take}, Result.{IsErrOf}};
+ghost use Rattle.fs_base.specs.{Config.{peer_of}, Files.{OnlySlot}, Outside.{Rose}, Parts.{with_part}, declared.config.Config.{Config}};
+ghost use Rattle.fs_input.specs.{Opening.{Opens}, NextRecord.{GivesNext}, Reading.{Grows}};
+ghost use Rattle.fs_tape.specs.{Header.{longest_payload}, Magic.{version_number}, Tape.{IsBegun, IsItem, Tells, Times, item_from, timed, version_of}};
 
 use crate::fault::{TapeFault, TapeReason};
 use crate::header::{Context, Said};

@@ -1,10 +1,7 @@
 -- The words of a text up to its actions and among them, and what goes on from there.
 use Rattle.std.proofs.Common.{append-nil}
-use Rattle.fs_text.proofs.Words.{append_assoc, ◌≡◌, ℕ, ◌+◌, ◌==◌, false, List, [], ◌∷◌, ◌++◌, drop, length, length-append, Some, None, refl, sym, ap, subst, ◌∙◌, arith, codes, bytes_eq, last_or, IsStrictlySortedBy, slice_cmp, nat_cmp, Family, IsOctets, each_append, each_at, Part, AreNormal, IsAction, IsAbove, action_name, action_text, component_name, action_words, component_words, then_words, AreActions, AreWords, Begin, IsBadWord, IsWhole, Acts, Continues, Led, Rests, RestsOf, ahead, front, FitsAbove, IsBadName, IsBadValue, IsNext}
+use Rattle.fs_text.proofs.{Words.{append_assoc, ◌≡◌, ℕ, ◌+◌, ◌==◌, false, List, [], ◌∷◌, ◌++◌, drop, length, length-append, Some, None, refl, sym, ap, subst, ◌∙◌, arith, codes, bytes_eq, last_or, IsStrictlySortedBy, slice_cmp, nat_cmp, Family, IsOctets, each_append, each_at, Part, AreNormal, IsAction, IsAbove, action_name, action_text, component_name, action_words, component_words, then_words, AreActions, AreWords, Begin, IsBadWord, IsWhole, Acts, Continues, Led, Rests, RestsOf, ahead, front, FitsAbove, IsBadName, IsBadValue, IsNext}, Greatest.{octets_eight}, Pairs.{chosen}, Led.{bad_at, bad_end, bad_value, head_is, no_actions, no_words, tail_is}}
 use Rattle.fs_actions.proofs.Behind.{actions_more}
-use Rattle.fs_text.proofs.Greatest.{octets_eight}
-use Rattle.fs_text.proofs.Pairs.{chosen}
-use Rattle.fs_text.proofs.Led.{bad_at, bad_end, bad_value, head_is, no_actions, no_words, tail_is}
 
 above_last : (x : List ℕ) (xs : List (List ℕ)) (a : List ℕ) (rest : List (List ℕ)) → IsStrictlySortedBy (slice_cmp nat_cmp) (x ∷ (xs ++ a ∷ rest)) → IsAbove (last_or (Some x) xs) a
 unfolding IsStrictlySortedBy

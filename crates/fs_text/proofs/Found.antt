@@ -1,9 +1,7 @@
 -- What is read of the parts of an action's word is the action.
-use Rattle.fs_text.proofs.Words.{◌≡◌, ℕ, ◌<◌, ◌^◌, List, [], ◌∷◌, ◌++◌, Bool, true, false, Option, Some, None, Result, Ok, Err, length, drop, take, refl, sym, ap, subst, ◌∙◌, arith, if◌then◌else◌, codes, decimal, slice_index, find, option_map, option_map_or, AllByRecursion, length-drop, take-length, eqb-true, none-some, same_Some, big_bytes, big_number, encode_lower, IsOctets, octets_at, octets_drop, big_below, big_written, big_octets, kind_of, listed, significant_of, cleared, Redirect, action_text, rate_text, target_text, address_text, parts_of, Gives, GivesPlain, form_parts, ip4_parts, long_octets, pair_parts, rate_parts, short_octets, IfOk, Compared, IsNamed, Reads}
+use Rattle.fs_text.{proofs.{Words.{◌≡◌, ℕ, ◌+◌, ◌<◌, ◌^◌, List, [], ◌∷◌, ◌++◌, Bool, true, false, Option, Some, None, Result, Ok, Err, length, drop, take, refl, sym, ap, subst, ◌∙◌, arith, if◌then◌else◌, codes, decimal, slice_index, find, option_map, option_map_or, AllByRecursion, length-drop, take-length, take-append-drop, take_all, eqb-true, none-some, same_Some, big_bytes, big_number, encode_lower, IsOctets, octets_at, octets_drop, big_below, big_written, big_octets, kind_of, listed, significant_of, cleared, Redirect, action_text, name_at, rate_text, target_text, parts_of, Gives, GivesPlain, form_parts, ip4_parts, long_octets, pair_parts, rate_parts, short_octets, IfOk, Compared, IsNamed, Reads}, WordParts.{ip4_runs, one_run, run_decimal, run_octets, two_runs}}, specs.Pieces.{Part}}
 use Rattle.std.specs.Prelude.{◌==◌, ◌||◌, bit_and}
 use Rattle.fs_actions.specs.declared.community.Redirect.TheVariants.{As2, Ip4, As4}
-use Rattle.fs_text.specs.Pieces.{Part}
-use Rattle.fs_text.proofs.WordParts.{ip4_runs, one_run, run_decimal, run_octets, two_runs}
 
 -- a list of eight
 pub record IsEight (a : List ℕ) : Type 0 where
@@ -21,41 +19,30 @@ pub eight : (a : List ℕ) → length a ≡ 8 → IsEight a
 eight (a ∷ b ∷ c ∷ d ∷ e ∷ f ∷ g ∷ i ∷ []) h = record { a0 = a; a1 = b; a2 = c; a3 = d; a4 = e; a5 = f; a6 = g; a7 = i; is = refl }
 eight a h = absurd (omega arith)
 
-short_cells : (a b c d e f g i : ℕ) → IsOctets (a ∷ b ∷ c ∷ d ∷ e ∷ f ∷ g ∷ i ∷ [])
-    → short_octets (big_number 2 (a ∷ b ∷ c ∷ d ∷ e ∷ f ∷ g ∷ i ∷ [])) (big_number 2 (c ∷ d ∷ e ∷ f ∷ g ∷ i ∷ [])) (big_number 4 (e ∷ f ∷ g ∷ i ∷ []))
-    ≡ a ∷ b ∷ c ∷ d ∷ e ∷ f ∷ g ∷ i ∷ []
-short_cells a b c d e f g i h =
-    let all : List ℕ = a ∷ b ∷ c ∷ d ∷ e ∷ f ∷ g ∷ i ∷ [] in
-    let first : a ∷ b ∷ [] ≡ big_bytes 2 (big_number 2 all) = big_written 2 all (omega arith) h in
-    let second : c ∷ d ∷ [] ≡ big_bytes 2 (big_number 2 (drop 2 all)) = big_written 2 (drop 2 all) (omega arith) (octets_drop 2 all h) in
-    let third : e ∷ f ∷ g ∷ i ∷ [] ≡ big_bytes 4 (big_number 4 (drop 4 all)) = big_written 4 (drop 4 all) (omega arith) (octets_drop 4 all h) in
-    sym (ap (λ (l : List ℕ). a ∷ b ∷ c ∷ d ∷ l) third
-    ∙ ap (λ (l : List ℕ). a ∷ b ∷ (l ++ big_bytes 4 (big_number 4 (drop 4 all)))) second
-    ∙ ap (λ (l : List ℕ). l ++ (big_bytes 2 (big_number 2 (drop 2 all)) ++ big_bytes 4 (big_number 4 (drop 4 all)))) first)
+-- a type, m octets and n as numbers
+numbers_whole : (m n : ℕ) (a : List ℕ) → length a ≡ 2 + (m + n) → IsOctets a → big_bytes 2 (big_number 2 a) ++ (big_bytes m (big_number m (drop 2 a)) ++ big_bytes n (big_number n (drop m (drop 2 a)))) ≡ a
+numbers_whole m n a len octets =
+    let rest : List ℕ = drop 2 a in
+    let held : length rest ≡ m + n = omega (arith, length-drop 2 a, len) in
+    let left : length (drop m rest) ≡ n = omega (arith, length-drop m rest, held) in
+    let first : take 2 a ≡ big_bytes 2 (big_number 2 a) = big_written 2 a (omega (arith, len)) octets in
+    let second : take m rest ≡ big_bytes m (big_number m rest) = big_written m rest (omega (arith, held)) (octets_drop 2 a octets) in
+    let third : take n (drop m rest) ≡ big_bytes n (big_number n (drop m rest)) = big_written n (drop m rest) (omega (arith, left)) (octets_drop m rest (octets_drop 2 a octets)) in
+    ap (λ (l : List ℕ). big_bytes 2 (big_number 2 a) ++ (big_bytes m (big_number m rest) ++ l)) (sym third ∙ take_all n (drop m rest) (omega (arith, left)))
+    ∙ ap (λ (l : List ℕ). big_bytes 2 (big_number 2 a) ++ l) (ap (λ (l : List ℕ). l ++ drop m rest) (sym second) ∙ take-append-drop m rest)
+    ∙ ap (λ (l : List ℕ). l ++ rest) (sym first) ∙ take-append-drop 2 a
 
 short_whole : (a : List ℕ) → length a ≡ 8 → IsOctets a → short_octets (kind_of a) (big_number 2 (drop 2 a)) (big_number 4 (drop 4 a)) ≡ a
 short_whole a len octets =
     let e = eight a len in
     subst (λ (l : List ℕ). short_octets (kind_of l) (big_number 2 (drop 2 l)) (big_number 4 (drop 4 l)) ≡ l) (sym e.is)
-    (short_cells e.a0 e.a1 e.a2 e.a3 e.a4 e.a5 e.a6 e.a7 (subst IsOctets e.is octets))
-
-long_cells : (a b c d e f g i : ℕ) → IsOctets (a ∷ b ∷ c ∷ d ∷ e ∷ f ∷ g ∷ i ∷ [])
-    → long_octets (big_number 2 (a ∷ b ∷ c ∷ d ∷ e ∷ f ∷ g ∷ i ∷ [])) (big_number 4 (c ∷ d ∷ e ∷ f ∷ g ∷ i ∷ [])) (big_number 2 (g ∷ i ∷ []))
-    ≡ a ∷ b ∷ c ∷ d ∷ e ∷ f ∷ g ∷ i ∷ []
-long_cells a b c d e f g i h =
-    let all : List ℕ = a ∷ b ∷ c ∷ d ∷ e ∷ f ∷ g ∷ i ∷ [] in
-    let first : a ∷ b ∷ [] ≡ big_bytes 2 (big_number 2 all) = big_written 2 all (omega arith) h in
-    let second : c ∷ d ∷ e ∷ f ∷ [] ≡ big_bytes 4 (big_number 4 (drop 2 all)) = big_written 4 (drop 2 all) (omega arith) (octets_drop 2 all h) in
-    let third : g ∷ i ∷ [] ≡ big_bytes 2 (big_number 2 (drop 6 all)) = big_written 2 (drop 6 all) (omega arith) (octets_drop 6 all h) in
-    sym (ap (λ (l : List ℕ). a ∷ b ∷ c ∷ d ∷ e ∷ f ∷ l) third
-    ∙ ap (λ (l : List ℕ). a ∷ b ∷ (l ++ big_bytes 2 (big_number 2 (drop 6 all)))) second
-    ∙ ap (λ (l : List ℕ). l ++ (big_bytes 4 (big_number 4 (drop 2 all)) ++ big_bytes 2 (big_number 2 (drop 6 all)))) first)
+    (numbers_whole 2 4 (e.a0 ∷ e.a1 ∷ e.a2 ∷ e.a3 ∷ e.a4 ∷ e.a5 ∷ e.a6 ∷ e.a7 ∷ []) refl (subst IsOctets e.is octets))
 
 long_whole : (a : List ℕ) → length a ≡ 8 → IsOctets a → long_octets (kind_of a) (big_number 4 (drop 2 a)) (big_number 2 (drop 6 a)) ≡ a
 long_whole a len octets =
     let e = eight a len in
     subst (λ (l : List ℕ). long_octets (kind_of l) (big_number 4 (drop 2 l)) (big_number 2 (drop 6 l)) ≡ l) (sym e.is)
-    (long_cells e.a0 e.a1 e.a2 e.a3 e.a4 e.a5 e.a6 e.a7 (subst IsOctets e.is octets))
+    (numbers_whole 4 2 (e.a0 ∷ e.a1 ∷ e.a2 ∷ e.a3 ∷ e.a4 ∷ e.a5 ∷ e.a6 ∷ e.a7 ∷ []) refl (subst IsOctets e.is octets))
 
 -- what holds of each type in a list holds of one that is found there
 pub each : {S : Type 0} (f : S → List ℕ) (x : List ℕ) (rows : List (ℕ × S)) (k : ℕ) (P : ℕ → Type 0) → AllByRecursion (λ row. P row.0) rows
@@ -67,14 +54,6 @@ each {S} f x (row ∷ rows) k P all e = by (each f x rows k P all.1) (row.0 == k
         → (b : Bool) → (row.0 == k) ≡ b → option_map f (option_map (λ (r : ℕ × S). r.1) (if b then Some row else find (λ r. r.0 == k) rows)) ≡ Some x → P k
     by there true is e = subst P (eqb-true row.0 k is) all.0
     by there false is e = there e
-
-abbrev pub name_at : ℕ → List ℕ
-name_at k =
-    if k == 0x8006 then codes "bytes"
-    else if k == 0x800c then codes "packets"
-    else if k == 0x8007 then codes "control"
-    else if k == 0x8009 then codes "mark"
-    else codes "redirect"
 
 abbrev target_at : List ℕ → ℕ → Option Redirect
 target_at a k =
@@ -92,21 +71,29 @@ normal_at a k = option_map (λ bits. cleared bits a) (significant_of k)
 four : (l : List ℕ) → length l ≡ 4 → take 4 l ≡ l
 four l len = subst (λ (n : ℕ). take n l ≡ l) len (take-length l)
 
+-- an action of m octets behind its type, and n of them from a place on
+two_found : (k m n place : ℕ) (parts_are : ℕ → ℕ → List Part) (octets_are : ℕ → ℕ → ℕ → List ℕ) (a : List ℕ) (parts : List Part) (result : Option (List ℕ)) → IsOctets a → kind_of a ≡ k
+    → octets_are (kind_of a) (big_number m (drop 2 a)) (big_number n (drop place a)) ≡ a
+    → (big_number m (drop 2 a) < 256 ^ m → big_number n (drop place a) < 256 ^ n → parts ≡ parts_are (big_number m (drop 2 a)) (big_number n (drop place a)))
+    → Gives (256 ^ m) (256 ^ n) parts_are (octets_are k) parts result → result ≡ Some a
+two_found k m n place parts_are octets_are a parts result octets kind whole told gives =
+    let low : big_number m (drop 2 a) < 256 ^ m = big_below m (drop 2 a) (octets_drop 2 a octets) in
+    let high : big_number n (drop place a) < 256 ^ n = big_below n (drop place a) (octets_drop place a octets) in
+    gives (big_number m (drop 2 a)) (big_number n (drop place a)) low high (told low high)
+    ∙ ap Some (ap (λ (j : ℕ). octets_are j (big_number m (drop 2 a)) (big_number n (drop place a))) (sym kind) ∙ whole)
+
 rate_found : (k : ℕ) (a : List ℕ) (parts : List Part) (result : Option (List ℕ)) → length a ≡ 8 → IsOctets a → kind_of a ≡ k → parts ≡ parts_of (rate_text a)
     → Gives (2 ^ 16) (2 ^ 32) rate_parts (short_octets k) parts result → result ≡ Some a
 rate_found k a parts result len octets kind p gives =
     let id : ℕ = big_number 2 (drop 2 a) in
-    let figure : ℕ = big_number 4 (drop 4 a) in
-    let low : big_number 2 (drop 2 a) < 2 ^ 16 = big_below 2 (drop 2 a) (octets_drop 2 a octets) in
-    let high : big_number 4 (drop 4 a) < 2 ^ 32 = big_below 4 (drop 4 a) (octets_drop 4 a octets) in
     let held : length (drop 4 a) ≡ 4 = omega (arith, length-drop 4 a, len) in
     let tail : drop 4 a ≡ big_bytes 4 (big_number 4 (drop 4 a)) =
     sym (four (drop 4 a) held) ∙ big_written 4 (drop 4 a) (omega (arith, held)) (octets_drop 4 a octets) in
-    gives (big_number 2 (drop 2 a)) (big_number 4 (drop 4 a)) low high
-    (p ∙ ap (λ (l : List ℕ). parts_of (decimal (big_number 2 (drop 2 a)) ++ (codes ":" ++ encode_lower l))) tail
-    ∙ two_runs (decimal (big_number 2 (drop 2 a))) (encode_lower (big_bytes 4 (big_number 4 (drop 4 a)))) (run_decimal (big_number 2 (drop 2 a)) (omega (arith, low)))
-    (run_octets _ _ (big_octets 4 (big_number 4 (drop 4 a)))))
-    ∙ ap Some (ap (λ (j : ℕ). short_octets j (big_number 2 (drop 2 a)) (big_number 4 (drop 4 a))) (sym kind) ∙ short_whole a len octets)
+    two_found k 2 4 4 rate_parts short_octets a parts result octets kind (short_whole a len octets) (
+    λ (low : big_number 2 (drop 2 a) < 2 ^ 16) high.
+    p ∙ ap (λ (l : List ℕ). parts_of (decimal id ++ (codes ":" ++ encode_lower l))) tail
+    ∙ two_runs (decimal id) (encode_lower (big_bytes 4 (big_number 4 (drop 4 a)))) (run_decimal id (omega (arith, low))) (run_octets _ _ (big_octets 4 (big_number 4 (drop 4 a))))
+    ) gives
 
 abbrev pub masked : ℕ → List ℕ → List ℕ
 masked bits a = take 2 a ++ (0 ∷ 0 ∷ 0 ∷ 0 ∷ 0 ∷ bit_and (slice_index a 7) bits ∷ [])
@@ -137,31 +124,8 @@ plain_found k bits a parts result len octets kind clear p gives =
     ∙ ap (λ (j : ℕ). short_octets (kind_of a) j (slice_index a 7)) (sym z.0)
     ∙ ap (λ (j : ℕ). short_octets (kind_of a) (big_number 2 (drop 2 a)) j) (sym z.1) ∙ short_whole a len octets)
 
-as2_found : (a : List ℕ) (result : Option (List ℕ)) → length a ≡ 8 → IsOctets a → kind_of a ≡ 0x8008
-    → Gives (2 ^ 16) (2 ^ 32) pair_parts (short_octets 0x8008) (parts_of (decimal (big_number 2 (drop 2 a)) ++ (codes ":" ++ decimal (big_number 4 (drop 4 a))))) result → result ≡ Some a
-as2_found a result len octets kind gives =
-    let low : big_number 2 (drop 2 a) < 2 ^ 16 = big_below 2 (drop 2 a) (octets_drop 2 a octets) in
-    let high : big_number 4 (drop 4 a) < 2 ^ 32 = big_below 4 (drop 4 a) (octets_drop 4 a octets) in
-    gives (big_number 2 (drop 2 a)) (big_number 4 (drop 4 a)) low high
-    (two_runs (decimal (big_number 2 (drop 2 a))) (decimal (big_number 4 (drop 4 a))) (run_decimal (big_number 2 (drop 2 a)) (omega (arith, low))) (run_decimal (big_number 4 (drop 4 a)) (omega (arith, high))))
-    ∙ ap Some (ap (λ (j : ℕ). short_octets j (big_number 2 (drop 2 a)) (big_number 4 (drop 4 a))) (sym kind) ∙ short_whole a len octets)
-
-as4_found : (a : List ℕ) (result : Option (List ℕ)) → length a ≡ 8 → IsOctets a → kind_of a ≡ 0x8208
-    → Gives (2 ^ 32) (2 ^ 16) pair_parts (long_octets 0x8208) (parts_of (decimal (big_number 4 (drop 2 a)) ++ (codes ":" ++ decimal (big_number 2 (drop 6 a))))) result → result ≡ Some a
-as4_found a result len octets kind gives =
-    let high : big_number 4 (drop 2 a) < 2 ^ 32 = big_below 4 (drop 2 a) (octets_drop 2 a octets) in
-    let low : big_number 2 (drop 6 a) < 2 ^ 16 = big_below 2 (drop 6 a) (octets_drop 6 a octets) in
-    gives (big_number 4 (drop 2 a)) (big_number 2 (drop 6 a)) high low
-    (two_runs (decimal (big_number 4 (drop 2 a))) (decimal (big_number 2 (drop 6 a))) (run_decimal (big_number 4 (drop 2 a)) (omega (arith, high))) (run_decimal (big_number 2 (drop 6 a)) (omega (arith, low))))
-    ∙ ap Some (ap (λ (j : ℕ). long_octets j (big_number 4 (drop 2 a)) (big_number 2 (drop 6 a))) (sym kind) ∙ long_whole a len octets)
-
-ip4_found : (a : List ℕ) (result : Option (List ℕ)) → length a ≡ 8 → IsOctets a → kind_of a ≡ 0x8108
-    → Gives (2 ^ 32) (2 ^ 16) ip4_parts (long_octets 0x8108) (parts_of (address_text (big_number 4 (drop 2 a)) ++ (codes ":" ++ decimal (big_number 2 (drop 6 a))))) result → result ≡ Some a
-ip4_found a result len octets kind gives =
-    let high : big_number 4 (drop 2 a) < 2 ^ 32 = big_below 4 (drop 2 a) (octets_drop 2 a octets) in
-    let low : big_number 2 (drop 6 a) < 2 ^ 16 = big_below 2 (drop 6 a) (octets_drop 6 a octets) in
-    gives (big_number 4 (drop 2 a)) (big_number 2 (drop 6 a)) high low (ip4_runs (big_number 4 (drop 2 a)) (big_number 2 (drop 6 a)) (omega (arith, low)))
-    ∙ ap Some (ap (λ (j : ℕ). long_octets j (big_number 4 (drop 2 a)) (big_number 2 (drop 6 a))) (sym kind) ∙ long_whole a len octets)
+decimals : (first last : ℕ) → first < 2 ^ 32 → last < 2 ^ 32 → parts_of (decimal first ++ (codes ":" ++ decimal last)) ≡ pair_parts first last
+decimals first last low high = two_runs (decimal first) (decimal last) (run_decimal first (omega (arith, low))) (run_decimal last (omega (arith, high)))
 
 -- what a reader answers, by the name of the action
 pub record Readings (name : List ℕ) (parts : List Part) (result : Option (List ℕ)) : Type 0 where
@@ -182,11 +146,14 @@ found name a parts result is p r =
         (
           λ k. plain_found 0x8007 0x03 a parts result len is.octets k (same_Some _ _ (normal k)) (text k) (r.control (named k)),
           (
-            λ k. as2_found a result len is.octets k (r.as2 (named k) _ (text k)),
+            λ k. two_found 0x8008 2 4 4 pair_parts short_octets a _ result is.octets k (short_whole a len is.octets)
+                (λ (low : big_number 2 (drop 2 a) < 2 ^ 16) high. decimals _ _ (omega (arith, low)) high) (r.as2 (named k) _ (text k)),
             (
-              λ k. ip4_found a result len is.octets k (r.ip4 (named k) _ (text k)),
+              λ k. two_found 0x8108 4 2 6 ip4_parts long_octets a _ result is.octets k (long_whole a len is.octets)
+                  (λ high (low : big_number 2 (drop 6 a) < 2 ^ 16). ip4_runs _ _ (omega (arith, low))) (r.ip4 (named k) _ (text k)),
               (
-                λ k. as4_found a result len is.octets k (r.as4 (named k) _ (text k)),
+                λ k. two_found 0x8208 4 2 6 pair_parts long_octets a _ result is.octets k (long_whole a len is.octets)
+                    (λ high (low : big_number 2 (drop 6 a) < 2 ^ 16). decimals _ _ high (omega (arith, low))) (r.as4 (named k) _ (text k)),
                 (λ k. plain_found 0x8009 0x3f a parts result len is.octets k (same_Some _ _ (normal k)) (text k) (r.mark (named k)), tt),
               ),
             ),

@@ -1,10 +1,6 @@
 -- The action of a name whose octets are the highest.
-use Rattle.fs_text.proofs.Words.{◌≡◌, ℕ, ◌+◌, ◌*◌, ◌<◌, ◌≤◌, ◌==◌, List, [], ◌∷◌, Bool, true, false, if◌then◌else◌, Option, Some, None, length, get_or, bit_and, refl, sym, ap, subst, ◌∙◌, arith, codes, slice_index, nat_lt, bytes_eq, slice_cmp, nat_cmp, ordering_then, and_le_r, same_Some, lt-ltb, nat_tests, big_number, IsOctets, octets_at, octets_cons, octets_nil, IsAction, cleared, kind_of, listed, IsAbove, action_name, IsNamed, HasGreatest}
-use Rattle.std.specs.declared.cmp.Ordering.{Ordering}
-use Rattle.std.specs.declared.cmp.Ordering.TheVariants.{Less, Equal, Greater}
-use Rattle.std.proofs.lemmas.Cmp.{nat_list_cmp_total}
-use Rattle.std.proofs.lemmas.Map.Lookups.{exact_bytes}
-use Rattle.fs_text.proofs.Found.{IsEight, each, eight, masked, name_at, normal_at}
+use Rattle.fs_text.proofs.{Words.{◌≡◌, ℕ, ◌+◌, ◌*◌, ◌<◌, ◌≤◌, ◌==◌, List, [], ◌∷◌, Bool, true, false, if◌then◌else◌, Option, Some, None, length, get_or, bit_and, refl, sym, ap, subst, ◌∙◌, arith, codes, slice_index, nat_lt, bytes_eq, slice_cmp, nat_cmp, ordering_then, and_le_r, same_Some, lt-ltb, nat_tests, big_number, IsOctets, octets_at, octets_cons, octets_nil, IsAction, cleared, kind_of, listed, IsAbove, action_name, IsNamed, HasGreatest, name_at}, Found.{IsEight, each, eight, masked, normal_at}}
+use Rattle.std.{specs.declared.cmp.Ordering.{Ordering, TheVariants.{Less, Equal, Greater}}, proofs.lemmas.{Cmp.{nat_list_cmp_total}, Map.Lookups.{exact_bytes}}}
 
 abbrev NotAbove : List ℕ → List ℕ → Type 0
 NotAbove xs ys = slice_cmp nat_cmp xs ys ≡ Greater → ⊥

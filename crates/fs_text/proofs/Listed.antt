@@ -1,8 +1,7 @@
 -- Components by their names, and what is read of their words.
-use Rattle.fs_text.proofs.Words.{◌≡◌, ℕ, ◌<◌, ◌≤◌, ◌==◌, zero, suc, List, [], ◌∷◌, Bool, true, false, Option, Some, None, Result, Ok, Err, refl, sym, ap, subst, ◌∙◌, arith, inr, option_map, IfOk, eqb-true, none-some, same_Some, nat_tests, Family, V4, V6, Kind, Numeric, Bitmask, IsNormal, Component, body_of, part_of, ListForm, form_of, fragment_bits, prefix_form, Body, V4Body, V6Body, ListBody, Part, part, IsNormalAt, IsNormalBody, list_text, body_text, component_name, list_kind, value_text, Reads}
+use Rattle.fs_text.{proofs.Words.{◌≡◌, ℕ, ◌<◌, ◌≤◌, ◌==◌, zero, suc, List, [], ◌∷◌, Bool, true, false, Option, Some, None, Result, Ok, Err, refl, sym, ap, subst, ◌∙◌, arith, inr, option_map, IfOk, eqb-true, none-some, same_Some, nat_tests, Family, V4, V6, Kind, Numeric, Bitmask, IsNormal, Component, body_of, part_of, ListForm, form_of, fragment_bits, prefix_form, Body, V4Body, V6Body, ListBody, Part, part, IsNormalAt, IsNormalBody, list_text, body_text, component_name, list_kind, value_text, Reads}, specs.Components.{Compared, HasType, IsPart, Loosely, Matched, last_type}}
 use Rattle.fs_nlri.specs.declared.component.PrefixForm.{PrefixForm}
 use Rattle.fs_ops.specs.Fault.{all_widths}
-use Rattle.fs_text.specs.Components.{Compared, HasType, IsPart, Loosely, Matched, last_type}
 
 -- a list of a type
 pub record IsListed (kind : ℕ) (body : Body) : Type 0 where

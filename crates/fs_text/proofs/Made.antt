@@ -1,4 +1,4 @@
-use Rattle.fs_text.proofs.Words.{◌≡◌, ℕ, ◌+◌, ◌<◌, ◌≤◌, ◌==◌, zero, suc, Bool, true, false, if◌then◌else◌, bit_and, refl, sym, subst, arith, and_le_r, eqb-true, nat_tests, Kind, Numeric, Bitmask, ends, meant_bits, plain_of, joined_bit}
+use Rattle.fs_text.proofs.Words.{◌≡◌, ℕ, ◌+◌, ◌<◌, ◌≤◌, ◌==◌, zero, suc, List, Bool, true, false, if◌then◌else◌, bit_and, refl, sym, subst, arith, bytes_eq, and_le_r, eqb-true, nat_tests, Kind, Numeric, Bitmask, ends, meant_bits, plain_of, joined_bit}
 
 -- An operator in normal form is the sum of its bits.
 
@@ -24,6 +24,11 @@ below p (suc n) k all h = by (below p n k) (p n) refl all (k == n) refl
     by more false e all c same = absurd cc
     by more true e all true same = subst (λ (j : ℕ). p j ≡ true) (sym (eqb-true k n same)) e
     by more true e all false same = more all (grind (arith, nat_tests, h, same))
+
+-- the number below n whose text this is
+abbrev pub number_with : (ℕ → List ℕ) → ℕ → List ℕ → ℕ
+number_with f zero text = 0
+number_with f (suc n) text = if bytes_eq text (f n) then n else number_with f n text
 
 sums : (kind : Kind) → all_below (is_sum kind) 256 ≡ true
 sums Numeric = refl

@@ -1,11 +1,6 @@
 -- The text of a list is that of no other list.
-use Rattle.fs_text.proofs.Words.{◌≡◌, ℕ, ◌+◌, ◌*◌, ◌^◌, ◌<◌, ◌≤◌, ◌==◌, List, [], ◌∷◌, ◌++◌, Bool, true, false, not, if◌then◌else◌, length, bit_and, Result, Ok, Err, refl, sym, ap, subst, ◌∙◌, arith, codes, decimal, flat_map, AllByRecursion, bytes_eq, digits_value, digits, eqb-true, digits_is_IsNumeral, and_le_r, big_bytes, big_number, big_number-reads_back, decode_sized, FromHexError, append-nil, Kind, Numeric, Bitmask, ends, joins, meant_bits, width_code, width_of, IsNormal, IsNormalPair, octets_text, joined_text, least_code, list_text, mask_sign, number_sign, operand_text, pair_text, sign, width_text, width_word, code_at, is_sign, is_within, joined_bit, plain_of, relation_of, Ends, is_plain, first_normal}
+use Rattle.fs_text.proofs.{Words.{◌≡◌, ℕ, ◌+◌, ◌*◌, ◌^◌, ◌<◌, ◌≤◌, ◌==◌, List, [], ◌∷◌, ◌++◌, Bool, true, false, not, if◌then◌else◌, length, bit_and, Result, Ok, Err, refl, sym, ap, subst, ◌∙◌, arith, codes, decimal, flat_map, AllByRecursion, bytes_eq, digits_value, digits, eqb-true, digits_is_IsNumeral, and_le_r, big_bytes, big_number, big_number-reads_back, decode_sized, FromHexError, append-nil, Kind, Numeric, Bitmask, ends, joins, meant_bits, width_code, width_of, IsNormal, IsNormalPair, octets_text, joined_text, least_code, list_text, mask_sign, number_sign, operand_text, pair_text, sign, width_text, width_word, code_at, is_sign, is_within, joined_bit, plain_of, relation_of, Ends, is_plain, first_normal}, Led.{head_is, no_words, tail_is}, Made.{all_below, below, made, number_with}, Pairs.{are_signs, bit_if, code_small, joiner_by, octets_run, others_end, pair_within, value_small, width_ends}, Wide.{code_back, octets_decoded, octets_len}, WordParts.{IsRun, run_decimal}}
 use Rattle.fs_ops.specs.OperatorList.{AreNormal}
-use Rattle.fs_text.proofs.Led.{head_is, no_words, tail_is}
-use Rattle.fs_text.proofs.Made.{below, made}
-use Rattle.fs_text.proofs.Pairs.{are_signs, bit_if, code_small, joiner_by, octets_run, others_end, pair_within, value_small, width_ends}
-use Rattle.fs_text.proofs.Wide.{code_back, octets_decoded, octets_len}
-use Rattle.fs_text.proofs.WordParts.{IsRun, run_decimal}
 
 -- what a number's text says
 
@@ -38,36 +33,21 @@ one_split p (x ∷ a) (y ∷ b) r s all also end stop e =
 
 -- signs
 
-abbrev comparison_of : List ℕ → ℕ
-comparison_of text =
-    if bytes_eq text (codes "!") then 0
-    else if bytes_eq text (codes "=") then 1
-    else if bytes_eq text (codes ">") then 2
-    else if bytes_eq text (codes ">=") then 3
-    else if bytes_eq text (codes "<") then 4
-    else if bytes_eq text (codes "<=") then 5
-    else if bytes_eq text (codes "!=") then 6
-    else 7
-
-comparison_back : (n : ℕ) → n < 8 → comparison_of (number_sign n) ≡ n
-comparison_back n small = eqb-true (comparison_of (number_sign n)) n (below (λ k. comparison_of (number_sign k) == k) 8 n refl small)
-
-abbrev test_of : List ℕ → ℕ
-test_of text =
-    if bytes_eq text (codes "~") then 0 else if bytes_eq text (codes "=") then 1 else if bytes_eq text (codes "!~") then 2 else 3
-
-test_back : (n : ℕ) → n < 4 → test_of (mask_sign n) ≡ n
-test_back n small = eqb-true (test_of (mask_sign n)) n (below (λ k. test_of (mask_sign k) == k) 4 n refl small)
+-- numbers below n whose texts all differ are told by them
+text_tells : (f : ℕ → List ℕ) (n a b : ℕ) → all_below (λ k. number_with f n (f k) == k) n ≡ true → a < n → b < n → f a ≡ f b → a ≡ b
+text_tells f n a b all low high same =
+    let back : (k : ℕ) → k < n → number_with f n (f k) ≡ k = λ k small. eqb-true (number_with f n (f k)) k (below (λ j. number_with f n (f j) == j) n k all small) in
+    sym (back a low) ∙ ap (number_with f n) same ∙ back b high
 
 one_sign : (kind : Kind) (a b : ℕ) → sign kind a ≡ sign kind b → relation_of kind a ≡ relation_of kind b
 one_sign Numeric a b e =
     let low : bit_and a 7 ≤ 7 = and_le_r a 7 in
     let high : bit_and b 7 ≤ 7 = and_le_r b 7 in
-    sym (comparison_back (bit_and a 7) (omega arith)) ∙ ap comparison_of e ∙ comparison_back (bit_and b 7) (omega arith)
+    text_tells number_sign 8 (bit_and a 7) (bit_and b 7) refl (omega arith) (omega arith) e
 one_sign Bitmask a b e =
     let low : bit_and a 3 ≤ 3 = and_le_r a 3 in
     let high : bit_and b 3 ≤ 3 = and_le_r b 3 in
-    sym (test_back (bit_and a 3) (omega arith)) ∙ ap test_of e ∙ test_back (bit_and b 3) (omega arith)
+    text_tells mask_sign 4 (bit_and a 3) (bit_and b 3) refl (omega arith) (omega arith) e
 
 -- widths
 

@@ -1,16 +1,6 @@
 -- A text is that of no two rules with actions.
-use Rattle.fs_text.proofs.Words.{◌≡◌, inl, inr, ℕ, ◌+◌, ◌-◌, ◌*◌, ◌/◌, ◌%◌, ◌^◌, ◌<◌, ◌≤◌, ◌==◌, zero, suc, List, [], ◌∷◌, ◌++◌, drop, get_or, Bool, true, false, if◌then◌else◌, Option, Some, Result, refl, sym, ap, subst, ◌∙◌, arith, codes, decimal, AllByRecursion, bytes_eq, digits_value, div-le_self, mod-lt, cases_lt, eqb-true, same_Some, big_bytes, big_number, decode_sized, encode_lower, FromHexError, IsOctets, Family, V4, V6, form_of, prefix_form, Body, V4Body, V6Body, ListBody, Ruled, part, ruled, AreNormal, IsNormalAt, IsNormalBody, IsRule, IsAction, action_words, component_words, text_of, then_words, words_of, action_name, action_text, hexadecimal, body_text, component_name, list_kind, value_text, Gives, GivesPlain, form_parts, ip4_parts, long_octets, pair_parts, rate_parts, short_octets, IsNamed, Run, Delimiter, parts_of, GivesV4, GivesV6, range_parts, wide_parts, AreActions, words_in}
+use Rattle.fs_text.{proofs.{Words.{◌≡◌, inl, inr, ℕ, ◌+◌, ◌-◌, ◌*◌, ◌/◌, ◌%◌, ◌^◌, ◌<◌, ◌≤◌, ◌==◌, zero, suc, List, [], ◌∷◌, ◌++◌, drop, get_or, Bool, true, false, if◌then◌else◌, Option, Some, Result, refl, sym, ap, subst, ◌∙◌, arith, codes, decimal, AllByRecursion, bytes_eq, digits_value, div-le_self, mod-lt, cases_lt, eqb-true, same_Some, big_bytes, big_number, decode_sized, encode_lower, FromHexError, IsOctets, Family, V4, V6, form_of, prefix_form, Body, V4Body, V6Body, ListBody, Ruled, part, ruled, AreNormal, IsNormalAt, IsNormalBody, IsRule, IsAction, action_words, component_words, text_of, then_words, words_of, action_name, action_text, hexadecimal, body_text, component_name, list_kind, value_text, Gives, GivesPlain, form_parts, ip4_parts, long_octets, pair_parts, rate_parts, short_octets, IsNamed, Run, Delimiter, parts_of, GivesV4, GivesV6, range_parts, wide_parts, AreActions, words_in}, Acted.{no_then}, Found.{Readings, found}, Led.{head_is, no_words, one_family, tail_is}, Listed.{IsListed, at_most, listed, low_type, prefix_normal, prefix_text}, Made.{below, number_with}, Numerals.{figure_decoded, figure_read}, OneList.{decimal_back, hexadecimal_back, octets_in, one_list}, Prefixed.{pattern_back, pattern_small, range_offset, v4_found, v6_found}, Spaceless.{words_back}}, specs.Pieces.{Part}}
 use Rattle.fs_nlri.specs.Parts.{Part as AnyPart}
-use Rattle.fs_text.specs.Pieces.{Part}
-use Rattle.fs_text.proofs.Acted.{no_then}
-use Rattle.fs_text.proofs.Found.{Readings, found}
-use Rattle.fs_text.proofs.Led.{head_is, no_words, one_family, tail_is}
-use Rattle.fs_text.proofs.Listed.{IsListed, at_most, listed, low_type, prefix_normal, prefix_text}
-use Rattle.fs_text.proofs.Made.{below}
-use Rattle.fs_text.proofs.Numerals.{figure_decoded, figure_read}
-use Rattle.fs_text.proofs.OneList.{decimal_back, hexadecimal_back, octets_in, one_list}
-use Rattle.fs_text.proofs.Prefixed.{pattern_back, pattern_small, range_offset, v4_found, v6_found}
-use Rattle.fs_text.proofs.Spaceless.{words_back}
 
 -- what the parts of a word say, read as numbers
 
@@ -159,31 +149,15 @@ one_body family kind x y is are e = elim (cases_lt 2 kind) [ inl high ↦ lists 
         ap (body_text kind) (sym first.body_is) ∙ e ∙ ap (body_text kind) second.body_is in
         first.body_is ∙ ap ListBody (one_list (list_kind kind) first.pairs second.pairs first.normal second.normal texts) ∙ sym second.body_is
 
-abbrev kind_named : List ℕ → ℕ
-kind_named name =
-    if bytes_eq name (codes "dst") then 1
-    else if bytes_eq name (codes "src") then 2
-    else if bytes_eq name (codes "proto") then 3
-    else if bytes_eq name (codes "port") then 4
-    else if bytes_eq name (codes "dport") then 5
-    else if bytes_eq name (codes "sport") then 6
-    else if bytes_eq name (codes "itype") then 7
-    else if bytes_eq name (codes "icode") then 8
-    else if bytes_eq name (codes "tcp") then 9
-    else if bytes_eq name (codes "len") then 10
-    else if bytes_eq name (codes "dscp") then 11
-    else if bytes_eq name (codes "frag") then 12
-    else 13
-
-kind_back : (kind : ℕ) → 1 ≤ kind → kind ≤ 13 → kind_named (component_name kind) ≡ kind
+kind_back : (kind : ℕ) → 1 ≤ kind → kind ≤ 13 → number_with component_name 14 (component_name kind) ≡ kind
 kind_back zero low high = absurd (omega arith)
-kind_back (suc k) low high = eqb-true (kind_named (component_name (suc k))) (suc k) (below (λ n. kind_named (component_name (suc n)) == suc n) 13 k refl (omega arith))
+kind_back (suc k) low high = eqb-true (number_with component_name 14 (component_name (suc k))) (suc k) (below (λ n. number_with component_name 14 (component_name (suc n)) == suc n) 13 k refl (omega arith))
 
 one_part : (family : Family) (p q : AnyPart) → IsNormalAt (form_of family p.kind) p.body → IsNormalAt (form_of family q.kind) q.body
     → component_name p.kind ≡ component_name q.kind → value_text p ≡ value_text q → p ≡ q
 one_part family p q is are names texts =
     let kind : p.kind ≡ q.kind =
-    sym (kind_back p.kind (low_type family p.kind p.body is) (at_most family p.kind p.body is)) ∙ ap kind_named names
+    sym (kind_back p.kind (low_type family p.kind p.body is) (at_most family p.kind p.body is)) ∙ ap (number_with component_name 14) names
     ∙ kind_back q.kind (low_type family q.kind q.body are) (at_most family q.kind q.body are) in
     let moved : IsNormalAt (form_of family q.kind) p.body = subst (λ (k : ℕ). IsNormalAt (form_of family k) p.body) kind is in
     let body : p.body ≡ q.body = one_body family q.kind p.body q.body moved are (ap (λ (k : ℕ). body_text k p.body) (sym kind) ∙ texts) in

@@ -1,8 +1,6 @@
 -- The texts of pairs, cut and read.
-use Rattle.fs_text.proofs.Words.{append_assoc, ◌≡◌, ℕ, ◌+◌, ◌*◌, ◌/◌, ◌^◌, ◌<◌, ◌≤◌, ◌==◌, zero, suc, List, [], ◌∷◌, ◌++◌, Option, Some, Bool, true, false, not, ◌||◌, if◌then◌else◌, length, bit_and, refl, sym, ap, subst, ◌∙◌, arith, codes, decimal, flat_map, AllByRecursion, and_le_r, nat_tests, append-nil, same_Some, some_pair_parts, big_octets, each_append, each_weaker, Kind, Numeric, Bitmask, joins, ends, meant_bits, width_code, width_of, IsNormal, first_normal, octets_text, joined_text, least_code, list_text, mask_sign, number_sign, operand_text, pair_text, sign, width_word, is_sign, is_within, joined_bit, plain_of, relation_of, Ends, is_plain}
+use Rattle.fs_text.proofs.{Words.{append_assoc, ◌≡◌, ℕ, ◌+◌, ◌*◌, ◌/◌, ◌^◌, ◌<◌, ◌≤◌, ◌==◌, zero, suc, List, [], ◌∷◌, ◌++◌, Option, Some, Bool, true, false, not, ◌||◌, if◌then◌else◌, length, bit_and, refl, sym, ap, subst, ◌∙◌, arith, codes, decimal, flat_map, AllByRecursion, and_le_r, nat_tests, append-nil, same_Some, some_pair_parts, big_octets, each_append, each_weaker, Kind, Numeric, Bitmask, joins, ends, meant_bits, width_code, width_of, IsNormal, first_normal, octets_text, joined_text, least_code, list_text, mask_sign, number_sign, operand_text, pair_text, sign, width_word, is_sign, is_within, joined_bit, plain_of, relation_of, Ends, is_plain}, WordParts.{IsRun, run_decimal, run_octets}, Made.{made}}
 use Rattle.fs_ops.specs.OperatorList.{AreNormal}
-use Rattle.fs_text.proofs.WordParts.{IsRun, run_decimal, run_octets}
-use Rattle.fs_text.proofs.Made.{made}
 
 -- a choice keeps what both have
 pub chosen : {A : Type 0} (P : A → Type 0) (b : Bool) (x y : A) → P x → P y → P (if b then x else y)

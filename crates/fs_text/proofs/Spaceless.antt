@@ -1,11 +1,7 @@
 -- No word of a text has a space, so that a text is cut into its words.
-use Rattle.fs_text.proofs.Words.{◌≡◌, ℕ, ◌/◌, ◌%◌, ◌^◌, ◌<◌, ◌≤◌, ◌==◌, List, [], ◌∷◌, ◌++◌, Bool, true, false, Option, ◌||◌, drop, refl, sym, ap, subst, ◌∙◌, arith, decimal, flat_map, slice_index, AllByRecursion, join_with_byte, option_map_or, All-from_recursion, slice_split_at, slice_split_none, eqb-true, mod-lt, big_number, encode_lower, Family, V4, V6, IsOctets, big_below, each_append, octets_at, octets_drop, Kind, joins, width_of, form_of, Body, V4Body, V6Body, ListBody, Part, ruled, AreNormal, kind_of, Redirect, action_name, action_text, plain_text, target_text, joined_text, joiner, list_text, pair_text, address_text, groups_text, offset_text, wide_address_text, body_text, component_name, list_kind, action_words, component_words, family_word, text_of, then_words, words_of, is_plain, AreActions, words_in, first_normal}
+use Rattle.fs_text.proofs.{Words.{◌≡◌, ℕ, ◌/◌, ◌%◌, ◌^◌, ◌<◌, ◌≤◌, ◌==◌, List, [], ◌∷◌, ◌++◌, Bool, true, false, Option, ◌||◌, drop, refl, sym, ap, subst, ◌∙◌, arith, decimal, flat_map, slice_index, AllByRecursion, join_with_byte, option_map_or, All-from_recursion, slice_split_at, slice_split_none, eqb-true, mod-lt, big_number, encode_lower, Family, V4, V6, IsOctets, big_below, each_append, octets_at, octets_drop, Kind, joins, width_of, form_of, Body, V4Body, V6Body, ListBody, Part, ruled, AreNormal, kind_of, Redirect, action_name, action_text, plain_text, target_text, joined_text, joiner, list_text, pair_text, address_text, groups_text, offset_text, wide_address_text, body_text, component_name, list_kind, action_words, component_words, family_word, text_of, then_words, words_of, is_plain, AreActions, words_in, first_normal}, Pairs.{chosen, pair_all, run_all}, Prefixed.{eight_groups, range_offset, run_hexadecimal, small_group}, WordParts.{plain_octets, run_decimal}}
 use Rattle.fs_ops.specs.OperatorList.{AreNormal as AreNormalPairs}
-use Rattle.fs_nlri.specs.Sound.{IsSoundBody}
-use Rattle.fs_nlri.proofs.Sound.{sound_part}
-use Rattle.fs_text.proofs.Pairs.{chosen, pair_all, run_all}
-use Rattle.fs_text.proofs.Prefixed.{eight_groups, range_offset, run_hexadecimal, small_group}
-use Rattle.fs_text.proofs.WordParts.{plain_octets, run_decimal}
+use Rattle.fs_nlri.{specs.Sound.{IsSoundBody}, proofs.Sound.{sound_part}}
 
 abbrev Free : List ℕ → Type 0
 Free text = AllByRecursion (λ o. (o == 32) ≡ false) text

@@ -1,23 +1,21 @@
 -- Which actions can stand behind others.
-use Rattle.fs_text.proofs.Words.{◌≡◌, inr, ℕ, ◌+◌, List, ◌∷◌, Option, Some, None, refl, sym, ap, subst, ◌∙◌, IfNone, IfSome, last_or, IsAbove, action_text, IsNamed, Reads, CanStand, FitsAbove, IsActionFault, IsGreatest, ReadsAbove, Bad}
-use Rattle.fs_text.proofs.Greatest.{above_too}
-use Rattle.fs_text.proofs.Led.{head_is}
+use Rattle.fs_text.proofs.{Words.{◌≡◌, inr, ℕ, ◌+◌, List, ◌∷◌, Option, Some, None, refl, sym, ap, subst, ◌∙◌, IfNone, IfSome, last_or, action_text, IsNamed, Reads, CanStand, FitsAbove, IsActionFault, IsGreatest, ReadsAbove, StandsBehind, Bad}, Greatest.{above_too}, Led.{head_is}}
 
-pub none_stands : (actions : List (List ℕ)) (name greatest : List ℕ) → IsGreatest name greatest → (IsAbove (last_or None actions) greatest → ⊥)
-    → (action : List ℕ) → IsNamed name action → IsAbove (last_or None actions) action → ⊥
+pub none_stands : (actions : List (List ℕ)) (name greatest : List ℕ) → IsGreatest name greatest → (StandsBehind actions greatest → ⊥)
+    → (action : List ℕ) → IsNamed name action → StandsBehind actions action → ⊥
 none_stands actions name greatest is none action named above = none (above_too (last_or None actions) action greatest above (is.highest action named))
 
-pub fits_of : (actions : List (List ℕ)) (name action : List ℕ) → IsNamed name action → IsAbove (last_or None actions) action → FitsAbove actions action
+pub fits_of : (actions : List (List ℕ)) (name action : List ℕ) → IsNamed name action → StandsBehind actions action → FitsAbove actions action
 fits_of actions name action named above = record { normal = named.normal; octets = named.octets; above = above }
 
-pub can_stand : (actions : List (List ℕ)) (name greatest : List ℕ) → IsGreatest name greatest → IsAbove (last_or None actions) greatest → CanStand actions name
+pub can_stand : (actions : List (List ℕ)) (name greatest : List ℕ) → IsGreatest name greatest → StandsBehind actions greatest → CanStand actions name
 can_stand actions name greatest is above = record { given = greatest; fits = fits_of actions name greatest is.named above; named = is.named.named }
 
 pub said : (actions : List (List ℕ)) (name word action : List ℕ) (r : Option (List ℕ)) → Reads (IsNamed name) action_text word (Some action)
-    → IfSome r (λ same. (same ≡ action) × IsAbove (last_or None actions) action) → IfNone r (IsAbove (last_or None actions) action → ⊥) → ReadsAbove actions name word r
+    → IfSome r (λ same. (same ≡ action) × StandsBehind actions action) → IfNone r (StandsBehind actions action → ⊥) → ReadsAbove actions name word r
 said actions name word action None reads some none = λ other fits named told.
     let one : other ≡ action = reads.2 other (record { normal = fits.normal; octets = fits.octets; named = named }) told in
-    none (subst (λ (a : List ℕ). IsAbove (last_or None actions) a) one fits.above)
+    none (subst (StandsBehind actions) one fits.above)
 said actions name word action (Some same) reads some none = subst (λ (a : List ℕ). ReadsAbove actions name word (Some a)) (sym some.0) (
   fits_of actions name action reads.0 some.1,
   reads.0.named,

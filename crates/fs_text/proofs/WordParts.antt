@@ -1,8 +1,5 @@
 -- The parts of the words of actions.
-use Rattle.fs_text.proofs.Words.{append_assoc, ◌≡◌, ℕ, ◌<◌, ◌/◌, ◌%◌, ◌^◌, List, [], ◌∷◌, ◌++◌, Bool, true, false, length, refl, sym, ap, ◌∙◌, arith, if◌then◌else◌, append-nil, All-from_recursion, mod-lt, AllByRecursion, codes, decimal, slice_index, encode_lower, encode_with, lower_digits, IsOctets, octets_head, octets_tail, Run, Delimiter, is_plain, parts_of, with_octet, ip4_parts, address_parts, v4_parts, address_text, v4_text}
-use Rattle.fs_text.specs.Pieces.{Part}
-use Rattle.fs_text.proofs.Runs.{run_first}
-use Rattle.fs_text.proofs.Numerals.{plain_digits}
+use Rattle.fs_text.{proofs.{Words.{append_assoc, ◌≡◌, ℕ, ◌<◌, ◌/◌, ◌%◌, ◌^◌, List, [], ◌∷◌, ◌++◌, Bool, true, false, length, refl, sym, ap, ◌∙◌, arith, if◌then◌else◌, append-nil, All-from_recursion, mod-lt, AllByRecursion, codes, decimal, slice_index, encode_lower, encode_with, lower_digits, IsOctets, octets_head, octets_tail, Run, Delimiter, is_plain, parts_of, with_octet, ip4_parts, address_parts, v4_parts, address_text, v4_text}, Runs.{run_first}, Numerals.{plain_digits}}, specs.Pieces.{Part}}
 
 abbrev pub IsRun : List ℕ → Type 0
 IsRun run = (0 < length run) × AllByRecursion (λ o. is_plain o ≡ true) run

@@ -2,8 +2,7 @@
 use Rattle.std.specs.Prelude.{◌≡◌, ◌<◌, ℕ, List, [], ◌∷◌, ◌++◌, Some, Option, decimal}
 use Rattle.byteorder.specs.Endian.{big_bytes}
 use Rattle.hex.specs.Hex.{encode_lower}
-use Rattle.fs_text.specs.Pieces.{Part, Delimiter, Run}
-use Rattle.fs_text.specs.PrefixParts.{address_parts}
+use Rattle.fs_text.specs.{Pieces.{Part, Delimiter, Run}, PrefixParts.{address_parts}}
 
 abbrev pub rate_parts : (id figure : ℕ) → List Part
 rate_parts id figure = Run (decimal id) ∷ Delimiter 58 ∷ Run (encode_lower (big_bytes 4 figure)) ∷ []

@@ -1,13 +1,7 @@
 -- A component by its name and its word.
-use Rattle.std.specs.Prelude.{◌≡◌, ℕ, List, Option, Some, None}
-use Rattle.std.specs.Option.{option_map}
-use Rattle.fs_base.specs.declared.prefix.Family.{Family}
-use Rattle.fs_base.specs.declared.prefix.Family.TheVariants.{V4, V6}
-use Rattle.fs_nlri.specs.declared.component.Component.{Component}
-use Rattle.fs_nlri.specs.Component.{part_of}
-use Rattle.fs_nlri.specs.Forms.{form_of}
-use Rattle.fs_nlri.specs.Parts.{Body, Part, part}
-use Rattle.fs_nlri.specs.Rule.{IsNormalAt}
+use Rattle.std.specs.{Prelude.{◌≡◌, ℕ, List, Option, Some, None}, Option.{option_map}}
+use Rattle.fs_base.specs.declared.prefix.Family.{Family, TheVariants.{V4, V6}}
+use Rattle.fs_nlri.specs.{declared.component.Component.{Component}, Component.{part_of}, Forms.{form_of}, Parts.{Body, Part, part}, Rule.{IsNormalAt}}
 use Rattle.fs_words.specs.Values.{component_name, value_text}
 
 -- what stands behind the type is of the family's form for it, and the type has this name

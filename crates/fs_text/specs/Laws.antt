@@ -1,7 +1,6 @@
 -- What a text is the text of.
 use Rattle.std.specs.Prelude.{◌≡◌, ℕ, List}
-use Rattle.fs_nlri.specs.Parts.{Ruled}
-use Rattle.fs_nlri.specs.Rule.{IsRule}
+use Rattle.fs_nlri.specs.{Parts.{Ruled}, Rule.{IsRule}}
 use Rattle.fs_words.specs.Printed.{text_of}
 use Rattle.fs_text.specs.Text.{AreActions}
 

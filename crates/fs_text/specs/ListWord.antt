@@ -1,8 +1,6 @@
 -- The words of lists, cut into pairs, and the bits of operators as sums.
 use Rattle.std.specs.Prelude.{◌+◌, ◌*◌, ℕ, ◌==◌, ◌||◌, Bool, not, bit_and, if◌then◌else◌}
-use Rattle.fs_ops.specs.declared.kind.Kind.{Kind}
-use Rattle.fs_ops.specs.declared.kind.Kind.TheVariants.{Numeric, Bitmask}
-use Rattle.fs_ops.specs.Operator.{joins, width_code}
+use Rattle.fs_ops.specs.{declared.kind.Kind.{Kind, TheVariants.{Numeric, Bitmask}}, Operator.{joins, width_code}}
 use Rattle.fs_text.specs.Pieces.{is_plain}
 
 -- neither & nor a comma

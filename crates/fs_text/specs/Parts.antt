@@ -1,7 +1,5 @@
 -- The parts of the code.
-use Rattle.fs_text.specs.declared.parts.Piece.{Piece}
-use Rattle.fs_text.specs.declared.parts.Piece.TheVariants.{Run as RunPiece, Delimiter as MarkPiece}
-use Rattle.fs_text.specs.Pieces.{Part, Run, Delimiter}
+use Rattle.fs_text.specs.{declared.parts.Piece.{Piece, TheVariants.{Run as RunPiece, Delimiter as MarkPiece}}, Pieces.{Part, Run, Delimiter}}
 
 abbrev pub as_part : Piece → Part
 as_part (RunPiece run) = Run run.now

@@ -1,6 +1,5 @@
 -- A word as runs of letters and digits, and single octets of other kinds between them.
-use Rattle.std.specs.Prelude.{◌≡◌, ℕ, List, [], ◌∷◌, Bool, false, if◌then◌else◌}
-use Rattle.std.specs.Char.{is_digit}
+use Rattle.std.specs.{Prelude.{◌≡◌, ℕ, List, [], ◌∷◌, Bool, false, if◌then◌else◌}, Char.{is_digit}}
 
 -- a letter or a digit
 abbrev pub is_plain : ℕ → Bool

@@ -1,9 +1,7 @@
 -- The parts of the words of prefixes.
 use Rattle.std.specs.Prelude.{◌≡◌, ◌<◌, ◌≤◌, ◌-◌, ◌/◌, ◌%◌, ◌^◌, ◌==◌, ℕ, List, [], ◌∷◌, Some, Option, if◌then◌else◌, decimal}
-use Rattle.fs_base.specs.declared.prefix.Family.TheVariants.{V4}
-use Rattle.fs_base.specs.Bits.{cleared}
-use Rattle.fs_nlri.specs.Parts.{Body, V4Body, V6Body}
-use Rattle.fs_nlri.specs.Spelling.{IsRange}
+use Rattle.fs_base.specs.{declared.prefix.Family.TheVariants.{V4}, Bits.{cleared}}
+use Rattle.fs_nlri.specs.{Parts.{Body, V4Body, V6Body}, Spelling.{IsRange}}
 use Rattle.fs_words.specs.Figures.{hexadecimal}
 use Rattle.fs_text.specs.Pieces.{Part, Delimiter, Run}
 

@@ -1,11 +1,9 @@
 -- How far the words of a text are read, and that whatever text begins so goes on from there.
 use Rattle.std.specs.Prelude.{◌≡◌, ℕ, List, [], ◌∷◌, ◌++◌, length, drop, codes}
 use Rattle.fs_base.specs.declared.prefix.Family.{Family}
-use Rattle.fs_nlri.specs.Parts.{Part, ruled}
-use Rattle.fs_nlri.specs.Rule.{AreNormal}
+use Rattle.fs_nlri.specs.{Parts.{Part, ruled}, Rule.{AreNormal}}
 use Rattle.fs_words.specs.Printed.{action_words, component_words, family_word, then_words, words_of}
-use Rattle.fs_text.specs.Steps.{IsEnd}
-use Rattle.fs_text.specs.Text.{AreActions}
+use Rattle.fs_text.specs.{Steps.{IsEnd}, Text.{AreActions}}
 
 abbrev pub last_kind : ℕ → List Part → ℕ
 last_kind last [] = last

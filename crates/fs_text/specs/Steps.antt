@@ -1,22 +1,10 @@
 -- A name and a value behind what was read: of components by rising types, of actions by rising octets.
-use Rattle.std.specs.Prelude.{◌≡◌, ◌<◌, ◌+◌, ◌⊎◌, ℕ, List, [], ◌∷◌, Option, Some, None, drop, codes}
-use Rattle.std.specs.List.{last_or}
-use Rattle.std.specs.Cmp.Lexicographic.{slice_cmp}
-use Rattle.std.specs.Ordering.{nat_cmp}
-use Rattle.std.specs.declared.cmp.Ordering.TheVariants.{Greater}
-use Rattle.fs_base.specs.declared.prefix.Family.{Family}
-use Rattle.fs_base.specs.Language.{IsOctets}
-use Rattle.fs_nlri.specs.Forms.{form_of}
-use Rattle.fs_nlri.specs.Parts.{Part}
-use Rattle.fs_nlri.specs.Rule.{IsNormalAt}
-use Rattle.fs_actions.specs.Community.{IsAction}
-use Rattle.fs_actions.specs.Actions.{IsAbove}
-use Rattle.fs_words.specs.Actions.{action_name, action_text}
-use Rattle.fs_words.specs.Values.{component_name, value_text}
-use Rattle.fs_text.specs.ActionWord.{IsNamed}
-use Rattle.fs_text.specs.Components.{IsPart}
-use Rattle.fs_text.specs.declared.fault.TextFault.{TextFault}
-use Rattle.fs_text.specs.declared.fault.TextFault.TheVariants.{Bad, TooLong, Memory}
+use Rattle.std.specs.{Prelude.{◌≡◌, ◌<◌, ◌+◌, ◌⊎◌, ℕ, List, [], ◌∷◌, Option, Some, None, drop, codes}, List.{last_or}, Cmp.Lexicographic.{slice_cmp}, Ordering.{nat_cmp}, declared.cmp.Ordering.TheVariants.{Greater}}
+use Rattle.fs_base.specs.{declared.prefix.Family.{Family}, Language.{IsOctets}}
+use Rattle.fs_nlri.specs.{Forms.{form_of}, Parts.{Part}, Rule.{IsNormalAt}}
+use Rattle.fs_actions.specs.{Community.{IsAction}, Actions.{IsAbove}}
+use Rattle.fs_words.specs.{Actions.{action_name, action_text}, Values.{component_name, value_text}}
+use Rattle.fs_text.specs.{ActionWord.{IsNamed}, Components.{IsPart}, declared.fault.TextFault.{TextFault, TheVariants.{Bad, TooLong, Memory}}}
 
 -- the first two words are the name and the value of this one alone
 pub record IsNext {A : Type 0} (Fits : A → Type 0) (name value : A → List ℕ) (rest tail : List (List ℕ)) (item : A) : Type 0 where
@@ -64,11 +52,15 @@ pub record GoesOn (family : Family) (last : ℕ) (name : List ℕ) : Type 0 wher
   pub part : IsPart family name given
   pub above : (own : Part) → IsPart family name own → last < own.kind
 
+-- in the order of actions it stands behind these
+abbrev pub StandsBehind : (actions : List (List ℕ)) → (action : List ℕ) → Type 0
+StandsBehind actions action = IsAbove (last_or None actions) action
+
 -- an action behind these
 pub record FitsAbove (actions : List (List ℕ)) (action : List ℕ) : Type 0 where
   pub normal : IsAction action
   pub octets : IsOctets action
-  pub above : IsAbove (last_or None actions) action
+  pub above : StandsBehind actions action
 
 -- actions of this name can stand behind these
 pub record CanStand (actions : List (List ℕ)) (name : List ℕ) : Type 0 where

@@ -1,14 +1,10 @@
 -- Whole texts: the words of a rule and its actions, and the first word with which no text goes on.
-use Rattle.std.specs.Prelude.{◌≡◌, ◌<◌, ◌≤◌, ◌+◌, ◌==◌, ◌⊎◌, ℕ, List, ◌++◌, length, take, Result, Ok, Err, IfErr, IfOk}
-use Rattle.std.specs.List.{AllByRecursion, slice_split}
-use Rattle.fs_base.specs.declared.prefix.Family.{Family}
-use Rattle.fs_base.specs.Language.{IsOctets}
-use Rattle.fs_nlri.specs.Parts.{Part, Ruled, ruled}
-use Rattle.fs_nlri.specs.Rule.{AreNormal, IsRule, canonical_value}
+use Rattle.std.specs.{Prelude.{◌≡◌, ◌<◌, ◌≤◌, ◌+◌, ◌==◌, ◌⊎◌, ℕ, List, ◌++◌, length, take, Result, Ok, Err, IfErr, IfOk}, List.{AllByRecursion, slice_split}}
+use Rattle.fs_base.specs.{declared.prefix.Family.{Family}, Language.{IsOctets}}
+use Rattle.fs_nlri.specs.{Parts.{Part, Ruled, ruled}, Rule.{AreNormal, IsRule, canonical_value}}
 use Rattle.fs_actions.specs.Actions.{IsActions}
 use Rattle.fs_words.specs.Printed.{words_of}
-use Rattle.fs_text.specs.declared.fault.TextFault.{TextFault}
-use Rattle.fs_text.specs.declared.fault.TextFault.TheVariants.{Bad, TooLong, Memory}
+use Rattle.fs_text.specs.declared.fault.TextFault.{TextFault, TheVariants.{Bad, TooLong, Memory}}
 
 -- actions by rising octets, each once
 pub record AreActions (actions : List (List ℕ)) : Type 0 where

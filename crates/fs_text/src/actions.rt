@@ -6,14 +6,11 @@ ghost use Rattle.hex.specs.Hex.{encode_lower};
 ghost use Rattle.fs_base.specs.Language.{IsOctets};
 ghost use Rattle.fs_actions.specs.Community.{IsAction};
 ghost use Rattle.fs_words.specs.Actions.{action_name, action_text};
-ghost use Rattle.fs_text.specs.ActionParts.{Gives, GivesPlain, form_parts, ip4_parts, long_octets, pair_parts, plain_parts, rate_parts, short_octets};
-ghost use Rattle.fs_text.specs.ActionWord.{Compared, IsNamed};
-ghost use Rattle.fs_text.specs.Pieces.{Delimiter, Part, Run, parts_of};
-ghost use Rattle.fs_text.specs.Reading.{Reads};
-ghost use Rattle.fs_text.specs.Parts.{as_part};
+ghost use Rattle.fs_text.specs.{ActionParts.{Gives, GivesPlain, form_parts, ip4_parts, long_octets, pair_parts, plain_parts, rate_parts, short_octets}, ActionWord.{Compared, IsNamed}, Pieces.{Delimiter, Part, Run, parts_of}, Reading.{Reads}, Parts.{as_part}};
 
-use crate::figures::{loose_address, loose_decimal, loose_figure};
+use crate::figures::{loose_decimal, loose_figure};
 use crate::parts::{Piece, parts_of};
+use crate::prefixes::loose_dotted;
 use byteorder::{BigEndian, ByteOrder};
 use fs_actions::Action;
 use fs_base::Memory;
@@ -74,55 +71,35 @@ fn octets_with(kind: u16, first: u32, last: u16) -> [u8; 8]
     octets
 }
 
-/// A number of thirty-two bits in decimal.
-fn loose_long(word: &[u8]) -> Option<u32>
-    ensures { (n : ℕ) → n < 2 ^ 32 → word.now ≡ decimal n → result ≡ Some n }
+/// The two numbers of these parts.
+fn loose_two(parts: &[Piece<'_>]) -> Option<(u64, u64)>
+    ensures { (first last : ℕ) → first < 2 ^ 64 → last < 2 ^ 64 → map as_part parts.now ≡ pair_parts first last
+        → result ≡ Some (first, last) }
 {
-    u32::try_from(loose_decimal(word)?).ok()
+    match parts {
+        [Piece::Run(first), _, Piece::Run(last)] => {
+            Some((loose_decimal(first)?, loose_decimal(last)?))
+        }
+        _ => None,
+    }
 }
 
 /// The octets of an rt-redirect with a two-octet AS number.
 fn loose_as2(parts: &[Piece<'_>]) -> Option<[u8; 8]>
     ensures { Gives (2 ^ 16) (2 ^ 32) pair_parts (short_octets 0x8008) (map as_part parts.now) result }
 {
-    match parts {
-        [Piece::Run(asn), Piece::Delimiter(b':'), Piece::Run(number)] => {
-            Some(octets_of(0x8008, loose_short(asn)?, loose_long(number)?))
-        }
-        _ => None,
-    }
+    let (asn, number) = loose_two(parts)?;
+    let asn = u16::try_from(asn).ok()?;
+    Some(octets_of(0x8008, asn, u32::try_from(number).ok()?))
 }
 
-/// The octets of an rt-redirect with a four-octet AS number.
-fn loose_as4(parts: &[Piece<'_>]) -> Option<[u8; 8]>
-    ensures { Gives (2 ^ 32) (2 ^ 16) pair_parts (long_octets 0x8208) (map as_part parts.now) result }
+/// The octets of an rt-redirect of this type with a number of four octets and one of two.
+fn loose_long(kind: u16, numbers: Option<(u64, u64)>) -> Option<[u8; 8]>
+    ensures { (first last : ℕ) → first < 2 ^ 32 → last < 2 ^ 16 → numbers ≡ Some (first, last)
+        → result ≡ Some (long_octets kind first last) }
 {
-    match parts {
-        [Piece::Run(asn), Piece::Delimiter(b':'), Piece::Run(number)] => {
-            Some(octets_with(0x8208, loose_long(asn)?, loose_short(number)?))
-        }
-        _ => None,
-    }
-}
-
-/// The octets of an rt-redirect with an IPv4 address.
-fn loose_ip4(parts: &[Piece<'_>]) -> Option<[u8; 8]>
-    ensures { Gives (2 ^ 32) (2 ^ 16) ip4_parts (long_octets 0x8108) (map as_part parts.now) result }
-{
-    match parts {
-        [
-            Piece::Run(a),
-            Piece::Delimiter(b'.'),
-            Piece::Run(b),
-            Piece::Delimiter(b'.'),
-            Piece::Run(c),
-            Piece::Delimiter(b'.'),
-            Piece::Run(d),
-            Piece::Delimiter(b':'),
-            Piece::Run(number),
-        ] => { Some(octets_with(0x8108, loose_address(a, b, c, d)?, loose_short(number)?)) }
-        _ => None,
-    }
+    let (first, last) = numbers?;
+    Some(octets_with(kind, u32::try_from(first).ok()?, u16::try_from(last).ok()?))
 }
 
 /// The octets of an rt-redirect of this form.
@@ -136,8 +113,8 @@ fn loose_form(form: &[u8], parts: &[Piece<'_>]) -> Option<[u8; 8]>
 {
     match form {
         b"as2" => loose_as2(parts),
-        b"ip4" => loose_ip4(parts),
-        b"as4" => loose_as4(parts),
+        b"ip4" => loose_long(0x8108, loose_dotted(parts)),
+        b"as4" => loose_long(0x8208, loose_two(parts)),
         _ => None,
     }
 }

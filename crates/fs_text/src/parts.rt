@@ -1,9 +1,7 @@
 //! A word as runs of letters and digits, and single octets of other kinds between them.
 
-ghost use Rattle.std.specs.Prelude.{◌≡◌, ◌<◌, ◌≤◌, ◌∷◌, length, map, IfOk};
-ghost use Rattle.std.specs.List.{prefix_len};
-ghost use Rattle.fs_text.specs.Pieces.{is_plain, parts_of};
-ghost use Rattle.fs_text.specs.Parts.{as_part};
+ghost use Rattle.std.specs.{Prelude.{◌≡◌, ◌<◌, ◌≤◌, ◌∷◌, length, map, IfOk}, List.{prefix_len}};
+ghost use Rattle.fs_text.specs.{Pieces.{is_plain, parts_of}, Parts.{as_part}};
 
 use fs_base::Memory;
 use std::alloc::Global;

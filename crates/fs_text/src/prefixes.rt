@@ -1,26 +1,17 @@
 //! The words of prefixes, read loosely (RFC 8955 section 4.2.2.1, RFC 8956 section 3.1).
 
-ghost use Rattle.std.specs.Prelude.{◌≡◌, ◌-◌, ◌/◌, ◌%◌, ◌<◌, ◌≤◌, ◌^◌, ◌∷◌, [], ℕ, List, map, decimal, Some, IfNone, IfSome};
-ghost use Rattle.std.specs.Option.{option_map};
-ghost use Rattle.fs_base.specs.Bits.{cleared};
-ghost use Rattle.fs_base.specs.declared.prefix.Family.TheVariants.{V4 as Four};
-ghost use Rattle.fs_nlri.specs.Component.{body_of};
-ghost use Rattle.fs_nlri.specs.Forms.{prefix_form};
-ghost use Rattle.fs_nlri.specs.Parts.{Body, V4Body, V6Body};
-ghost use Rattle.fs_nlri.specs.Rule.{IsNormalBody};
-ghost use Rattle.fs_nlri.specs.Spelling.{IsRange};
-ghost use Rattle.fs_words.specs.Figures.{hexadecimal};
-ghost use Rattle.fs_words.specs.Values.{body_text};
-ghost use Rattle.fs_text.specs.Pieces.{Delimiter, Part, Run, parts_of};
-ghost use Rattle.fs_text.specs.PrefixParts.{GivesV4, GivesV6, half_parts, range_parts, v4_parts, wide_parts};
-ghost use Rattle.fs_text.specs.Parts.{as_part};
+ghost use Rattle.std.specs.{Prelude.{◌≡◌, ◌-◌, ◌/◌, ◌%◌, ◌<◌, ◌≤◌, ◌^◌, ◌∷◌, [], ℕ, List, map, decimal, Some, IfNone, IfSome}, Option.{option_map}};
+ghost use Rattle.fs_base.specs.{Bits.{cleared}, declared.prefix.Family.TheVariants.{V4 as Four}};
+ghost use Rattle.fs_nlri.specs.{Component.{body_of}, Forms.{prefix_form}, Parts.{Body, V4Body, V6Body}, Rule.{IsNormalBody}, Spelling.{IsRange}};
+ghost use Rattle.fs_words.specs.{Figures.{hexadecimal}, Values.{body_text}};
+ghost use Rattle.fs_text.specs.{Pieces.{Delimiter, Part, Run, parts_of}, PrefixParts.{GivesV4, GivesV6, address_parts, half_parts, range_parts, wide_parts}, Parts.{as_part}};
 
-use crate::figures::{loose_address, loose_group, loose_octet};
+use crate::figures::{loose_address, loose_decimal, loose_group, loose_octet};
 use crate::parts::Piece;
 use fs_base::{Family, Prefix};
 use fs_nlri::PrefixForm;
 
-fn v4_form(address: u32, length: u8) -> Option<PrefixForm>
+fn v4_form(address: u64, length: u8) -> Option<PrefixForm>
     ensures { length ≤ 32 → address ≡ cleared 32 length address
         → option_map body_of result ≡ Some (V4Body Four length address) }
 {
@@ -28,23 +19,23 @@ fn v4_form(address: u32, length: u8) -> Option<PrefixForm>
     Some(PrefixForm::V4(prefix))
 }
 
-/// The address and the length of these parts.
-fn loose_dotted(parts: &[Piece<'_>]) -> Option<(u32, u8)>
-    ensures { (len bits : ℕ) → len < 256 → bits < 2 ^ 32 → map as_part parts.now ≡ v4_parts len bits
-        → result ≡ Some (bits, len) }
+/// The address and the number of these parts.
+pub(crate) fn loose_dotted(parts: &[Piece<'_>]) -> Option<(u64, u64)>
+    ensures { (mark address number : ℕ) → address < 2 ^ 32 → number < 2 ^ 64
+        → map as_part parts.now ≡ address_parts mark address number → result ≡ Some (address, number) }
 {
     match parts {
         [
             Piece::Run(a),
-            Piece::Delimiter(b'.'),
+            Piece::Delimiter(_),
             Piece::Run(b),
-            Piece::Delimiter(b'.'),
+            Piece::Delimiter(_),
             Piece::Run(c),
-            Piece::Delimiter(b'.'),
+            Piece::Delimiter(_),
             Piece::Run(d),
-            Piece::Delimiter(b'/'),
-            Piece::Run(length),
-        ] => Some((loose_address(a, b, c, d)?, loose_octet(length)?)),
+            Piece::Delimiter(_),
+            Piece::Run(number),
+        ] => Some((loose_address(a, b, c, d)?.into(), loose_decimal(number)?)),
         _ => None,
     }
 }
@@ -54,7 +45,7 @@ fn loose_v4(parts: &[Piece<'_>]) -> Option<PrefixForm>
     ensures { GivesV4 (map as_part parts.now) (option_map body_of result) }
 {
     let (address, length) = loose_dotted(parts)?;
-    v4_form(address, length)
+    v4_form(address, u8::try_from(length).ok()?)
 }
 
 /// The number of four groups of sixteen bits.

@@ -1,13 +1,8 @@
 //! The next component and the next action among the words of a text.
 
-ghost use Rattle.std.specs.Prelude.{◌≡◌, ◌<◌, ◌≤◌, ◌+◌, ◌∷◌, [], ℕ, List, None as Nothing, codes, drop, false, length, map, true, Some, IfErr, IfNone, IfOk, IfSome};
-ghost use Rattle.fs_actions.specs.Actions.{IsAbove};
-ghost use Rattle.std.specs.List.{last_or};
-ghost use Rattle.fs_nlri.specs.Component.{part_of};
-ghost use Rattle.fs_nlri.specs.Parts.{Part};
-ghost use Rattle.fs_text.specs.ActionWord.{IsNamed};
-ghost use Rattle.fs_text.specs.Components.{IsPart};
-ghost use Rattle.fs_text.specs.Steps.{CanStand, GoesOn, HasGreatest, IsActionFault, IsEnd, IsNextAction, IsNextPart, IsNoEnd, IsPartFault, ReadsAbove};
+ghost use Rattle.std.specs.Prelude.{◌≡◌, ◌<◌, ◌≤◌, ◌+◌, ◌∷◌, [], ℕ, List, codes, drop, false, length, map, true, Some, IfErr, IfNone, IfOk, IfSome};
+ghost use Rattle.fs_nlri.specs.{Component.{part_of}, Parts.{Part}};
+ghost use Rattle.fs_text.specs.{ActionWord.{IsNamed}, Components.{IsPart}, Steps.{CanStand, GoesOn, HasGreatest, IsActionFault, IsEnd, IsNextAction, IsNextPart, IsNoEnd, IsPartFault, ReadsAbove, StandsBehind}};
 
 use crate::actions::read_action;
 use crate::fault::TextFault;
@@ -110,8 +105,8 @@ fn greatest(name: &str) -> Option<Action>
 
 /// The action, if it can stand behind these.
 fn above(actions: &Actions, action: Action) -> Option<Action>
-    ensures some { IfSome result (λ same. (same ≡ action) × IsAbove (last_or Nothing actions.now) action) }
-    ensures none { IfNone result (IsAbove (last_or Nothing actions.now) action → ⊥) }
+    ensures some { IfSome result (λ same. (same ≡ action) × StandsBehind actions.now action) }
+    ensures none { IfNone result (StandsBehind actions.now action → ⊥) }
 {
     if actions.goes_behind(&action) {
         Some(action)
@@ -123,8 +118,7 @@ fn above(actions: &Actions, action: Action) -> Option<Action>
 /// Whether some action of this name can stand behind these.
 fn can_stand(actions: &Actions, name: &str) -> bool
     ensures yes { result ≡ true → CanStand actions.now name.now }
-    ensures no { result ≡ false → (action : List ℕ) → IsNamed name.now action
-        → IsAbove (last_or Nothing actions.now) action → ⊥ }
+    ensures no { result ≡ false → (action : List ℕ) → IsNamed name.now action → StandsBehind actions.now action → ⊥ }
 {
     match greatest(name) {
         Some(action) => actions.goes_behind(&action),

@@ -2,12 +2,9 @@
 
 ghost use Rattle.std.specs.Prelude.{◌≡◌, ◌≤◌, [], ℕ, List, IfErr, IfNone, IfOk, IfSome, length, map};
 ghost use Rattle.fs_base.specs.declared.prefix.Family.{Family as AnyFamily};
-ghost use Rattle.fs_nlri.specs.Component.{parts_of};
-ghost use Rattle.fs_nlri.specs.Parts.{Part, Ruled};
-ghost use Rattle.fs_nlri.specs.Rule.{AreNormal, IsRule};
+ghost use Rattle.fs_nlri.specs.{Component.{parts_of}, Parts.{Part, Ruled}, Rule.{AreNormal, IsRule}};
 ghost use Rattle.fs_words.specs.Printed.{family_word, text_of};
-ghost use Rattle.fs_text.specs.Text.{AreActions, IsTextFault, IsWhole, IsWordFault, Makes, ReadsAs, ReadsWords, words_in};
-ghost use Rattle.fs_text.specs.Progress.{Acts, AreAll, Led};
+ghost use Rattle.fs_text.specs.{Text.{AreActions, IsTextFault, IsWhole, IsWordFault, Makes, ReadsAs, ReadsWords, words_in}, Progress.{Acts, AreAll, Led}};
 
 use crate::fault::TextFault;
 use crate::steps::{at_end, next_action, next_component, word_at};

@@ -1,23 +1,18 @@
 //! The words of components, read (RFC 8955 section 4.2.2, RFC 8956 section 3).
 
-ghost use Rattle.std.specs.Prelude.{◌≡◌, ◌<◌, ◌≤◌, ℕ, List, Some, IfOk};
-ghost use Rattle.std.specs.Option.{option_map};
+ghost use Rattle.std.specs.{Prelude.{◌≡◌, ◌<◌, ◌≤◌, ℕ, List, Some, IfOk}, Option.{option_map}};
 ghost use Rattle.fs_ops.specs.OperatorList.{IsNormal};
-ghost use Rattle.fs_nlri.specs.Component.{body_of, part_of};
-ghost use Rattle.fs_nlri.specs.Parts.{ListBody, part};
-ghost use Rattle.fs_nlri.specs.Sound.{IsSoundBody};
-ghost use Rattle.fs_words.specs.Operators.{list_text};
-ghost use Rattle.fs_words.specs.Values.{component_name, list_kind, value_text};
-ghost use Rattle.fs_text.specs.Components.{Compared, IsPart, IsTypeNamed, Loosely, Matched, last_type};
-ghost use Rattle.fs_text.specs.Reading.{Reads};
+ghost use Rattle.fs_nlri.specs.{Component.{body_of, part_of}, Parts.{ListBody, part}, Sound.{IsSoundBody}};
+ghost use Rattle.fs_words.specs.{Operators.{list_text}, Values.{component_name, list_kind, value_text}};
+ghost use Rattle.fs_text.specs.{Components.{Compared, IsPart, IsTypeNamed, Loosely, Matched, last_type}, Reading.{Reads}};
 
 use crate::lists::loose_pairs;
 use crate::parts::parts_of;
 use crate::prefixes::loose_prefix;
 use fs_base::{Family, Memory};
 use fs_nlri::{Component, PrefixForm};
-use fs_ops::{Kind, MaskList, NumList};
-use fs_words::{component_name, print_value};
+use fs_ops::{MaskList, NumList};
+use fs_words::{component_name, list_kind, print_value};
 use std::alloc::Global;
 
 /// The type that has this name.
@@ -61,17 +56,6 @@ pub fn component_type(family: Family, name: &str) -> Option<u8>
         Some(kind)
     } else {
         None
-    }
-}
-
-/// What the list of a type does.
-fn list_kind(kind: u8) -> Kind
-    ensures { result ≡ list_kind kind }
-{
-    if kind == 9 || kind == 12 {
-        Kind::Bitmask
-    } else {
-        Kind::Numeric
     }
 }
 

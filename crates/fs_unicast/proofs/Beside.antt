@@ -1,7 +1,5 @@
 -- The routes and the turns beside a place, as ranges of the maps give them.
-use Rattle.fs_unicast.proofs.Words.{◌≡◌, refl, sym, ap, ◌∙◌, Bool, true, false, not, ◌&&◌, List, map, filter, find, slice_get, Option, Some, None, Less, is_le, is_lt, last_or, IsStrictlySortedBy, range_contains, Included, Excluded, Unbounded, and_false, and_true, each, each_weaker, filter_on, find_on, Place, place_cmp, find_last, later}
-use Rattle.fs_unicast.proofs.PlaceOrder.{below_not_upto, falsified, upto_below}
-use Rattle.fs_unicast.proofs.Finding.{first_filtered, last_filtered, find_none, none_found, after_found}
+use Rattle.fs_unicast.proofs.{Words.{◌≡◌, refl, sym, ap, ◌∙◌, Bool, true, false, not, ◌&&◌, List, map, filter, find, slice_get, Option, Some, None, Less, is_le, is_lt, last_or, IsStrictlySortedBy, range_contains, Included, Excluded, Unbounded, and_false, and_true, each, each_weaker, filter_on, find_on, Place, place_cmp, find_last, later}, PlaceOrder.{below_not_upto, falsified, upto_below}, Finding.{first_filtered, last_filtered, find_none, none_found, after_found}}
 
 module _ {X : Type 0} (key : X → Place) (xs : List X) where
   first_on : (test other : X → Bool) → ((x : X) → test x ≡ other x) → (found : List X) → found ≡ filter test xs → slice_get found 0 ≡ find other xs

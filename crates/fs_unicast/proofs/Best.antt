@@ -1,9 +1,6 @@
 -- The best of some routes is one of them, and none of them is preferred to it.
-use Rattle.std.proofs.Common.{MatchOption}
-use Rattle.fs_unicast.proofs.Words.{ℕ, ◌≡◌, refl, sym, ap, ◌∙◌, cond, ◌⊎◌, inl, inr, Bool, true, false, true≢false, List, [], ◌∷◌, Option, Some, None, fold, Ordering, Less, Equal, Greater, is_lt, Contains, ordering_reverse, IsTotalOrder, alike_right, tied_itself, on_total, then_total, nat_cmp_total, bool_cmp_total, Path, less_of_is_lt, path_length, preference_cmp, preferred, better, best_of}
-use Rattle.std.proofs.lemmas.Cmp.{back_total}
-use Rattle.std.proofs.lemmas.List.Elements.{Contains-push, Contains-append_left, Contains-append_right, Contains-append_cases}
-use Rattle.fs_unicast.specs.Laws.{IsMostPreferred, IsBest}
+use Rattle.std.proofs.{Common.{MatchOption}, lemmas.{Cmp.{back_total}, List.Elements.{Contains-push, Contains-append_left, Contains-append_right, Contains-append_cases}}}
+use Rattle.fs_unicast.{proofs.Words.{ℕ, ◌≡◌, refl, sym, ap, ◌∙◌, cond, ◌⊎◌, inl, inr, Bool, true, false, true≢false, List, [], ◌∷◌, Option, Some, None, fold, Ordering, Less, Equal, Greater, is_lt, Contains, ordering_reverse, IsTotalOrder, alike_right, tied_itself, on_total, then_total, nat_cmp_total, bool_cmp_total, Path, less_of_is_lt, path_length, preference_cmp, preferred, better, best_of}, specs.Laws.{IsMostPreferred, IsBest}}
 
 pub preference_total : IsTotalOrder preference_cmp
 preference_total = then_total (back_total (on_total (λ (r : ℕ × Path). r.1.local_pref) nat_cmp_total)) (then_total (on_total (λ (r : ℕ × Path). path_length r.1.segments) nat_cmp_total)

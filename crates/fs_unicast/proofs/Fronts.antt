@@ -1,8 +1,7 @@
 -- The first prefix from another on that has a route: its routes stand in front of the range, and where it isn't one under
 -- the prefix under which the range begins, nothing lies under that one.
 use Rattle.std.proofs.Common.{IfSome}
-use Rattle.fs_unicast.proofs.Words.{ℕ, ◌≡◌, refl, sym, ap, subst, ◌∙◌, Bool, true, false, true≢false, not, ◌&&◌, List, ◌∷◌, cond, None, filter, map, fold, Ordering, Less, Equal, Greater, is_eq, is_le, Option, Some, [], AllByRecursion, IsStrictlySortedBy, keys_of, ordering_reverse, tied_itself, alike_right, range_contains, entries_between, Included, Unbounded, Prefix, covers, prefix_cmp, prefix_total, IsFirst, IsLongest, and_both, and_first, and_second, false_from, false_of_not, same_tests, covered_before, alike_covers, covers_self, each_weaker, each_none, none_each, filter_on, same_from_cmp, Seeking, seeking_starts, seeking_ends, seeking_found, seeking_more, seeking_apart, Path, better, preferred, Route, place_cmp, AreCoversOver, IsFront, candidate, is_same_prefix, is_strictly_under, is_other, is_other_route, best_at, best_match_of, others_under}
-use Rattle.fs_unicast.proofs.Ranges.{place, first_in_range, front_range, best_starts, from_test, no_best}
+use Rattle.fs_unicast.proofs.{Words.{ℕ, ◌≡◌, refl, sym, ap, subst, ◌∙◌, Bool, true, false, true≢false, not, ◌&&◌, List, ◌∷◌, cond, None, filter, map, fold, Ordering, Less, Equal, Greater, is_eq, is_le, Option, Some, [], AllByRecursion, IsStrictlySortedBy, keys_of, ordering_reverse, tied_itself, alike_right, range_contains, entries_between, Included, Unbounded, Prefix, covers, prefix_cmp, prefix_total, IsFirst, IsLongest, and_both, and_first, and_second, false_from, false_of_not, same_tests, covered_before, alike_covers, covers_self, each_weaker, each_none, none_each, filter_on, same_from_cmp, Seeking, seeking_starts, seeking_ends, seeking_found, seeking_more, seeking_apart, Path, better, preferred, Route, place_cmp, AreCoversOver, IsFront, candidate, is_same_prefix, is_strictly_under, is_other, is_other_route, best_at, best_match_of, others_under}, Ranges.{place, first_in_range, front_range, best_starts, from_test, no_best}}
 
 pub upto_upto : (x y z : Prefix) → is_le (prefix_cmp x y) ≡ true → is_le (prefix_cmp y z) ≡ true → is_le (prefix_cmp x z) ≡ true
 upto_upto x y z h k = at (prefix_cmp x y) refl h (prefix_cmp y z) refl k where

@@ -1,10 +1,6 @@
 -- Turns that are taken away: from between two routes where it parts no others, and from the gap that a route leaves.
-use Rattle.fs_unicast.proofs.Words.{ℕ, ◌≡◌, ◌⊎◌, inl, inr, refl, sym, ap, subst, ◌∙◌, Bool, true, false, true≢false, cond, not, ◌&&◌, ◌||◌, List, [], ◌∷◌, find, filter, map-id, Option, Some, None, Ordering, Less, Equal, Greater, is_eq, is_le, is_lt, IfSome, AllByRecursion, list_any, list_all, IsStrictlySortedBy, is_at, range_contains, Included, Excluded, keys_of, remove_entry, lookup, ap₂, same_Some, or_first, or_second, false_from, each, each_weaker, each_both, each_remove, any_each, all_on, find_on, equal_of_is_eq, Path, Place, neighbour, Route, place_cmp, neighbour_of, is_same, is_before, is_after, is_at_or_after, lies_between, are_parted, is_alone, are_alike, names, without, find_last, PartsAt, IsPartedFrom, IsPartedTo, IsPartedAfter, IsPartedBefore, IsParted, IsLastUpto}
-use Rattle.std.specs.Set.{remove_key}
-use Rattle.std.proofs.lemmas.Map.{none_passes_from_lookup}
-use Rattle.fs_unicast.proofs.PlaceOrder.{lt, le, lies_in, lies_above, lies_upto, apart, never, exact_place, below_upto, upto_upto, lt_le, upto_itself, below_not_upto, equal_upto, equal_back}
-use Rattle.fs_unicast.proofs.Finding.{found_each, found_passes, last_each, last_passes, no_last, after_found, before_last}
-use Rattle.fs_unicast.proofs.Parting.{same_is, same_itself, wider, Fore, Aft, fores, afts}
+use Rattle.fs_unicast.proofs.{Words.{ℕ, ◌≡◌, ◌⊎◌, inl, inr, refl, sym, ap, subst, ◌∙◌, Bool, true, false, true≢false, cond, not, ◌&&◌, ◌||◌, List, [], ◌∷◌, find, filter, map-id, Option, Some, None, Ordering, Less, Equal, Greater, is_eq, is_le, is_lt, IfSome, AllByRecursion, list_any, list_all, IsStrictlySortedBy, is_at, range_contains, Included, Excluded, keys_of, remove_entry, lookup, ap₂, same_Some, or_first, or_second, false_from, each, each_weaker, each_both, each_remove, any_each, all_on, find_on, equal_of_is_eq, Path, Place, neighbour, Route, place_cmp, neighbour_of, is_same, is_before, is_after, is_at_or_after, lies_between, are_parted, is_alone, are_alike, names, without, find_last, PartsAt, IsPartedFrom, IsPartedTo, IsPartedAfter, IsPartedBefore, IsParted, IsLastUpto}, PlaceOrder.{lt, le, lies_in, lies_above, lies_upto, apart, never, exact_place, below_upto, upto_upto, lt_le, upto_itself, below_not_upto, equal_upto, equal_back}, Finding.{found_each, found_passes, last_each, last_passes, no_last, after_found, before_last}, Parting.{same_is, same_itself, wider, Fore, Aft, fores, afts}}
+use Rattle.std.{specs.Set.{remove_key}, proofs.lemmas.Map.{none_passes_from_lookup}}
 
 any_removed : (b e : Place → Bool) (ts : List Place) → list_any b (remove_key e ts) ≡ true → list_any b ts ≡ true
 any_removed b e [] h = h

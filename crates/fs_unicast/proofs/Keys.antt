@@ -1,9 +1,7 @@
 -- The last address of a prefix and its length tell the prefix.
 use Rattle.fs_unicast.proofs.Words.{ℕ, ◌≡◌, ◌+◌, ◌-◌, ◌*◌, ◌/◌, ◌%◌, ◌^◌, ◌<◌, ◌≤◌, refl, sym, ap, subst, ◌∙◌, min, arith, Prefix, width_of, afi_of, cleared, prefix_of, last_address, same_prefix, IsKey, family_of, joined, high_of, low_of, last_of, least}
 use Rattle.std.proofs.lemmas.Nat.{pow_pos, shr_split}
-use Rattle.fs_base.specs.declared.prefix.Family.{Family}
-use Rattle.fs_base.specs.declared.prefix.Family.TheVariants.{V4, V6}
-use Rattle.fs_base.proofs.Blocks.{IsBlock, block_of, block_meeting}
+use Rattle.fs_base.{specs.declared.prefix.Family.{Family, TheVariants.{V4, V6}}, proofs.Blocks.{IsBlock, block_of, block_meeting}}
 
 -- the last address of a block is a block by itself
 last_block : (w n b : ℕ) → IsBlock w n b → IsBlock w w (b + 2 ^ (w - n) - 1)

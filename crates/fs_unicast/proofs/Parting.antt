@@ -1,8 +1,6 @@
 -- Turns part the routes of other neighbouring ASes, after each change.
-use Rattle.fs_unicast.proofs.Words.{◌↔◌, ℕ, ◌⊎◌, inl, inr, suc, zero, length, ◌≡◌, refl, sym, ap, subst, ◌∙◌, Bool, true, false, true≢false, ◌||◌, List, [], ◌∷◌, find, Option, Some, None, Ordering, Less, Equal, Greater, is_eq, is_le, is_lt, cond, option_map, arith, AllByRecursion, list_any, IsStrictlySortedBy, match_ordering, insert_entry, tied_itself, keys_of, nat_tests, or_first, or_second, each, each_weaker, each_both, any_weaker, Path, Place, neighbour, Route, place_cmp, neighbour_of, is_same, is_before, is_after, is_at_or_after, lies_between, are_parted, IsPartedFrom, IsPartedTo, IsPartedAfter, IsPartedBefore, IsParted, StaysParted, PartsAt, IsPartedAt, is_alike, stands_at, find_last, same_Some, equal_of_is_eq}
+use Rattle.fs_unicast.proofs.{Words.{◌↔◌, ℕ, ◌⊎◌, inl, inr, suc, zero, length, ◌≡◌, refl, sym, ap, subst, ◌∙◌, Bool, true, false, true≢false, ◌||◌, List, [], ◌∷◌, find, Option, Some, None, Ordering, Less, Equal, Greater, is_eq, is_le, is_lt, cond, option_map, arith, AllByRecursion, list_any, IsStrictlySortedBy, match_ordering, insert_entry, tied_itself, keys_of, nat_tests, or_first, or_second, each, each_weaker, each_both, any_weaker, Path, Place, neighbour, Route, place_cmp, neighbour_of, is_same, is_before, is_after, is_at_or_after, lies_between, are_parted, IsPartedFrom, IsPartedTo, IsPartedAfter, IsPartedBefore, IsParted, StaysParted, PartsAt, IsPartedAt, is_alike, stands_at, find_last, same_Some, equal_of_is_eq}, PlaceOrder.{place_total, lt, le, lies_in, lies_above, lies_upto, below_upto, upto_below, upto_upto, lt_le, upto_itself, equal_upto, equal_back}, Finding.{found_each, found_passes, none_found, find_none, find_narrower, after_found, last_each, last_passes, no_last, before_last}}
 use Rattle.std.specs.BTreeSet.{insert_key}
-use Rattle.fs_unicast.proofs.PlaceOrder.{place_total, lt, le, lies_in, lies_above, lies_upto, below_upto, upto_below, upto_upto, lt_le, upto_itself, equal_upto, equal_back}
-use Rattle.fs_unicast.proofs.Finding.{found_each, found_passes, none_found, find_none, find_narrower, after_found, last_each, last_passes, no_last, before_last}
 
 pub same_is : (a b : Option ℕ) → is_same a b ≡ true → a ≡ b
 same_is None None h = refl

@@ -1,7 +1,6 @@
 -- The order of places.
 use Rattle.fs_unicast.proofs.Words.{◌≡◌, ◌⊎◌, inl, inr, refl, sym, ap, ◌∙◌, Bool, true, false, true≢false, not, Ordering, Less, Equal, Greater, is_eq, is_le, is_lt, ordering_reverse, ordering_then, IsTotalOrder, alike_right, tied_itself, on_total, then_total, nat_cmp_total, and_both, and_first, and_second, true_of_not, ap₂, prefix_cmp, prefix_total, equal_of_is_eq, less_of_is_lt, same_from_cmp, Place, place_cmp, lies_between}
-use Rattle.std.specs.Ordering.{nat_cmp}
-use Rattle.std.proofs.lemmas.Map.Lookups.{exact_unsigned}
+use Rattle.std.{specs.Ordering.{nat_cmp}, proofs.lemmas.Map.Lookups.{exact_unsigned}}
 
 pub place_total : IsTotalOrder place_cmp
 place_total = then_total (on_total (λ p. p.prefix) prefix_total) (on_total (λ p. p.peer) nat_cmp_total)

@@ -1,6 +1,5 @@
 -- The ranges of places that a look-up goes over.
-use Rattle.fs_unicast.proofs.Words.{ℕ, ◌≡◌, ◌≤◌, refl, sym, ap, subst, ◌∙◌, Bool, true, false, true≢false, cond, not, ◌&&◌, ◌||◌, nat_le, ◌==◌, find, option_map, List, [], ◌∷◌, Some, None, filter, map, Option, Ordering, Less, Equal, Greater, is_eq, is_le, is_lt, nat_cmp, arith, AllByRecursion, list_any, list_all, IsStrictlySortedBy, keys_of, ordering_then, ordering_reverse, tied_itself, nat_cmp_total, alike_right, nat_tests, range_contains, entries_between, Included, Excluded, Unbounded, and_both, and_parts, or_implied, or_implies, same_tests, Prefix, covers, prefix_cmp, prefix_total, filter_on, filter_none, filter_first, filter_empty, find_filter, find_on, IsLeast, each, each_weaker, each_of_map, each_all, all_each, any_each, any_on, any_weaker, each_filtered, filter_filtered, alike, alike_covers, covers_nested, covers_same_length, IsFirst, IsLongest, sorted_head, sorted_tail, is_eq_of_first, Place, Route, place_cmp, IsFront, is_same_prefix, is_strictly_under, is_other, others_under, best_at, best_match_of, is_longest, is_from, held_by, candidate, start_of, is_within, best_of}
-use Rattle.fs_unicast.proofs.PlaceOrder.{below_not_upto}
+use Rattle.fs_unicast.proofs.{Words.{ℕ, ◌≡◌, ◌≤◌, refl, sym, ap, subst, ◌∙◌, Bool, true, false, true≢false, cond, not, ◌&&◌, ◌||◌, nat_le, ◌==◌, find, option_map, List, [], ◌∷◌, Some, None, filter, map, Option, Ordering, Less, Equal, Greater, is_eq, is_le, is_lt, nat_cmp, arith, AllByRecursion, list_any, list_all, IsStrictlySortedBy, keys_of, ordering_then, ordering_reverse, tied_itself, nat_cmp_total, alike_right, nat_tests, range_contains, entries_between, Included, Excluded, Unbounded, and_both, and_parts, or_implied, or_implies, same_tests, Prefix, covers, prefix_cmp, prefix_total, filter_on, filter_none, filter_first, filter_empty, find_filter, find_on, IsLeast, each, each_weaker, each_of_map, each_all, all_each, any_each, any_on, any_weaker, each_filtered, filter_filtered, alike, alike_covers, covers_nested, covers_same_length, IsFirst, IsLongest, sorted_head, sorted_tail, is_eq_of_first, Place, Route, place_cmp, IsFront, is_same_prefix, is_strictly_under, is_other, others_under, best_at, best_match_of, is_longest, is_from, held_by, candidate, start_of, is_within, best_of}, PlaceOrder.{below_not_upto}}
 
 abbrev pub place : Prefix → ℕ → Place
 place p n = record { prefix = p; peer = n }

@@ -1,8 +1,5 @@
 -- The search for a route with another neighbouring AS, from turn to turn.
-use Rattle.fs_unicast.proofs.Words.{ℕ, ◌≡◌, ◌+◌, ◌<◌, ◌≤◌, refl, sym, ap, subst, ◌∙◌, Bool, true, false, true≢false, cond, not, ◌&&◌, ◌||◌, List, [], ◌∷◌, find, map-id, Option, Some, None, is_le, is_lt, arith, AllByRecursion, list_any, IsStrictlySortedBy, keys_of, and_both, and_first, and_second, each, each_weaker, each_both, each_none, any_each, Path, Place, neighbour, is_other, Route, place_cmp, neighbour_of, is_same, is_within, is_inside, lies_between, are_parted, IsPartedFrom, IsPartedAfter, IsParted}
-use Rattle.fs_unicast.proofs.PlaceOrder.{lt, le, lies_above, lies_upto, below_upto, falsified, upto_below, upto_upto, lt_le, below_itself, upto_itself}
-use Rattle.fs_unicast.proofs.Finding.{found_each, found_passes, none_found, any_found, after_found}
-use Rattle.fs_unicast.proofs.Parting.{same_is}
+use Rattle.fs_unicast.proofs.{Words.{ℕ, ◌≡◌, ◌+◌, ◌<◌, ◌≤◌, refl, sym, ap, subst, ◌∙◌, Bool, true, false, true≢false, cond, not, ◌&&◌, ◌||◌, List, [], ◌∷◌, find, map-id, Option, Some, None, is_le, is_lt, arith, AllByRecursion, list_any, IsStrictlySortedBy, keys_of, and_both, and_first, and_second, each, each_weaker, each_both, each_none, any_each, Path, Place, neighbour, is_other, Route, place_cmp, neighbour_of, is_same, is_within, is_inside, lies_between, are_parted, IsPartedFrom, IsPartedAfter, IsParted}, PlaceOrder.{lt, le, lies_above, lies_upto, below_upto, falsified, upto_below, upto_upto, lt_le, below_itself, upto_itself}, Finding.{found_each, found_passes, none_found, any_found, after_found}, Parting.{same_is}}
 
 abbrev pub count : (Place → Bool) → List Place → ℕ
 count p [] = 0

@@ -1,10 +1,6 @@
 -- Prefixes as keys: the number of the family, the last address in the place of the first, and the length.
-use Rattle.std.specs.Prelude.{ℕ, ◌≡◌, ◌≤◌, ◌+◌, ◌*◌, ◌/◌, ◌%◌, ◌^◌, ◌==◌, if◌then◌else◌, min}
-use Rattle.std.proofs.Common.{arith}
-use Rattle.fs_base.specs.declared.prefix.Family.{Family}
-use Rattle.fs_base.specs.declared.prefix.Family.TheVariants.{V4, V6}
-use Rattle.fs_base.specs.Bits.{width_of, afi_of}
-use Rattle.fs_base.specs.Prefix.{prefix_of, last_address}
+use Rattle.std.{specs.Prelude.{ℕ, ◌≡◌, ◌≤◌, ◌+◌, ◌*◌, ◌/◌, ◌%◌, ◌^◌, ◌==◌, if◌then◌else◌, min}, proofs.Common.{arith}}
+use Rattle.fs_base.specs.{declared.prefix.Family.{Family, TheVariants.{V4, V6}}, Bits.{width_of, afi_of}, Prefix.{prefix_of, last_address}}
 
 -- the family of a number
 abbrev pub family_of : ℕ → Family

@@ -1,6 +1,5 @@
 -- What the best of some routes is, said without the loop that finds it.
-use Rattle.std.specs.Prelude.{ℕ, ◌≡◌, false, Option, List, [], MatchOption}
-use Rattle.std.specs.List.{AllByRecursion, Contains}
+use Rattle.std.specs.{Prelude.{ℕ, ◌≡◌, false, Option, List, [], MatchOption}, List.{AllByRecursion, Contains}}
 use Rattle.fs_base.specs.declared.path.Path.{Path}
 use Rattle.fs_unicast.specs.Preference.{preferred}
 

@@ -1,15 +1,7 @@
 -- Turns: places that part the routes of other neighbouring ASes.
-use Rattle.std.specs.Prelude.{ℕ, ◌≡◌, ◌==◌, Bool, not, ◌&&◌, ◌||◌, true, false, Option, Some, None, List, [], ◌∷◌, if◌then◌else◌}
-use Rattle.std.specs.Borrow.{Bor}
+use Rattle.std.specs.{Prelude.{ℕ, ◌≡◌, ◌==◌, Bool, not, ◌&&◌, ◌||◌, true, false, Option, Some, None, List, [], ◌∷◌, if◌then◌else◌}, Borrow.{Bor}, BTreeMap.{is_at}, List.{AllByRecursion, list_any, list_all}, Option.{option_eq}, Ordering.{is_eq, is_le, is_lt}, Set.{remove_key}}
 use Rattle.fs_base.specs.declared.path.Path.{Path}
-use Rattle.std.specs.BTreeMap.{is_at}
-use Rattle.std.specs.List.{AllByRecursion, list_any, list_all}
-use Rattle.std.specs.Option.{option_eq}
-use Rattle.std.specs.Ordering.{is_eq, is_le, is_lt}
-use Rattle.std.specs.Set.{remove_key}
-use Rattle.fs_unicast.specs.declared.unicast.Place.{Place}
-use Rattle.fs_unicast.specs.Neighbour.{neighbour}
-use Rattle.fs_unicast.specs.Unicast.{Route, place_cmp}
+use Rattle.fs_unicast.specs.{declared.unicast.Place.{Place}, Neighbour.{neighbour}, Unicast.{Route, place_cmp}}
 
 -- the neighbouring AS that a route's path names, or None where no segment counts
 abbrev pub neighbour_of : Route → Option ℕ

@@ -1,14 +1,7 @@
 -- Unicast routes, and the order of the places at which they are kept.
-use Rattle.std.specs.Ordering.{nat_cmp, ordering_then}
-use Rattle.std.specs.declared.cmp.Ordering.{Ordering}
-use Rattle.fs_base.specs.Prefix.{prefix_cmp}
-use Rattle.fs_base.specs.declared.path.Path.{Path}
+use Rattle.std.specs.{Ordering.{nat_cmp, ordering_then}, declared.cmp.Ordering.{Ordering}, Prelude.{ℕ, ◌<◌, ◌^◌, Bool, List, is_some}, BTreeMap.{insert_entry, is_at}, Map.{remove_entry, lookup}, List.{AllByRecursion}}
+use Rattle.fs_base.specs.{Prefix.{prefix_cmp}, declared.{path.Path.{Path}, prefix.Prefix.{Prefix}}}
 use Rattle.fs_unicast.specs.declared.unicast.Place.{Place}
-use Rattle.std.specs.Prelude.{ℕ, ◌<◌, ◌^◌, Bool, List, is_some}
-use Rattle.std.specs.BTreeMap.{insert_entry, is_at}
-use Rattle.std.specs.Map.{remove_entry, lookup}
-use Rattle.fs_base.specs.declared.prefix.Prefix.{Prefix}
-use Rattle.std.specs.List.{AllByRecursion}
 
 -- a route: which peer holds it at which prefix, and its path
 abbrev pub Route : Type 0

@@ -23,9 +23,7 @@ pub struct PrefixKey {
 }
 
 impl Model for PrefixKey {
-    ghost use Rattle.fs_base.specs.Bits.{afi_of};
-    ghost use Rattle.fs_base.specs.Prefix.{prefix_of, last_address};
-    ghost use Rattle.fs_base.specs.declared.prefix.Prefix.{Prefix};
+    ghost use Rattle.fs_base.specs.{Bits.{afi_of}, Prefix.{prefix_of, last_address}, declared.prefix.Prefix.{Prefix}};
     ghost use Rattle.fs_unicast.specs.Key.{IsKey, family_of, last_of, high_of, low_of, least};
 
     ghost Value = { Prefix };
@@ -105,8 +103,7 @@ fn halves(prefix: &Prefix) -> (u64, u64)
 }
 
 impl PartialEq for PrefixKey {
-    ghost use Rattle.std.specs.Ordering.{eq_by_cmp};
-    ghost use Rattle.std.specs.Cmp.{eq_by_cmp_equiv, partial_equiv_from_equiv};
+    ghost use Rattle.std.specs.{Ordering.{eq_by_cmp}, Cmp.{eq_by_cmp_equiv, partial_equiv_from_equiv}};
     ghost use Rattle.fs_base.specs.Prefix.{prefix_cmp, prefix_total};
 
     ghost eq = { eq_by_cmp prefix_cmp };
@@ -126,8 +123,7 @@ impl Eq for PrefixKey {
 }
 
 impl PartialOrd for PrefixKey {
-    ghost use Rattle.std.specs.Ordering.{as_partial_cmp};
-    ghost use Rattle.std.specs.Cmp.{partial_order_from_total};
+    ghost use Rattle.std.specs.{Ordering.{as_partial_cmp}, Cmp.{partial_order_from_total}};
     ghost use Rattle.fs_base.specs.Prefix.{prefix_cmp, prefix_total};
 
     ghost partial_cmp = { as_partial_cmp prefix_cmp };

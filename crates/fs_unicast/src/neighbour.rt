@@ -1,9 +1,7 @@
 //! The ASes that a path names first.
 
-ghost use Rattle.std.specs.Prelude.{◌≡◌};
-ghost use Rattle.std.specs.Option.{option_copied};
-ghost use Rattle.fs_unicast.specs.Neighbour.{is_confederation, leading, first_number, first_as, neighbour, neighbour_as};
-ghost use Rattle.fs_unicast.specs.Search.{is_other};
+ghost use Rattle.std.specs.{Prelude.{◌≡◌}, Option.{option_copied}};
+ghost use Rattle.fs_unicast.specs.{Neighbour.{is_confederation, leading, first_number, first_as, neighbour, neighbour_as}, Search.{is_other}};
 
 use fs_base::{AS_CONFED_SEQUENCE, AS_CONFED_SET, AS_SEQUENCE, Path, Segment};
 

@@ -1,7 +1,7 @@
 //! Which of the routes of one key is preferred.
 
-ghost use Rattle.std.specs.Prelude.{◌≡◌, ◌+◌, ◌*◌, ◌≤◌, ◌<◌, length};
-ghost use Rattle.fs_unicast.specs.Preference.{segment_length, path_length, preference_cmp, preferred, better, peer_path};
+ghost use Rattle.std.specs.Prelude.{◌≡◌, ◌+◌, ◌<◌, length};
+ghost use Rattle.fs_unicast.specs.Preference.{segment_length, path_length, preference_cmp, preferred, peer_path};
 
 use fs_base::{AS_SEQUENCE, AS_SET, Path, Segment};
 use std::cmp::Ordering;

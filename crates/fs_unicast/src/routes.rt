@@ -1,12 +1,7 @@
 //! The routes in the order of their places, and the turns among them.
 
-ghost use Rattle.std.specs.Prelude.{◌≡◌, ◌↔◌, [], false, IfOk, OnOk, OnErr, is_some, ◌&&◌};
-ghost use Rattle.std.specs.BTreeMap.{insert_entry, is_at};
-ghost use Rattle.std.specs.List.{list_any};
-ghost use Rattle.std.specs.Map.{remove_entry, lookup};
-ghost use Rattle.fs_unicast.specs.Search.{is_other};
-ghost use Rattle.fs_unicast.specs.Unicast.{place_cmp};
-ghost use Rattle.fs_unicast.specs.Turns.{is_within, IsParted};
+ghost use Rattle.std.specs.{Prelude.{◌≡◌, ◌↔◌, [], false, IfOk, OnOk, OnErr, is_some, ◌&&◌}, BTreeMap.{insert_entry, is_at}, List.{list_any}, Map.{remove_entry, lookup}};
+ghost use Rattle.fs_unicast.specs.{Search.{is_other}, Unicast.{place_cmp}, Turns.{is_within, IsParted}};
 
 use crate::shared::{SharedPath, has_path, share_beside};
 use crate::turns;
@@ -18,8 +13,8 @@ use std::marker::Model;
 
 /// The routes by their places. Between two routes of other neighbouring AS lies a turn, so a search for another
 /// neighbouring AS goes from turn to turn and not from route to route. A turn may stay where no route is left,
-/// so to take a route away takes no memory; one that parts no two routes is taken away. Routes beside one another share
-/// an equal path.
+/// so to take a route away takes no memory; where a call leaves one beside its place that parts no two routes, it takes
+/// that away. Routes beside one another share an equal path.
 #[derive(Drop)]
 pub struct Routes {
     alloc: Global,
@@ -30,8 +25,7 @@ pub struct Routes {
 impl Model for Routes {
     ghost use Rattle.std.specs.Prelude.{List};
     ghost use Rattle.fs_base.specs.declared.path.Path.{Path};
-    ghost use Rattle.fs_unicast.specs.declared.unicast.Place.{Place};
-    ghost use Rattle.fs_unicast.specs.Turns.{IsParted};
+    ghost use Rattle.fs_unicast.specs.{declared.unicast.Place.{Place}, Turns.{IsParted}};
 
     ghost Value = { List (Place × Path) };
 

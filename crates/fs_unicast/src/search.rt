@@ -1,13 +1,8 @@
 //! Look-ups in the ordered map of routes.
 
-ghost use Rattle.std.specs.Prelude.{◌≡◌, true, IfSome, filter, fold, map, option_map};
-ghost use Rattle.fs_unicast.specs.Search.{AreCoversOver, IsFront, candidate, is_same_prefix, is_strictly_under, is_other_route, best_at, best_match_of, neighbour_of, others_under, held_by, start_of};
-ghost use Rattle.fs_unicast.specs.Preference.{better, peer_path};
-ghost use Rattle.fs_unicast.specs.Unicast.{place_cmp};
-ghost use Rattle.std.specs.Option.{option_copied};
+ghost use Rattle.std.specs.{Prelude.{◌≡◌, true, IfSome, filter, fold, map, option_map}, Option.{option_copied}, List.Sorted.{IsStrictlySortedBy}, Map.{keys_of}};
+ghost use Rattle.fs_unicast.specs.{Search.{AreCoversOver, IsFront, candidate, is_same_prefix, is_strictly_under, is_other_route, best_at, best_match_of, neighbour_of, others_under, held_by, start_of}, Preference.{better, peer_path}, Unicast.{place_cmp}};
 ghost use Rattle.fs_base.specs.Search.{IsFirstFrom};
-ghost use Rattle.std.specs.List.Sorted.{IsStrictlySortedBy};
-ghost use Rattle.std.specs.Map.{keys_of};
 
 use crate::key::PrefixKey;
 use crate::neighbour::{is_other, neighbour_as};

@@ -1,8 +1,7 @@
 //! Paths that the routes beside one another share.
 
 ghost use Rattle.std.specs.Prelude.{◌≡◌, ◌↔◌, Some, IfOk, IfSome, IsTrue, option_map};
-ghost use Rattle.fs_unicast.specs.Neighbour.{neighbour};
-ghost use Rattle.fs_unicast.specs.Turns.{entry_now};
+ghost use Rattle.fs_unicast.specs.{Neighbour.{neighbour}, Turns.{entry_now}};
 
 use crate::neighbour::neighbour;
 use crate::unicast::Place;

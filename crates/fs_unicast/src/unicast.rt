@@ -1,13 +1,7 @@
 //! The table of unicast routes.
 
-ghost use Rattle.std.specs.Prelude.{◌≡◌, ◌↔◌, [], false, IfOk, OnOk, OnErr, is_some, option_map, length, ◌+◌};
-ghost use Rattle.std.specs.BTreeMap.{insert_entry, is_at};
-ghost use Rattle.std.specs.List.Sorted.{IsStrictlySortedBy};
-ghost use Rattle.std.specs.Map.{keys_of, remove_entry, lookup};
-ghost use Rattle.fs_unicast.specs.Unicast.{place_cmp, put_path, take_path, has_path};
-ghost use Rattle.fs_unicast.specs.Search.{best_at, best_match_of, neighbour_of, others_under, held_by};
-ghost use Rattle.fs_unicast.specs.Preference.{peer_path};
-ghost use Rattle.std.specs.Option.{option_copied};
+ghost use Rattle.std.specs.{Prelude.{◌≡◌, ◌↔◌, [], false, IfOk, OnOk, OnErr, option_map, length, ◌+◌}, List.Sorted.{IsStrictlySortedBy}, Map.{keys_of}, Option.{option_copied}};
+ghost use Rattle.fs_unicast.specs.{Unicast.{place_cmp, put_path, take_path, has_path}, Search.{best_at, best_match_of, neighbour_of, others_under, held_by}, Preference.{peer_path}};
 
 use crate::key::PrefixKey;
 use crate::preference::Held;
@@ -36,8 +30,7 @@ pub struct Unicast {
 impl Model for Unicast {
     ghost use Rattle.std.specs.Prelude.{List};
     ghost use Rattle.fs_base.specs.declared.path.Path.{Path};
-    ghost use Rattle.fs_unicast.specs.declared.unicast.Place.{Place};
-    ghost use Rattle.fs_unicast.specs.Unicast.{HasSmallPeers};
+    ghost use Rattle.fs_unicast.specs.{declared.unicast.Place.{Place}, Unicast.{HasSmallPeers}};
 
     ghost Value = { List (Place × Path) };
 

@@ -1,19 +1,9 @@
 -- The validity of a flow route reads only the unicast routes that its destination is related to.
-use Rattle.std.proofs.Common.{ℕ, ◌≡◌, refl, sym, ap, ◌∙◌, Bool, true, false, true≢false, not, ◌&&◌, ◌||◌, cond, List, [], ◌∷◌, filter, map, Option, Some, None, nat_le}
-use Rattle.std.specs.List.{list_any, list_all}
-use Rattle.fs_base.specs.Prefix.{covers}
-use Rattle.fs_base.specs.declared.prefix.Prefix.{Prefix}
-use Rattle.fs_base.specs.declared.config.Config.{Config}
-use Rattle.fs_base.proofs.Bools.{and_first, or_first, or_second}
-use Rattle.fs_base.proofs.Lists.{filter_filtered}
-use Rattle.fs_unicast.specs.Unicast.{Route}
-use Rattle.fs_unicast.specs.Preference.{best_of}
-use Rattle.fs_unicast.specs.Search.{best_match_of, is_longest, others_under, is_other, is_strictly_under, is_same_prefix, candidate}
-use Rattle.fs_validate.specs.declared.route.FlowRoute.{FlowRoute}
-use Rattle.fs_validate.specs.declared.validity.Validity.TheVariants.{Valid, MoreSpecific, LeftAs, Originator}
+use Rattle.std.{proofs.Common.{ℕ, ◌≡◌, refl, sym, ap, ◌∙◌, Bool, true, false, true≢false, not, ◌&&◌, ◌||◌, cond, List, [], ◌∷◌, filter, map, Option, Some, None, nat_le}, specs.List.{list_any, list_all}}
+use Rattle.fs_base.{specs.{Prefix.{covers}, declared.{prefix.Prefix.{Prefix}, config.Config.{Config}}}, proofs.{Bools.{and_first, or_first, or_second}, Lists.{filter_filtered}}}
+use Rattle.fs_unicast.specs.{Unicast.{Route}, Preference.{best_of}, Search.{best_match_of, is_longest, others_under, is_other, is_strictly_under, is_same_prefix, candidate}}
+use Rattle.fs_validate.specs.{declared.{route.FlowRoute.{FlowRoute}, validity.Validity.TheVariants.{Valid, MoreSpecific, LeftAs, Originator}}, Validity.{validity, validity_to, validity_at, neighbour_of_best, has_originator, has_leftmost}, Laws.{is_related, related, AgreeAt, AgreeFor}}
 use Rattle.fs_nlri.specs.Rule.{destination_prefix}
-use Rattle.fs_validate.specs.Validity.{validity, validity_to, validity_at, neighbour_of_best, has_originator, has_leftmost}
-use Rattle.fs_validate.specs.Laws.{is_related, related, AgreeAt, AgreeFor}
 
 any_within : {X : Type 0} (p q : X → Bool) → ((x : X) → p x ≡ true → q x ≡ true) → (xs : List X) → list_any p (filter q xs) ≡ list_any p xs
 any_within p q h [] = refl

@@ -1,10 +1,7 @@
 -- What the validity of each route to one destination rests on.
 use Rattle.std.specs.Prelude.{ℕ, ◌≡◌, Bool, Option, List}
-use Rattle.fs_base.specs.declared.config.Config.{Config}
-use Rattle.fs_base.specs.declared.path.Path.{Path}
-use Rattle.fs_base.specs.declared.prefix.Prefix.{Prefix}
-use Rattle.fs_unicast.specs.Unicast.{Route}
-use Rattle.fs_unicast.specs.Search.{best_match_of, others_under}
+use Rattle.fs_base.specs.declared.{config.Config.{Config}, path.Path.{Path}, prefix.Prefix.{Prefix}}
+use Rattle.fs_unicast.specs.{Unicast.{Route}, Search.{best_match_of, others_under}}
 use Rattle.fs_validate.specs.Validity.{neighbour_of_best}
 
 -- the best match of the destination, and whether a route strictly under it has another neighbouring AS than that

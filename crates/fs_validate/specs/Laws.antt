@@ -1,12 +1,9 @@
 -- The unicast routes that a destination is related to, and when two lists agree on them.
 use Rattle.std.specs.Prelude.{◌≡◌, Bool, ◌||◌, Option, List, filter, MatchOption}
-use Rattle.fs_base.specs.Prefix.{covers}
-use Rattle.fs_base.specs.declared.config.Config.{Config}
-use Rattle.fs_base.specs.declared.prefix.Prefix.{Prefix}
+use Rattle.fs_base.specs.{Prefix.{covers}, declared.{config.Config.{Config}, prefix.Prefix.{Prefix}}}
 use Rattle.fs_unicast.specs.Unicast.{Route}
 use Rattle.fs_nlri.specs.Rule.{destination_prefix}
-use Rattle.fs_validate.specs.Validity.{validity}
-use Rattle.fs_validate.specs.declared.route.FlowRoute.{FlowRoute}
+use Rattle.fs_validate.specs.{Validity.{validity}, declared.route.FlowRoute.{FlowRoute}}
 
 abbrev pub is_related : Prefix → Prefix → Bool
 is_related d p = covers p d || covers d p

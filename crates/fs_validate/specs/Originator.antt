@@ -1,12 +1,6 @@
 -- Who brought a route into the network (RFC 9117 section 4.1).
-use Rattle.std.specs.Prelude.{ℕ, ◌==◌, Bool, false, Option, Some, None, List, option_map}
-use Rattle.std.specs.List.{list_all}
-use Rattle.fs_base.specs.declared.config.Address.{Address}
-use Rattle.fs_base.specs.declared.config.Address.TheVariants.{V4, V6}
-use Rattle.fs_base.specs.declared.config.Config.{Config}
-use Rattle.fs_base.specs.declared.path.Path.{Path}
-use Rattle.fs_base.specs.declared.path.Segment.{Segment}
-use Rattle.fs_base.specs.Config.{peer_of}
+use Rattle.std.specs.{Prelude.{ℕ, ◌==◌, Bool, false, Option, Some, None, List, option_map}, List.{list_all}}
+use Rattle.fs_base.specs.{declared.{config.{Address.{Address, TheVariants.{V4, V6}}, Config.{Config}}, path.{Path.{Path}, Segment.{Segment}}}, Config.{peer_of}}
 
 -- RFC 9117 section 4.1: the ORIGINATOR_ID where there is one, else the address of the peer
 abbrev pub originator_or : Option ℕ → Option Address → Option Address

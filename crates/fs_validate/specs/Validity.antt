@@ -1,18 +1,10 @@
 -- The validity of a flow route, over the list of all held unicast routes (RFC 8955 section 6 as RFC 9117 section 4
 -- revises it).
 use Rattle.std.specs.Prelude.{ℕ, ◌==◌, ◌&&◌, ◌||◌, not, Bool, false, Option, Some, None, List, if◌then◌else◌, option_map}
-use Rattle.fs_base.specs.declared.config.Config.{Config}
-use Rattle.fs_base.specs.declared.path.Path.{Path}
-use Rattle.fs_base.specs.declared.prefix.Prefix.{Prefix}
-use Rattle.fs_unicast.specs.Neighbour.{first_as, neighbour_as}
-use Rattle.fs_unicast.specs.Unicast.{Route}
-use Rattle.fs_unicast.specs.Search.{best_match_of, others_under}
-use Rattle.fs_nlri.specs.Parts.{Ruled}
-use Rattle.fs_nlri.specs.Rule.{destination_prefix}
-use Rattle.fs_validate.specs.Originator.{originator_of, same_originator, is_local}
-use Rattle.fs_validate.specs.declared.route.FlowRoute.{FlowRoute}
-use Rattle.fs_validate.specs.declared.validity.Validity.{Validity}
-use Rattle.fs_validate.specs.declared.validity.Validity.TheVariants.{Valid, NoDestination, Originator, MoreSpecific, LeftAs}
+use Rattle.fs_base.specs.declared.{config.Config.{Config}, path.Path.{Path}, prefix.Prefix.{Prefix}}
+use Rattle.fs_unicast.specs.{Neighbour.{first_as, neighbour_as}, Unicast.{Route}, Search.{best_match_of, others_under}}
+use Rattle.fs_nlri.specs.{Parts.{Ruled}, Rule.{destination_prefix}}
+use Rattle.fs_validate.specs.{Originator.{originator_of, same_originator, is_local}, declared.{route.FlowRoute.{FlowRoute}, validity.Validity.{Validity, TheVariants.{Valid, NoDestination, Originator, MoreSpecific, LeftAs}}}}
 
 -- a route by its parts: the peer that gave it, its rule, its path and its actions
 abbrev pub flow_route : ℕ → Ruled → Path → List (List ℕ) → FlowRoute

@@ -3,8 +3,7 @@
 ghost use Rattle.std.specs.Prelude.{◌≡◌, ◌+◌, ℕ, List, option_map};
 ghost use Rattle.fs_nlri.specs.Parts.{Ruled};
 ghost use Rattle.fs_unicast.specs.Preference.{peer_path};
-ghost use Rattle.fs_validate.specs.Basis.{IsBasis};
-ghost use Rattle.fs_validate.specs.Validity.{flow_route, judged};
+ghost use Rattle.fs_validate.specs.{Basis.{IsBasis}, Validity.{flow_route, judged}};
 
 use crate::validity::{Validity, has_leftmost, has_originator};
 use fs_base::{Config, Path, Prefix, Steps};

@@ -1,9 +1,7 @@
 -- Words with spaces before them and between them.
 use Rattle.fs_words.proofs.Words.{◌≡◌, ℕ, List, [], ◌∷◌, ◌++◌, refl, sym, ap, ◌∙◌, append_assoc, append-nil, drop, Result, Ok, Err, codes, OnOk, action_words, component_words, spaced}
 use Rattle.std.specs.List.{join_with_byte, AllByRecursion}
-use Rattle.fs_nlri.specs.Component.{parts_of}
-use Rattle.fs_nlri.specs.declared.component.Component.{Component}
-use Rattle.fs_nlri.specs.Sound.{AreSound}
+use Rattle.fs_nlri.specs.{Component.{parts_of}, declared.component.Component.{Component}, Sound.{AreSound}}
 use Rattle.fs_actions.specs.Community.{IsAction}
 
 pub join_spaced : (word : List ℕ) (words : List (List ℕ)) → join_with_byte 32 (word ∷ words) ≡ word ++ spaced words

@@ -1,21 +1,18 @@
 -- The words of actions (RFC 8955 section 7).
-use Rattle.std.specs.Prelude.{ℕ, ◌==◌, ◌||◌, List, ◌++◌, drop, slice_index, if◌then◌else◌, codes, decimal}
-use Rattle.std.specs.Option.{option_map_or}
+use Rattle.std.specs.{Prelude.{ℕ, ◌==◌, ◌||◌, List, ◌++◌, drop, slice_index, if◌then◌else◌, codes, decimal}, Option.{option_map_or}}
 use Rattle.byteorder.specs.Endian.{big_number}
 use Rattle.hex.specs.Hex.{encode_lower}
-use Rattle.fs_actions.specs.Community.{kind_of, redirect_of}
-use Rattle.fs_actions.specs.declared.community.Redirect.{Redirect}
-use Rattle.fs_actions.specs.declared.community.Redirect.TheVariants.{As2, Ip4, As4}
+use Rattle.fs_actions.specs.{Community.{kind_of, redirect_of}, declared.community.Redirect.{Redirect, TheVariants.{As2, Ip4, As4}}}
 use Rattle.fs_words.specs.Prefixes.{address_text}
 
 -- by type and sub-type: traffic-rate in bytes and in packets, traffic-action, traffic-marking, rt-redirect
+abbrev pub name_at : ℕ → List ℕ
+name_at kind =
+    if kind == 0x8006 then codes "bytes" else if kind == 0x800c then codes "packets"
+    else if kind == 0x8007 then codes "control" else if kind == 0x8009 then codes "mark" else codes "redirect"
+
 abbrev pub action_name : List ℕ → List ℕ
-action_name action =
-    if kind_of action == 0x8006 then codes "bytes"
-    else if kind_of action == 0x800c then codes "packets"
-    else if kind_of action == 0x8007 then codes "control"
-    else if kind_of action == 0x8009 then codes "mark"
-    else codes "redirect"
+action_name action = name_at (kind_of action)
 
 -- a route target, by the form of its community (RFC 8955 section 7.4)
 abbrev pub target_text : Redirect → List ℕ

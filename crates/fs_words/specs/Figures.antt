@@ -1,6 +1,5 @@
 -- Numbers as words have them.
-use Rattle.std.specs.Prelude.{ℕ, List, false}
-use Rattle.std.specs.Fmt.{digits}
+use Rattle.std.specs.{Prelude.{ℕ, List, false}, Fmt.{digits}}
 use Rattle.hex.specs.Hex.{encode_lower}
 use Rattle.byteorder.specs.Endian.{big_bytes}
 

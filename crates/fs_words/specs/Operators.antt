@@ -1,8 +1,6 @@
 -- The words of lists of operators and values (RFC 8955 section 4.2.1).
 use Rattle.std.specs.Prelude.{ℕ, ◌^◌, ◌==◌, List, [], ◌∷◌, ◌++◌, bit_and, nat_lt, if◌then◌else◌, codes, decimal, flat_map}
-use Rattle.fs_ops.specs.declared.kind.Kind.{Kind}
-use Rattle.fs_ops.specs.declared.kind.Kind.TheVariants.{Numeric, Bitmask}
-use Rattle.fs_ops.specs.Operator.{joins, width_code, width_of}
+use Rattle.fs_ops.specs.{declared.kind.Kind.{Kind, TheVariants.{Numeric, Bitmask}}, Operator.{joins, width_code, width_of}}
 use Rattle.fs_words.specs.Figures.{octets_text}
 
 -- the bits less, greater, equal as a sign: ! is never, * is always

@@ -1,11 +1,8 @@
 -- The text of a rule and its actions: words joined by single spaces.
-use Rattle.std.specs.Prelude.{ℕ, List, [], ◌∷◌, ◌++◌, codes}
-use Rattle.std.specs.List.{join_with_byte}
-use Rattle.fs_base.specs.declared.prefix.Family.{Family}
-use Rattle.fs_base.specs.declared.prefix.Family.TheVariants.{V4, V6}
+use Rattle.std.specs.{Prelude.{ℕ, List, [], ◌∷◌, ◌++◌, codes}, List.{join_with_byte}}
+use Rattle.fs_base.specs.declared.prefix.Family.{Family, TheVariants.{V4, V6}}
 use Rattle.fs_nlri.specs.Parts.{Part, Ruled}
-use Rattle.fs_words.specs.Actions.{action_name, action_text}
-use Rattle.fs_words.specs.Values.{component_name, value_text}
+use Rattle.fs_words.specs.{Actions.{action_name, action_text}, Values.{component_name, value_text}}
 
 abbrev pub family_word : Family → List ℕ
 family_word V4 = codes "v4"

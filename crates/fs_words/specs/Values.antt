@@ -1,10 +1,8 @@
 -- The names of the types of components, and the word of what stands behind a type (RFC 8955 section 4.2.2, RFC 8956 section 3).
 use Rattle.std.specs.Prelude.{ℕ, ◌==◌, ◌||◌, List, if◌then◌else◌, codes}
-use Rattle.fs_ops.specs.declared.kind.Kind.{Kind}
-use Rattle.fs_ops.specs.declared.kind.Kind.TheVariants.{Numeric, Bitmask}
+use Rattle.fs_ops.specs.declared.kind.Kind.{Kind, TheVariants.{Numeric, Bitmask}}
 use Rattle.fs_nlri.specs.Parts.{Body, V4Body, V6Body, ListBody, Part}
-use Rattle.fs_words.specs.Operators.{list_text}
-use Rattle.fs_words.specs.Prefixes.{v4_text, v6_text}
+use Rattle.fs_words.specs.{Operators.{list_text}, Prefixes.{v4_text, v6_text}}
 
 abbrev pub component_name : ℕ → List ℕ
 component_name kind =

@@ -1,7 +1,6 @@
 //! The words of actions (RFC 8955 section 7).
 
-ghost use Rattle.std.specs.Prelude.{◌≡◌, ◌++◌, ◌≤◌, length, OnOk};
-ghost use Rattle.std.specs.String.{string_bytes};
+ghost use Rattle.std.specs.{Prelude.{◌≡◌, ◌++◌, ◌≤◌, length, OnOk}, String.{string_bytes}};
 ghost use Rattle.fs_actions.specs.Community.{IsAction};
 ghost use Rattle.fs_words.specs.Actions.{action_name, action_text, plain_text, rate_text, target_text};
 

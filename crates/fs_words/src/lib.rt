@@ -12,4 +12,4 @@ mod values;
 pub use actions::{action_name, print_action};
 pub use operators::least_code;
 pub use printing::print;
-pub use values::{component_name, print_value};
+pub use values::{component_name, list_kind, print_value};

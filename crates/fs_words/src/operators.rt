@@ -1,9 +1,7 @@
 //! The words of lists of operators and values (RFC 8955 section 4.2.1).
 
-ghost use Rattle.std.specs.Prelude.{◌≡◌, ◌++◌, ◌<◌, ◌≤◌, ◌^◌, All, OnOk, decimal, flat_map};
-ghost use Rattle.std.specs.String.{string_bytes};
-ghost use Rattle.fs_ops.specs.declared.kind.Kind.TheVariants.{Numeric};
-ghost use Rattle.fs_ops.specs.Operator.{joins, width_code, width_of};
+ghost use Rattle.std.specs.{Prelude.{◌≡◌, ◌++◌, ◌<◌, ◌≤◌, ◌^◌, All, OnOk, decimal, flat_map}, String.{string_bytes}};
+ghost use Rattle.fs_ops.specs.{declared.kind.Kind.TheVariants.{Numeric}, Operator.{joins, width_code, width_of}};
 ghost use Rattle.fs_words.specs.Operators.{joined_text, joiner, least_code, list_text, mask_sign, number_sign, operand_text, pair_text, sign, width_text, width_word};
 
 use crate::pieces::{print_decimal, print_wide};
@@ -149,12 +147,13 @@ fn print_list(kind: Kind, pairs: &[(u8, u64)], out: &mut String) -> Result<(), M
     }
 }
 
-/// Appends a list.
+/// Appends a list of this kind.
 pub(crate) fn print_operators<K: OfKind>(
+    kind: Kind,
     list: &OperatorList<K>,
     out: &mut String,
 ) -> Result<(), Memory>
-    ensures { OnOk result (string_bytes out.new ≡ string_bytes out.old ++ list_text K.KIND list.now) }
+    ensures { OnOk result (string_bytes out.new ≡ string_bytes out.old ++ list_text kind list.now) }
 {
-    print_list(K::KIND, list.pairs(), out)
+    print_list(kind, list.pairs(), out)
 }

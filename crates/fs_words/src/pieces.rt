@@ -1,7 +1,6 @@
 //! Numbers and octets as pieces of a word.
 
-ghost use Rattle.std.specs.Prelude.{◌≡◌, ◌++◌, ◌<◌, ◌≤◌, ◌^◌, OnOk};
-ghost use Rattle.std.specs.String.{string_bytes};
+ghost use Rattle.std.specs.{Prelude.{◌≡◌, ◌++◌, ◌<◌, ◌≤◌, ◌^◌, OnOk}, String.{string_bytes}};
 ghost use Rattle.hex.specs.Hex.{encode_lower};
 ghost use Rattle.fs_words.specs.Figures.{hexadecimal, octets_text};
 

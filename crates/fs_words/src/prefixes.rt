@@ -1,11 +1,8 @@
 //! The words of prefix components (RFC 8955 section 4.2.2.1, RFC 8956 section 3.1).
 
-ghost use Rattle.std.specs.Prelude.{◌≡◌, ◌++◌, ◌<◌, ◌≤◌, ◌^◌, ◌/◌, OnOk, codes, decimal, flat_map};
-ghost use Rattle.std.specs.String.{string_bytes};
-ghost use Rattle.fs_nlri.specs.Component.{body_of};
-ghost use Rattle.fs_nlri.specs.Sound.{IsSoundBody};
-ghost use Rattle.fs_words.specs.Prefixes.{address_text, groups_text, next_group, offset_text, v4_text, v6_text, wide_address_text};
-ghost use Rattle.fs_words.specs.Values.{body_text};
+ghost use Rattle.std.specs.{Prelude.{◌≡◌, ◌++◌, ◌<◌, ◌≤◌, ◌^◌, ◌/◌, OnOk, codes, decimal, flat_map}, String.{string_bytes}};
+ghost use Rattle.fs_nlri.specs.{Component.{body_of}, Sound.{IsSoundBody}};
+ghost use Rattle.fs_words.specs.{Prefixes.{address_text, groups_text, next_group, offset_text, v4_text, v6_text, wide_address_text}, Values.{body_text}};
 
 use crate::pieces::{print_decimal, print_hexadecimal};
 use fs_base::Memory;

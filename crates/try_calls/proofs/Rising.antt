@@ -1,11 +1,7 @@
 -- How a put changes the counts that bound the steps.
-use Rattle.std.proofs.Common.{ℕ, ◌≡◌, ◌+◌, ◌≤◌, refl, sym, subst, Bool, true, false, ◌==◌, cond, List, [], ◌∷◌, ◌++◌, length, filter, Option, Ordering, Less, Equal, Greater, arith}
-use Rattle.std.specs.BTreeMap.{insert_entry}
-use Rattle.std.specs.Ordering.{match_ordering}
-use Rattle.fs_base.specs.declared.prefix.Prefix.{Prefix}
-use Rattle.fs_base.specs.declared.path.Path.{Path}
-use Rattle.fs_unicast.specs.Unicast.{Route, place_cmp}
-use Rattle.fs_unicast.specs.declared.unicast.Place.{Place}
+use Rattle.std.{proofs.Common.{ℕ, ◌≡◌, ◌+◌, ◌≤◌, refl, sym, subst, Bool, true, false, ◌==◌, cond, List, [], ◌∷◌, ◌++◌, length, filter, Option, Ordering, Less, Equal, Greater, arith}, specs.{BTreeMap.{insert_entry}, Ordering.{match_ordering}}}
+use Rattle.fs_base.specs.declared.{prefix.Prefix.{Prefix}, path.Path.{Path}}
+use Rattle.fs_unicast.specs.{Unicast.{Route, place_cmp}, declared.unicast.Place.{Place}}
 use Rattle.fs_nlri.specs.Rule.{destination_prefix}
 use Rattle.fs_validate.specs.declared.route.FlowRoute.{FlowRoute}
 use Rattle.fs_rules.specs.Table.{Held, key_cmp, put_route, has_related, related_count, related_sum}

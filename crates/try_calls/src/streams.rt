@@ -2,9 +2,7 @@
 //! readers of inputs.
 
 ghost use Rattle.std.specs.Prelude.{◌≤◌, IfSome};
-ghost use Rattle.fs_speaker.specs.Announcer.{CanSend};
-ghost use Rattle.fs_speaker.specs.Joint.{IsEnd};
-ghost use Rattle.fs_speaker.specs.Sending.{sender_of};
+ghost use Rattle.fs_speaker.specs.{Announcer.{CanSend}, Joint.{IsEnd}, Sending.{sender_of}};
 
 use crate::call::{Call, same};
 use fs_actions::Actions;

@@ -1,5 +1,4 @@
-use Rattle.cmd_convert.proofs.Words.{◌≡◌, ◌⊎◌, inl, le_trans, refl, Rose, coming, answered_err, finished_by, rose_earlier, ConvertsSo, IsOfDump, text_from}
-use Rattle.cmd_convert.proofs.Ending.{dump_ends, finished, never_quiet, outside_quiet, read_verdict}
+use Rattle.cmd_convert.proofs.{Words.{◌≡◌, ◌⊎◌, inl, le_trans, refl, Rose, coming, answered_err, finished_by, rose_earlier, ConvertsSo, IsOfDump, text_from, ◌≢◌, Grew-trans, arith, config_then, opened_due, refused_at, rules}, Ending.{dump_ends, finished, never_quiet, outside_quiet, read_verdict}}
 use Rattle.cmd_convert.proofs.command.convert.Goals as goal
 
 pub returns-in_err-dump-clause-converts : goal.returns-in_err-dump-clause-converts
@@ -33,3 +32,31 @@ returns-clause-converts g c = λ told.
     c.in_ok-making.ensures.config (c.in_ok-dump.ensures.opened told) c.in_ok-dump.ensures.begun c.in_ok-making.ensures.lives)
     c.in_ok-making.ensures.pending (c.convert_dump-converted.ensures.made told)
     (le_trans c.in_ok-config.ensures.later c.in_ok-dump.ensures.later) c.convert_dump-converted.ensures.sink_later c.finish.ensures.later c.finish.ensures.finishes
+
+pub returns-in_err-config-clause-opens : goal.returns-in_err-config-clause-opens
+returns-in_err-config-clause-opens g c =
+    let both = config_then 1 c.args.names.now.config.now c.args.names.now.dump.now in
+    refused_at both 1 (omega (arith)) _ _ c.from_residual.result c.in_err-config.field-0.0 c.from_residual.ensures.1
+    c.in_err-config.ensures.opens (λ three. omega (arith))
+
+pub returns-in_err-dump-clause-opens : goal.returns-in_err-dump-clause-opens
+returns-in_err-dump-clause-opens g c =
+    let both = config_then 1 c.args.names.now.config.now c.args.names.now.dump.now in
+    refused_at both 2 (omega (arith)) _ _ c.from_residual-in_err-dump.result c.in_err-dump.field-0.0 c.from_residual-in_err-dump.ensures.1
+    (Grew-trans _ _ _ _ _ c.in_ok-config.ensures.opens c.in_err-dump.ensures.opens) (λ three. absurd (c.in_err-dump.ensures.possible.1 three))
+
+pub returns-in_err-making-clause-opens : goal.returns-in_err-making-clause-opens
+returns-in_err-making-clause-opens g c =
+    let both = config_then 1 c.args.names.now.config.now c.args.names.now.dump.now in
+    opened_due both 2 (omega (arith)) _ _ _ _ (Grew-trans _ _ _ _ _ c.in_ok-config.ensures.opens c.in_ok-dump.ensures.opens) refl (omega (arith)) (search rules)
+
+pub returns-in_err-buffer-clause-opens : goal.returns-in_err-buffer-clause-opens
+returns-in_err-buffer-clause-opens g c =
+    let both = config_then 1 c.args.names.now.config.now c.args.names.now.dump.now in
+    opened_due both 2 (omega (arith)) _ _ _ _ (Grew-trans _ _ _ _ _ c.in_ok-config.ensures.opens c.in_ok-dump.ensures.opens) refl (omega (arith)) (search rules)
+
+pub returns-clause-opens : goal.returns-clause-opens
+returns-clause-opens g c =
+    let both = config_then 1 c.args.names.now.config.now c.args.names.now.dump.now in
+    opened_due both 2 (omega (arith)) _ _ _ _ (Grew-trans _ _ _ _ _ c.in_ok-config.ensures.opens c.in_ok-dump.ensures.opens) c.convert_dump-converted.ensures.opened (omega (arith))
+    (λ three. absurd (finished_by (λ n. n ≢ 3) _ _ _ _ _ c.finish.result c.finish.ensures.finishes c.convert_dump-converted.ensures.possible.1 (λ e. absurd cc) three))

@@ -1,5 +1,4 @@
-use Rattle.cmd_convert.proofs.Words.{◌∙◌, arith, rules, Rose, coming, spoken_from, lives_of, items_from, match_err}
-use Rattle.cmd_convert.proofs.Converting.{begun_stopped, doing_more, doing_stopped, gives_as}
+use Rattle.cmd_convert.proofs.{Words.{◌∙◌, arith, rules, Rose, coming, spoken_from, lives_of, items_from, match_err}, Converting.{begun_stopped, doing_more, doing_stopped, gives_as}}
 use Rattle.cmd_convert.proofs.command.convert_dump.Goals as goal
 
 pub returns-in_err-begin-clause-made : goal.returns-in_err-begin-clause-made
@@ -22,6 +21,7 @@ records-preserved g c =
       config = c.in_ok-write_heard.ensures.config ∙ c.records.invariant.config;
       files_later = omega (arith, c.records.invariant.files_later, c.in_ok-heard.ensures.later);
       sink_later = omega (arith, c.records.invariant.sink_later, c.in_ok-write_heard.ensures.sends.later);
+      opened = c.in_ok-heard.ensures.opened ∙ c.records.invariant.opened;
       doing = λ told.
           doing_more c.args.making.now.config (lives_of c.args.making.now.lives) (lives_of c.records.making.lives) _ _ _ _ _ _
           c.records.making.config (lives_of c.write_heard.new.self.lives) _ _ _ (spoken_from c.in-Some.heard c.next_heard.new.buffer)

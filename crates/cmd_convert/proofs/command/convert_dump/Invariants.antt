@@ -1,5 +1,4 @@
-use Rattle.cmd_convert.proofs.Words.{◌≡◌, ◌≤◌, ◌-◌, length, IsTrue, None, coming, lives_of}
-use Rattle.cmd_convert.proofs.Converting.{Doing}
+use Rattle.cmd_convert.proofs.{Words.{◌≡◌, ◌≤◌, ◌-◌, length, IsTrue, None, coming, lives_of}, Converting.{Doing}}
 use Rattle.cmd_convert.proofs.command.convert_dump.Given as goal
 
 abbrev pub invariant-records : goal.invariant-records
@@ -12,6 +11,7 @@ invariant-records g l = record {
   config : l.making.config ≡ l.fn.making.config;
   files_later : g.F.Files.faults l.fn.files ≤ g.F.Files.faults l.files;
   sink_later : g.S.Sink.faults l.fn.sink ≤ g.S.Sink.faults l.sink;
+  opened : g.F.Files.opened l.files ≡ g.F.Files.opened l.fn.files;
   doing : IsTrue g.F.Files.tells
       → Doing l.fn.making.config (lives_of l.fn.making.lives) (lives_of l.making.lives)
       (coming l.fn.making.config l.fn.dump (g.F.Files.left l.fn.files l.fn.dump.slot))

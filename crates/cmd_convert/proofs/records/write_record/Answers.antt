@@ -1,5 +1,4 @@
-use Rattle.cmd_convert.proofs.Words.{rules, sends_as, sends_stopped, sends_then}
-use Rattle.cmd_convert.proofs.Converting.{record_parts}
+use Rattle.cmd_convert.proofs.{Words.{rules, sends_as, sends_stopped, sends_then}, Converting.{record_parts}}
 use Rattle.cmd_convert.proofs.records.write_record.Goals as goal
 
 pub returns-in_err-put : goal.returns-in_err-put

@@ -1,6 +1,4 @@
-use Rattle.cmd_enforce.proofs.Words.{◌≡◌, ◌⊎◌, inl, inr, ◌∙◌, ℕ, List, [], ap, refl, subst, sym, le_trans, Config, Desked, AnswersAt, WroteJudged, packets_of, Rose, Grew-refl, Grew, Captured, coming, recorded, Names, tape_stage, Found, answered, EnforcesSo, capture_stage, answered_err, either_rose, rose_earlier}
-use Rattle.cmd_enforce.proofs.Enforcing.{all_to_come, answers_opened, answers_so, config_ends, found_in, is_second, never_tape, none_judged, tape_ends, unfinished_so, whole_played, wrote_none, wrote_under}
-use Rattle.cmd_enforce.proofs.AtMoments.{packet_wants_none}
+use Rattle.cmd_enforce.proofs.{Words.{◌≡◌, ◌⊎◌, inl, inr, ◌∙◌, ℕ, List, [], ap, refl, subst, sym, le_trans, Config, Desked, AnswersAt, WroteJudged, packets_of, Rose, Grew-refl, Grew-trans, Grew, arith, opened_due, openings_of, refused_at, Captured, coming, recorded, Names, tape_stage, Found, answered, EnforcesSo, capture_stage, answered_err, ends_early, accepted_stage, either_rose, rose_earlier}, Enforcing.{all_to_come, answers_opened, answers_so, config_ends, found_in, is_second, never_tape, none_judged, tape_ends, unfinished_so, whole_played, wrote_none, wrote_under}, AtMoments.{packet_wants_none}}
 use Rattle.cmd_enforce.proofs.command.enforce.Goals as goal
 
 pub returns-in_err-config-clause-enforces : goal.returns-in_err-config-clause-enforces
@@ -132,3 +130,53 @@ returns-clause-wanting g c = λ told six.
     (c.judge_capture-in-Two.ensures.wanting told six w.played.items
     (c.in_ok-player-in-Two.ensures.begun told w.played.items (found_in (sym holds) w) (is_second (sym holds) w c.in-Two.is))))
     (λ first. absurd (first (is_second (c.in_ok-config.ensures.holds told) w c.in-Two.is))))
+
+pub returns-in_err-config-clause-opens : goal.returns-in_err-config-clause-opens
+returns-in_err-config-clause-opens g c =
+    let words = c.args.names.now in
+    refused_at (openings_of words.config.now words.tape.now words.capture.now) 1 (omega (arith)) _ _ c.from_residual.result c.in_err-config.field-0.0 c.from_residual.ensures.1
+    c.in_err-config.ensures.opens (λ three. omega (arith))
+
+pub returns-in_err-whole-clause-opens : goal.returns-in_err-whole-clause-opens
+returns-in_err-whole-clause-opens g c =
+    let words = c.args.names.now in
+    refused_at (openings_of words.config.now words.tape.now words.capture.now) 2 (omega (arith)) _ _ c.from_residual-in_err-whole.result c.in_err-whole.field-0.0 c.from_residual-in_err-whole.ensures.1
+    (Grew-trans _ _ _ _ _ c.in_ok-config.ensures.opens c.in_err-whole.ensures.opens) (λ three. absurd (c.in_err-whole.ensures.possible.0 three))
+
+pub returns-in_err-capture-clause-opens : goal.returns-in_err-capture-clause-opens
+returns-in_err-capture-clause-opens g c =
+    let words = c.args.names.now in
+    refused_at (openings_of words.config.now words.tape.now words.capture.now) 3 (omega (arith)) _ _ c.from_residual-in_err-capture.result c.in_err-capture.field-0.0 c.from_residual-in_err-capture.ensures.1
+    (Grew-trans _ _ _ _ _ (Grew-trans _ _ _ _ _ c.in_ok-config.ensures.opens c.in_ok-whole.ensures.opens) c.in_err-capture.ensures.opens) (λ three. absurd (c.in_err-capture.ensures.possible.0.0 three))
+
+pub returns-in_err-player-in-Two-clause-opens : goal.returns-in_err-player-in-Two-clause-opens
+returns-in_err-player-in-Two-clause-opens g c =
+    let words = c.args.names.now in
+    refused_at (openings_of words.config.now words.tape.now words.capture.now) 4 (omega (arith)) _ _ c.from_residual-in_err-player-in-Two.result c.in_err-player-in-Two.field-0.0 c.from_residual-in_err-player-in-Two.ensures.1
+    (Grew-trans _ _ _ _ _ (Grew-trans _ _ _ _ _ (Grew-trans _ _ _ _ _ c.in_ok-config.ensures.opens c.in_ok-whole.ensures.opens) c.in_ok-capture.ensures.opens) c.in_err-player-in-Two.ensures.opens) (λ three. absurd (c.in_err-player-in-Two.ensures.possible.0 three))
+
+pub returns-in-One-clause-opens : goal.returns-in-One-clause-opens
+returns-in-One-clause-opens g c =
+    let words = c.args.names.now in
+    opened_due (openings_of words.config.now words.tape.now words.capture.now) 3 (omega (arith)) _ _ _ _ (Grew-trans _ _ _ _ _ (Grew-trans _ _ _ _ _ c.in_ok-config.ensures.opens c.in_ok-whole.ensures.opens) c.in_ok-capture.ensures.opens) c.judge_capture.ensures.opened (omega (arith))
+    (λ three. absurd (c.judge_capture.ensures.possible.0 three))
+
+pub returns-clause-opens : goal.returns-clause-opens
+returns-clause-opens g c =
+    let words = c.args.names.now in
+    opened_due (openings_of words.config.now words.tape.now words.capture.now) 4 (omega (arith)) _ _ _ _ (Grew-trans _ _ _ _ _ (Grew-trans _ _ _ _ _ (Grew-trans _ _ _ _ _ c.in_ok-config.ensures.opens c.in_ok-whole.ensures.opens) c.in_ok-capture.ensures.opens) c.in_ok-player-in-Two.ensures.opens) c.judge_capture-in-Two.ensures.opened (omega (arith))
+    (λ three. absurd (c.judge_capture-in-Two.ensures.possible.0 three))
+
+pub returns-in_err-player-in-Two-clause-enforces : goal.returns-in_err-player-in-Two-clause-enforces
+returns-in_err-player-in-Two-clause-enforces g c = λ told.
+    let words = c.args.names.now in
+    let w = c.in_ok-whole.ensures.played told in
+    let holds = (c.in_ok-capture.ensures.others told).names ∙ c.in_ok-whole.ensures.holds told in
+    let files = (Rose (g.F.Files.faults c.args.files.now) (g.F.Files.faults c.begin.new.files)) in
+    let sink = (Rose (g.S.Sink.faults c.args.sink.now) (g.S.Sink.faults c.args.sink.now)) in
+    let written = g.S.Sink.written c.args.sink.now in
+    answered_err (EnforcesSo c.args.limit (g.F.Files.holds c.args.files.now) words.config.now words.tape.now words.capture.now (files ⊎ sink) written written)
+    c.from_residual-in_err-player-in-Two.result c.in_err-player-in-Two.field-0.0 c.from_residual-in_err-player-in-Two.ensures.1
+    (inl (ends_early (accepted_stage c.args.limit (g.F.Files.holds c.args.files.now) words.config.now words.tape.now) _ _ written c.in_err-player-in-Two.field-0.0
+    (inr (c.in_err-player-in-Two.ensures.begun told w.played.items (found_in (sym holds) w) (is_second (sym holds) w c.in-Two.is)))
+    (λ r. inl (rose_earlier _ _ _ (le_trans (le_trans c.in_ok-config.ensures.later c.in_ok-whole.ensures.later) c.in_ok-capture.ensures.later) r))))

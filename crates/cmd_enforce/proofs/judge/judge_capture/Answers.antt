@@ -1,6 +1,4 @@
-use Rattle.cmd_enforce.proofs.Words.{◌≡◌, ◌⊎◌, ◌∙◌, inr, ap, le_refl, refl, subst, sym, Rose, Grew-refl, coming, recorded, PlayerState, Stands, Found, answered, Memory, answered_err, finished_by, rose_earlier, admitted_in, AreOwn, IsOfPackets, AnswersAt, WroteJudged}
-use Rattle.cmd_enforce.proofs.Enforcing.{answers_under, memory_of_packets, moments_finished, none_by_memory, outside_of_packets, rose_wider, wrote_judged, wrote_none, wrote_under}
-use Rattle.cmd_enforce.proofs.AtMoments.{stands_at}
+use Rattle.cmd_enforce.proofs.{Words.{◌≡◌, ◌⊎◌, ◌∙◌, inr, ap, le_refl, refl, subst, sym, Rose, Grew-refl, coming, recorded, PlayerState, Stands, Found, answered, Memory, answered_err, finished_by, rose_earlier, IsCompiled, IsOfPackets, AnswersAt, WroteJudged}, Enforcing.{answers_under, memory_of_packets, moments_finished, none_by_memory, outside_of_packets, rose_wider, wrote_judged, wrote_none, wrote_under}, AtMoments.{stands_at}}
 use Rattle.cmd_enforce.proofs.judge.judge_capture.Goals as goal
 
 pub returns-in_err-buffer-clause-judges : goal.returns-in_err-buffer-clause-judges
@@ -49,8 +47,9 @@ returns-clause-wanting g c = λ told six items s.
     wrote_under (ap (λ (p : PlayerState). p.desk.config) c.in_ok-following.ensures.same) refl
     (wrote_judged _ _ _ _ _ c.judge_packets-judged.result c.finish.result c.in_ok-lines.ensures.0 begun c.finish.ensures.finishes six)
 
-pub judge_packets-judged-requires-clause-own : goal.judge_packets-judged-requires-clause-own
-judge_packets-judged-requires-clause-own g c = subst (λ (p : PlayerState). AreOwn (admitted_in p.desk.held)) (sym c.in_ok-following.ensures.same) c.in_ok-following.ensures.own
+pub judge_packets-judged-requires-clause-compiled : goal.judge_packets-judged-requires-clause-compiled
+judge_packets-judged-requires-clause-compiled g c =
+    subst (λ (p : PlayerState). IsCompiled p.desk.held c.in_ok-following.following.rules) (sym c.in_ok-following.ensures.same) c.in_ok-following.ensures.compiled
 
 pub returns-in_err-lines-clause-possible : goal.returns-in_err-lines-clause-possible
 returns-in_err-lines-clause-possible g c = answered_err IsOfPackets c.from_residual-in_err-lines.result Memory c.from_residual-in_err-lines.ensures.1 memory_of_packets

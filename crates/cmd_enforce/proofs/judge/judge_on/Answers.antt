@@ -1,5 +1,4 @@
-use Rattle.cmd_enforce.proofs.Words.{◌≡◌, ◌∙◌, inl, ℕ, refl, subst, sym, arith, rules, [], done, coming, packet_from, Rose, until, Stands, Ceases, IsOfCapture, admitted_rules, HasRoom, answered_err, match_err, rose_earlier}
-use Rattle.cmd_enforce.proofs.AtMoments.{awaits, followed_ceased, followed_more, followed_read, followed_stopped, followed_wanting, leaves_as, number_fits, packet_wants_none, read_on}
+use Rattle.cmd_enforce.proofs.{Words.{◌≡◌, ◌∙◌, inl, ℕ, refl, subst, sym, arith, rules, [], done, coming, packet_from, Rose, until, Stands, Ceases, IsOfCapture, admitted_rules, HasRoom, answered_err, match_err, rose_earlier}, AtMoments.{awaits, followed_ceased, followed_more, followed_read, followed_stopped, followed_wanting, leaves_as, number_fits, packet_wants_none, read_on}}
 use Rattle.cmd_enforce.proofs.judge.judge_on.Goals as goal
 
 pub returns-in_err-walked-clause-judged : goal.returns-in_err-walked-clause-judged
@@ -8,16 +7,14 @@ returns-in_err-walked-clause-judged g c = λ told work same_config s f.
 
 pub packets-init : goal.packets-init
 packets-init g c = record {
-  room = c.requires.room;
-  unended = c.requires.open;
-  slot = c.requires.slot;
+  reads = c.requires.reads;
   limit = refl;
-  within = c.requires.within;
   start = omega arith;
   number = c.requires.number;
   walks = λ lists stands family. omega (arith, c.most.ensures lists stands family, c.in_ok-walked.ensures.capacity);
   files_later = omega arith;
   sink_later = omega arith;
+  opened = refl;
   judged = λ told work s f same_config. (s, f);
 }
 
@@ -26,16 +23,20 @@ packets-preserved g c =
     let grows = rw c.in-Some.is at c.in_ok-caught.ensures.grows in
     let times = rw c.in-Some.is at c.in_ok-caught.ensures.times in
     record {
-      room = search rules;
-      unended = rw c.in-Some.is at c.in_ok-caught.ensures.open;
-      slot = c.in_ok-caught.ensures.slot ∙ c.packets.invariant.slot;
+      reads = record {
+        room = search rules;
+        slot = c.in_ok-caught.ensures.slot ∙ c.packets.invariant.reads.slot;
+        unended = rw c.in-Some.is at c.in_ok-caught.ensures.open;
+        within = grows.1;
+        fits = omega (arith, c.in_ok-caught.ensures.limit, c.packets.invariant.reads.fits);
+      };
       limit = c.in_ok-caught.ensures.limit ∙ c.packets.invariant.limit;
-      within = grows.1;
       start = omega (arith, c.packets.invariant.start, grows.0);
       number = omega (arith, c.packets.invariant.number, grows.0, c.in_ok-judge_packet.ensures.number);
       walks = subst (HasRoom c.args.following.now.rules) (sym c.in_ok-judge_packet.ensures.room) c.packets.invariant.walks;
       files_later = omega (arith, c.packets.invariant.files_later, c.in_ok-caught.ensures.later);
       sink_later = omega (arith, c.packets.invariant.sink_later, c.in_ok-judge_packet.ensures.later);
+      opened = c.in_ok-caught.ensures.opened ∙ c.packets.invariant.opened;
       judged = λ told work s f same_config.
           let player = c.args.following.now.player in
           let packet = packet_from c.in-Some.caught c.next_packet.new.buffer in
@@ -43,11 +44,11 @@ packets-preserved g c =
           let behind = g.F.Files.left c.next_packet.new.files in
           let before = c.packets.invariant.judged told work s f same_config in
           let waits = awaits work.items player c.packets.capture.moment c.next_packet.new.capture.moment c.packets.capture.slot 1 left behind
-          c.packets.invariant.slot refl (c.in_ok-caught.ensures.others told).others times.1 before.0 in
+          c.packets.invariant.reads.slot refl (c.in_ok-caught.ensures.others told).others times.1 before.0 in
           let later = subst (λ (n : ℕ). Stands work.items n player (behind 1)) times.0 waits in (
             waits,
             followed_more c.same_routes.ensures _ packet player.desk.held before.1
-                (read_on c.packets.capture c.next_packet.new.capture packet c.packets.capture.slot left behind c.packets.invariant.slot (rw c.in-Some.is at (c.in_ok-caught.ensures.gives told)))
+                (read_on c.packets.capture c.next_packet.new.capture packet c.packets.capture.slot left behind c.packets.invariant.reads.slot (rw c.in-Some.is at (c.in_ok-caught.ensures.gives told)))
                 (leaves_as _ _ (until c.in-Some.caught.moment work.items) player.desk.held same_config (c.is_due.ensures.still c.if-is_due.false work.items (behind 1) later))
                 (c.in_ok-judge_packet.ensures.sends (admitted_rules player.desk.held) c.requires.stands).ok c.in_ok-judge_packet.ensures.number,
           );
@@ -57,7 +58,7 @@ pub judge_packet-requires-clause-fits : goal.judge_packet-requires-clause-fits
 judge_packet-requires-clause-fits g c =
     let grows = rw c.in-Some.is at c.in_ok-caught.ensures.grows in
     number_fits c.packets.lines.number c.next_packet.new.capture.place c.next_packet.new.capture.limit c.args.capture.now.limit
-    (omega (arith, c.packets.invariant.number, grows.0)) grows.1 (c.in_ok-caught.ensures.limit ∙ c.packets.invariant.limit) c.requires.fits
+    (omega (arith, c.packets.invariant.number, grows.0)) grows.1 (c.in_ok-caught.ensures.limit ∙ c.packets.invariant.limit) c.requires.reads.fits
 
 pub returns-in_err-caught-clause-possible : goal.returns-in_err-caught-clause-possible
 returns-in_err-caught-clause-possible g c =
@@ -72,7 +73,7 @@ returns-in_err-caught-clause-judged g c = λ told work same_config s f.
     match_err _ _ c.from_residual-in_err-caught.result c.from_residual-in_err-caught.ensures.1 (λ refusal same.
     rw same (followed_ceased _ _ _ _ _ c.in_err-caught.field-0.0 (c.packets.invariant.judged told work s f same_config).1 c.packets.invariant.files_later
     (subst (λ (n : ℕ). Ceases (coming c.packets.capture (g.F.Files.left c.packets.files n)) failed c.in_err-caught.field-0.0)
-    c.packets.invariant.slot (c.in_err-caught.ensures.gives told))))
+    c.packets.invariant.reads.slot (c.in_err-caught.ensures.gives told))))
 
 pub returns-then-is_due-clause-found : goal.returns-then-is_due-clause-found
 returns-then-is_due-clause-found g c =
@@ -95,9 +96,9 @@ returns-then-is_due-clause-judged g c = λ told work same_config s f.
     let before = c.packets.invariant.judged told work s f same_config in
     let times = rw c.in-Some.is at c.in_ok-caught.ensures.times in (
       awaits work.items c.args.following.now.player c.packets.capture.moment c.next_packet.new.capture.moment c.packets.capture.slot 1 left behind
-          c.packets.invariant.slot refl (c.in_ok-caught.ensures.others told).others times.1 before.0,
+          c.packets.invariant.reads.slot refl (c.in_ok-caught.ensures.others told).others times.1 before.0,
       followed_read _
-          (read_on c.packets.capture c.next_packet.new.capture packet c.packets.capture.slot left behind c.packets.invariant.slot (rw c.in-Some.is at (c.in_ok-caught.ensures.gives told)))
+          (read_on c.packets.capture c.next_packet.new.capture packet c.packets.capture.slot left behind c.packets.invariant.reads.slot (rw c.in-Some.is at (c.in_ok-caught.ensures.gives told)))
           before.1,
     )
 
@@ -110,12 +111,12 @@ returns-in_err-judge_packet-clause-judged g c = λ told work same_config s f.
     let before = c.packets.invariant.judged told work s f same_config in
     let times = rw c.in-Some.is at c.in_ok-caught.ensures.times in
     let waits = awaits work.items player c.packets.capture.moment c.next_packet.new.capture.moment c.packets.capture.slot 1 left behind
-    c.packets.invariant.slot refl (c.in_ok-caught.ensures.others told).others times.1 before.0 in
+    c.packets.invariant.reads.slot refl (c.in_ok-caught.ensures.others told).others times.1 before.0 in
     let later = subst (λ (n : ℕ). Stands work.items n player (behind 1)) times.0 waits in
     let sent = c.in_err-judge_packet.ensures.sends (admitted_rules player.desk.held) c.requires.stands in
     match_err _ _ c.from_residual-in_err-judge_packet.result c.from_residual-in_err-judge_packet.ensures.1 (λ refusal same.
     rw same (followed_stopped c.same_routes.ensures _ _ _ packet player.desk.held _ _ _ before.1
-    (read_on c.packets.capture c.next_packet.new.capture packet c.packets.capture.slot left behind c.packets.invariant.slot (rw c.in-Some.is at (c.in_ok-caught.ensures.gives told)))
+    (read_on c.packets.capture c.next_packet.new.capture packet c.packets.capture.slot left behind c.packets.invariant.reads.slot (rw c.in-Some.is at (c.in_ok-caught.ensures.gives told)))
     (leaves_as _ _ (until c.in-Some.caught.moment work.items) player.desk.held same_config (c.is_due.ensures.still c.if-is_due.false work.items (behind 1) later))
     sent.err.0 (rose_earlier _ _ _ c.packets.invariant.sink_later sent.err.1)))
 
@@ -123,6 +124,6 @@ pub returns-clause-judged : goal.returns-clause-judged
 returns-clause-judged g c = λ told work same_config s f. (
   tt,
   followed_read _
-      (subst (λ (n : ℕ). coming c.packets.capture (g.F.Files.left c.packets.files n) ≡ ([], done)) c.packets.invariant.slot (rw c.in_default.is at (c.in_ok-caught.ensures.gives told)))
+      (subst (λ (n : ℕ). coming c.packets.capture (g.F.Files.left c.packets.files n) ≡ ([], done)) c.packets.invariant.reads.slot (rw c.in_default.is at (c.in_ok-caught.ensures.gives told)))
       (c.packets.invariant.judged told work s f same_config).1,
 )

@@ -1,23 +1,18 @@
-use Rattle.cmd_enforce.proofs.Words.{◌≡◌, ◌∙◌, ◌∷◌, inl, inr, ap, refl, sym, arith, rules, le_trans, with_part, coming, packet_from, until, status_of, answered_err, match_err, rose_earlier, IsOfPackets, admitted_rules, judging}
-use Rattle.cmd_enforce.proofs.AtMoments.{breaks_wider, capture_apart, followed_done, followed_first, followed_more, followed_stopped, followed_unplayed, followed_wanting, leaves_as, never_due, number_fits, rose_back, six_of, stands_at}
+use Rattle.cmd_enforce.proofs.{Words.{◌≡◌, ◌∙◌, ◌∷◌, inl, inr, ap, refl, sym, arith, rules, le_trans, with_part, coming, packet_from, until, status_of, answered_err, match_err, rose_earlier, IsOfPackets, admitted_rules, judging}, AtMoments.{breaks_wider, capture_apart, followed_done, followed_first, followed_more, followed_stopped, followed_unplayed, followed_wanting, leaves_as, never_due, number_fits, rose_back, six_of, stands_at}}
 use Rattle.cmd_enforce.proofs.judge.judge_packets.Goals as goal
 
 pub changes-init : goal.changes-init
 changes-init g c = record {
-  room = c.requires.room;
-  unended = c.requires.open;
-  slot = c.requires.slot;
-  limit = refl;
-  within = c.requires.within;
+  reads = c.requires.reads;
   number = omega (arith, c.requires.first);
   tape = c.requires.tape;
   ends = c.requires.ends;
   config = refl;
-  stands = c.requires.stands;
-  own = c.requires.own;
+  compiled = c.requires.compiled;
   still = λ none. (refl, refl, refl, refl, none);
   files_later = omega arith;
   sink_later = omega arith;
+  opened = refl;
   judged = λ told items s. (s, followed_first _ c.args.following.now.player.desk.held c.args.lines.now.number c.requires.first);
 }
 
@@ -25,20 +20,22 @@ pub changes-preserved : goal.changes-preserved
 changes-preserved g c =
     let found = rw c.in-Some.is at c.in_ok-caught.ensures.found in
     record {
-      room = search rules;
-      unended = found.0;
-      slot = c.in_ok-caught.ensures.slot ∙ c.changes.invariant.slot;
-      limit = c.in_ok-caught.ensures.limit ∙ c.changes.invariant.limit;
-      within = found.2;
+      reads = record {
+        room = search rules;
+        slot = c.in_ok-caught.ensures.slot ∙ c.changes.invariant.reads.slot;
+        unended = found.0;
+        within = found.2;
+        fits = omega (arith, c.in_ok-caught.ensures.limit, c.changes.invariant.reads.fits);
+      };
       number = omega (arith, found.3, c.in_ok-judge_packet.ensures.number);
       tape = c.in_ok-follow.ensures.slot ∙ c.changes.invariant.tape;
       ends = c.in_ok-follow.ensures.ends c.changes.invariant.ends;
       config = c.in_ok-follow.ensures.config ∙ c.changes.invariant.config;
-      stands = c.in_ok-follow.ensures.stands;
-      own = c.in_ok-follow.ensures.own;
+      compiled = c.in_ok-follow.ensures.compiled;
       still = λ none. never_due c.changes.following.player.ahead c.changes.following.player.tape.moment c.in-Some.caught.moment (c.changes.invariant.still none).4 found.6;
       files_later = omega (arith, c.changes.invariant.files_later, c.in_ok-caught.ensures.files_later, c.in_ok-follow.ensures.later);
       sink_later = omega (arith, c.changes.invariant.sink_later, c.in_ok-caught.ensures.sink_later, c.in_ok-judge_packet.ensures.later);
+      opened = c.in_ok-follow.ensures.opened ∙ c.in_ok-caught.ensures.opened ∙ c.changes.invariant.opened;
       judged = λ told items s.
           let player = c.changes.following.player in
           let caught = c.in-Some.caught in
@@ -53,14 +50,14 @@ changes-preserved g c =
             followed_more c.same_routes.ensures _ packet c.follow.new.self.player.desk.held on.1
                 (ap (λ octets. with_part packet (coming c.judge_on.new.capture octets)) (sym stays))
                 (leaves_as _ _ (until caught.moment items) c.follow.new.self.player.desk.held (sym c.changes.invariant.config) played.1)
-                (c.in_ok-judge_packet.ensures.sends (admitted_rules c.follow.new.self.player.desk.held) c.in_ok-follow.ensures.stands).ok c.in_ok-judge_packet.ensures.number,
+                (c.in_ok-judge_packet.ensures.sends (admitted_rules c.follow.new.self.player.desk.held) c.in_ok-follow.ensures.compiled.stands).ok c.in_ok-judge_packet.ensures.number,
           );
     }
 
 pub judge_packet-requires-clause-fits : goal.judge_packet-requires-clause-fits
 judge_packet-requires-clause-fits g c =
     let found = rw c.in-Some.is at c.in_ok-caught.ensures.found in
-    number_fits _ _ _ _ found.3 found.2 (c.in_ok-caught.ensures.limit ∙ c.changes.invariant.limit) c.requires.fits
+    number_fits _ _ _ _ found.3 found.2 c.in_ok-caught.ensures.limit c.changes.invariant.reads.fits
 
 pub returns-in_err-caught-clause-possible : goal.returns-in_err-caught-clause-possible
 returns-in_err-caught-clause-possible g c =
@@ -95,9 +92,7 @@ returns-in_err-follow-clause-ends g c =
     match_err _ _ c.from_residual-in_err-follow.result c.from_residual-in_err-follow.ensures.1 (λ refusal same four. rw same (c.in_err-follow.ensures.ends c.changes.invariant.ends))
 
 pub returns-in_err-follow-clause-early : goal.returns-in_err-follow-clause-early
-returns-in_err-follow-clause-early g c = λ none six.
-    let found = rw c.in-Some.is at c.in_ok-caught.ensures.found in
-    never_due c.changes.following.player.ahead c.changes.following.player.tape.moment c.in-Some.caught.moment (c.changes.invariant.still none).4 found.6
+returns-in_err-follow-clause-early g c = λ none six. never_due _ _ _ (c.changes.invariant.still none).4 (rw c.in-Some.is at c.in_ok-caught.ensures.found).6
 
 pub returns-in_err-follow-clause-judged : goal.returns-in_err-follow-clause-judged
 returns-in_err-follow-clause-judged g c = λ told items s.
@@ -119,9 +114,7 @@ returns-in_err-walked-clause-ends g c =
     match_err _ _ c.from_residual-in_err-walked.result c.from_residual-in_err-walked.ensures.1 (λ refusal same four. inl same)
 
 pub returns-in_err-walked-clause-early : goal.returns-in_err-walked-clause-early
-returns-in_err-walked-clause-early g c = λ none six.
-    let found = rw c.in-Some.is at c.in_ok-caught.ensures.found in
-    never_due c.changes.following.player.ahead c.changes.following.player.tape.moment c.in-Some.caught.moment (c.changes.invariant.still none).4 found.6
+returns-in_err-walked-clause-early g c = λ none six. never_due _ _ _ (c.changes.invariant.still none).4 (rw c.in-Some.is at c.in_ok-caught.ensures.found).6
 
 pub returns-in_err-walked-clause-judged : goal.returns-in_err-walked-clause-judged
 returns-in_err-walked-clause-judged g c = λ told items s.
@@ -150,7 +143,7 @@ returns-in_err-judge_packet-clause-judged g c = λ told items s.
     let on = rw c.in-Some.is at (c.in_ok-caught.ensures.judged told work (sym c.changes.invariant.config) before.0 before.1) in
     let played = c.in_ok-follow.ensures.played told items
     (stands_at items c.judge_on.new.capture.moment caught.moment player (g.F.Files.left c.judge_on.new.files) 1 player.tape.slot found.5 (sym c.changes.invariant.tape) on.0) in
-    let sent = c.in_err-judge_packet.ensures.sends (admitted_rules c.follow.new.self.player.desk.held) c.in_ok-follow.ensures.stands in
+    let sent = c.in_err-judge_packet.ensures.sends (admitted_rules c.follow.new.self.player.desk.held) c.in_ok-follow.ensures.compiled.stands in
     match_err _ _ c.from_residual-in_err-judge_packet.result c.from_residual-in_err-judge_packet.ensures.1 (λ refusal same.
     rw same (followed_stopped c.same_routes.ensures _ _ _ packet c.follow.new.self.player.desk.held _ _ _ on.1
     (ap (λ octets. with_part packet (coming c.judge_on.new.capture octets)) (sym stays))

@@ -1,5 +1,4 @@
-use Rattle.cmd_enforce.proofs.Words.{sym, ◌∙◌, ◌+◌, sends_as}
-use Rattle.cmd_enforce.proofs.Walking.{packet_line, unread_line}
+use Rattle.cmd_enforce.proofs.{Words.{sym, ◌∙◌, ◌+◌, sends_as}, Walking.{packet_line, unread_line}}
 use Rattle.cmd_enforce.proofs.lines.judge_packet.Goals as goal
 
 pub returns-in-Ok-clause-sends : goal.returns-in-Ok-clause-sends

@@ -1,5 +1,4 @@
-use Rattle.cmd_enforce.proofs.Words.{◌≡◌, ◌≤◌, ℕ, List, Option, Some, ◌+◌, ap, sym, subst, ◌∙◌, arith, Matching, reaching, reaching_behind, reaching_from, Walked, entries, goes_on, walk_of}
-use Rattle.cmd_enforce.proofs.Walking.{FindsFrom, WalkGoesOn, fewer_steps, matches_on, place_among, walk_ends, walk_on, walk_over}
+use Rattle.cmd_enforce.proofs.{Words.{◌≡◌, ◌≤◌, ℕ, List, Option, Some, ◌+◌, ap, sym, subst, ◌∙◌, arith, Matching, reaching, reaching_behind, reaching_from, Walked, entries, goes_on, walk_of}, Walking.{FindsFrom, WalkGoesOn, fewer_steps, matches_on, place_among, walk_ends, walk_on, walk_over}}
 use Rattle.cmd_enforce.proofs.walk.walk.Goals as goal
 
 pub rules-preserved : goal.rules-preserved

@@ -1,5 +1,4 @@
-use Rattle.cmd_enforce.proofs.Words.{◌≡◌, ◌≤◌, ◌+◌, ◌-◌, length, List, vec_capacity, vec_len, Listed, AreMatchesOf, reaching, reaching_from, WalksWith}
-use Rattle.cmd_enforce.proofs.Walking.{WalkGoesOn}
+use Rattle.cmd_enforce.proofs.{Words.{◌≡◌, ◌≤◌, ◌+◌, ◌-◌, length, List, vec_capacity, vec_len, Listed, AreMatchesOf, reaching, reaching_from, WalksWith}, Walking.{WalkGoesOn}}
 use Rattle.cmd_enforce.proofs.walk.walk.Given as goal
 
 abbrev pub invariant-rules : goal.invariant-rules

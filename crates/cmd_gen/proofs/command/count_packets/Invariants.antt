@@ -4,7 +4,7 @@ use Rattle.cmd_gen.proofs.command.count_packets.Given as goal
 
 abbrev pub invariant-packets : goal.invariant-packets
 invariant-packets l = record {
-  draws : l.draws ≡ behind_pairs l.count (l.count + l.counter);
+  draws : l.draws.state ≡ behind_pairs l.count (l.count + l.counter);
   room : HasRoom l.rules (vec_capacity l.walked);
   passed : (admitted : AdmittedRules) → StandsFor admitted l.rules → l.tally.passed ≡ passed_of admitted (packets l.count l.counter);
   dropped : (admitted : AdmittedRules) → StandsFor admitted l.rules → l.tally.dropped ≡ dropped_of admitted (packets l.count l.counter);

@@ -1,6 +1,5 @@
-use Rattle.cmd_gen.proofs.Words.{◌≡◌, ℕ, List, IfOk, subst, admitted_rules}
+use Rattle.cmd_gen.proofs.{Words.{◌≡◌, ℕ, List, IfOk, subst, admitted_rules}, Generating.{line_is}}
 use Rattle.cmd_enforce.proofs.Walking.{stands_for}
-use Rattle.cmd_gen.proofs.Generating.{line_is}
 use Rattle.cmd_gen.proofs.command.gen_text.Goals as goal
 
 pub count_packets-tally-requires-clause-sound : goal.count_packets-tally-requires-clause-sound

@@ -1,6 +1,5 @@
-use Rattle.cmd_gen.proofs.Words.{List, ℕ, OnOk, subst, Plays, keepalive, open_of, came_up, received}
+use Rattle.cmd_gen.proofs.{Words.{List, ℕ, OnOk, subst, Plays, keepalive, open_of, came_up, received}, Generating.{opened}}
 use Rattle.std.proofs.lemmas.Result.{on_ok_weaker}
-use Rattle.cmd_gen.proofs.Generating.{opened}
 use Rattle.cmd_gen.proofs.command.open_session.Goals as goal
 
 pub returns-clause-played : goal.returns-clause-played

@@ -1,5 +1,4 @@
-use Rattle.cmd_gen.proofs.Words.{◌≡◌, ◌++◌, ◌∙◌, ℕ, ap, sym, subst, arith, Played, Plays, behind_pair, pair_behind, step_of, steps, Item}
-use Rattle.cmd_gen.proofs.Generating.{played_more, played_none, state_more, state_none, step_is}
+use Rattle.cmd_gen.proofs.{Words.{◌≡◌, ◌++◌, ◌∙◌, ℕ, ap, sym, subst, arith, Played, Plays, behind_pair, pair_behind, step_of, steps, Item}, Generating.{played_more, played_none, state_more, state_none, step_is}}
 use Rattle.cmd_gen.proofs.command.play_steps.Goals as goal
 
 pub steps-init : goal.steps-init
@@ -17,7 +16,7 @@ steps-preserved c = record {
   where
     step : Plays (step_of (pair_behind c.args.count c.steps.counter)) c.steps.desk c.octets.new.self
     step = subst (λ (item : Item). Plays item c.steps.desk c.octets.new.self)
-        (step_is c.pair-pair.result c.peer.result c.as_slice.result.now c.steps.draws c.args.count c.steps.counter
+        (step_is c.pair-pair.result c.peer.result c.as_slice.result.now c.steps.draws.state c.args.count c.steps.counter
         c.peer.ensures.peer (c.as_slice.ensures ∙ c.update.ensures) c.pair-pair.ensures.pair c.steps.invariant.draws)
         c.in_ok-octets.ensures.played
 

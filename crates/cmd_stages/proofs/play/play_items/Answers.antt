@@ -1,6 +1,4 @@
-use Rattle.cmd_stages.proofs.Words.{◌≡◌, ◌∙◌, ℕ, subst, sym, arith, rules, with_part, coming, item_from, timed}
-use Rattle.cmd_stages.proofs.LookingAhead.{slots_then}
-use Rattle.cmd_stages.proofs.Playing.{playing_more, playing_done, no_moment}
+use Rattle.cmd_stages.proofs.{Words.{◌≡◌, ◌∙◌, ℕ, subst, sym, arith, rules, with_part, coming, item_from, timed}, LookingAhead.{slots_then}, Playing.{playing_more, playing_done, no_moment}}
 use Rattle.cmd_stages.proofs.play.play_items.Goals as goal
 
 pub items-preserved : goal.items-preserved

@@ -1,5 +1,4 @@
-use Rattle.cmd_stages.proofs.Words.{◌≡◌, ◌≤◌, ◌-◌, length, IsTrue, None, OnlySlot, longest_payload, coming}
-use Rattle.cmd_stages.proofs.Playing.{Playing}
+use Rattle.cmd_stages.proofs.{Words.{◌≡◌, ◌≤◌, ◌-◌, length, IsTrue, None, OnlySlot, longest_payload, coming}, Playing.{Playing}}
 use Rattle.cmd_stages.proofs.play.play_items.Given as goal
 
 abbrev pub invariant-items : goal.invariant-items

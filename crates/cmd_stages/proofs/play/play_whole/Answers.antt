@@ -1,6 +1,4 @@
-use Rattle.cmd_stages.proofs.Words.{ℕ, subst, Rose, coming, PlaysOn, played_to, tape_stage, HasReason}
-use Rattle.cmd_stages.proofs.LookingAhead.{slots_then}
-use Rattle.cmd_stages.proofs.Playing.{played_whole, refused_whole}
+use Rattle.cmd_stages.proofs.{Words.{ℕ, subst, Rose, coming, PlaysOn, played_to, tape_stage, HasReason}, LookingAhead.{slots_then}, Playing.{played_whole, refused_whole}}
 use Rattle.cmd_stages.proofs.play.play_whole.Goals as goal
 
 pub returns-in-Ok-clause-played : goal.returns-in-Ok-clause-played

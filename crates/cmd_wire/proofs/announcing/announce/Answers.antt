@@ -1,14 +1,24 @@
-use Rattle.cmd_wire.proofs.Words.{inl, rose_earlier}
-use Rattle.cmd_wire.proofs.FromStages.{broken_session, ends_handed, rules_reason}
+use Rattle.cmd_wire.{proofs.{Words.{length, refl, happened, with_wire, OpensFront, answered_err, arith, config_then, opened_due}, Concluding.{told_line}, FromStages.{broken_session}}, specs.Lines.{sent_line}}
 use Rattle.cmd_wire.proofs.announcing.announce.Goals as goal
 
-pub returns-in_err-sending-clause-announces : goal.returns-in_err-sending-clause-announces
-returns-in_err-sending-clause-announces g c = λ told.
-    inl (ends_handed _ _ _ _ c.from_residual-in_err-sending.result c.in_err-sending.field-0.0 c.from_residual-in_err-sending.ensures.1
-    (rules_reason c.args.order.now.limit (g.F.Files.holds c.args.files.now) _ c.args.order.now.config.now c.args.order.now.rules.now _ _ _
-    (c.in_ok-config.ensures.reaches told) (c.in_ok-config.ensures.holds told) (c.in_err-sending.ensures.reaches told))
-    (λ r. inl (rose_earlier _ _ _ c.in_ok-config.ensures.later r)))
+pub returns-clause-announces : goal.returns-clause-announces
+returns-clause-announces g c = λ told.
+    told_line _ _ (with_wire g.W.Wire c.args.wire.now c.speak.new.wire (happened g.F.Files g.S.Sink c.args.files.now c.load_both.new.files c.args.sink.now c.tell_ending.new.sink)) _
+    (c.in_ok-config.config, c.in_ok-config.sending) c.in_ok-ending.ending (sent_line (length c.in_ok-config.sending.rules)) (c.in_ok-config.ensures.reaches told)
+    (c.in_ok-ending.ensures.spoken, refl) (rw (← c.as_slice-count.ensures) c.tell_ending.ensures.told)
 
 pub returns-in_err-ending-clause-possible : goal.returns-in_err-ending-clause-possible
 returns-in_err-ending-clause-possible g c =
-    broken_session _ c.from_residual-in_err-ending.result c.in_err-ending.field-0.0 c.from_residual-in_err-ending.ensures.1 c.in_err-ending.ensures.broken
+    (broken_session c.from_residual-in_err-ending.result c.from_residual-in_err-ending.ensures.1 c.in_err-ending.ensures.broken).1
+
+pub returns-in_err-config-clause-opens : goal.returns-in_err-config-clause-opens
+returns-in_err-config-clause-opens g c =
+    answered_err (OpensFront (config_then 2 c.args.order.now.config.now c.args.order.now.rules.now) _ _) c.from_residual.result c.in_err-config.field-0.0 c.from_residual.ensures.1 c.in_err-config.ensures.opens
+
+pub returns-in_err-ending-clause-opens : goal.returns-in_err-ending-clause-opens
+returns-in_err-ending-clause-opens g c =
+    opened_due (config_then 2 c.args.order.now.config.now c.args.order.now.rules.now) 2 (omega (arith)) _ _ _ _ c.in_ok-config.ensures.both refl (omega (arith)) (λ three. omega (arith))
+
+pub returns-clause-opens : goal.returns-clause-opens
+returns-clause-opens g c =
+    opened_due (config_then 2 c.args.order.now.config.now c.args.order.now.rules.now) 2 (omega (arith)) _ _ _ _ c.in_ok-config.ensures.both refl (omega (arith)) (λ three. omega (arith))

@@ -1,5 +1,4 @@
-use Rattle.cmd_wire.proofs.Words.{Rose}
-use Rattle.cmd_wire.proofs.Listings.{told_listing}
+use Rattle.cmd_wire.proofs.{Words.{Rose}, Listings.{told_listing}}
 use Rattle.cmd_wire.proofs.listed.write_listing.Goals as goal
 
 pub returns-clause-told : goal.returns-clause-told

@@ -1,5 +1,4 @@
-use Rattle.cmd_wire.proofs.Words.{sender_of}
-use Rattle.cmd_wire.proofs.FromPairing.{both_begin, lowest_broken}
+use Rattle.cmd_wire.proofs.{Words.{sender_of}, FromPairing.{both_begin, lowest_broken}}
 use Rattle.cmd_wire.proofs.pairing.both_ends.Goals as goal
 
 pub returns-in_err-hearer-clause-broken : goal.returns-in_err-hearer-clause-broken
@@ -7,8 +6,14 @@ returns-in_err-hearer-clause-broken c =
     lowest_broken c.args.config.now (sender_of c.args.config.now.peers) c.args.sending c.from_residual.result c.in_err-hearer.field-0.0
     c.requires c.in_err-hearer.ensures.begins c.from_residual.ensures.1
 
-pub returns-clause-fresh : goal.returns-clause-fresh
-returns-clause-fresh c = c.in_ok-hearer.ensures.begins.fresh
+pub returns-clause-ready : goal.returns-clause-ready
+returns-clause-ready c = record {
+  unheard = c.in_ok-hearer.ensures.begins.fresh;
+  stands = c.in_ok-hearer.ensures.open;
+  none = c.in_ok-teller.ensures.fresh;
+  on = c.in_ok-teller.ensures.on;
+  lives = c.in_ok-teller.ensures.open;
+}
 
 pub returns-clause-begins : goal.returns-clause-begins
 returns-clause-begins c =

@@ -3,7 +3,7 @@ use Rattle.fs_actions.proofs.Insertion.{gathered_none, gathered_one}
 use Rattle.fs_actions.proofs.actions.from_communities.Goals as goal
 
 pub loop-community-init : goal.loop-community-init
-loop-community-init c = rw c.in_ok-list.ensures.items (gathered_none c.as_chunks.result.0.now)
+loop-community-init c = rw c.in_ok-list.ensures (gathered_none c.as_chunks.result.0.now)
 
 pub loop-community-preserved : goal.loop-community-preserved
 loop-community-preserved c =

@@ -1,5 +1,4 @@
-use Rattle.fs_attrs.proofs.Words.{◌≡◌, ℕ, Bool, true, false, not, ◌&&◌, if◌then◌else◌, List, Option, refl, Some, None, sym, subst, ap, ◌∙◌, Attribute, Valued, attributes_of, are_attributes, routes_doubled, values_of, lent, lent_values}
-use Rattle.fs_attrs.proofs.AttributeScans.{SoFar, attributes_end, whole_more, whole_end, kept_next, kept_twice, kept_all, kept_once}
+use Rattle.fs_attrs.proofs.{Words.{◌≡◌, ℕ, Bool, true, false, not, ◌&&◌, if◌then◌else◌, List, Option, refl, Some, None, sym, subst, ap, ◌∙◌, Attribute, Valued, attributes_of, are_attributes, routes_doubled, values_of, lent, lent_values}, AttributeScans.{SoFar, attributes_end, whole_more, whole_end, kept_next, kept_twice, kept_all, kept_once}}
 use Rattle.fs_attrs.proofs.attributes.read_values.Goals as goal
 
 -- over the two tests

@@ -1,5 +1,4 @@
-use Rattle.fs_attrs.proofs.Words.{◌≡◌, length, attributes_of, are_attributes, lent_values}
-use Rattle.fs_attrs.proofs.AttributeScans.{SoFar}
+use Rattle.fs_attrs.proofs.{Words.{◌≡◌, length, attributes_of, are_attributes, lent_values}, AttributeScans.{SoFar}}
 use Rattle.fs_attrs.proofs.attributes.read_values.Given as goal
 
 abbrev pub invariant-loop-attribute : goal.invariant-loop-attribute

@@ -1,5 +1,4 @@
-use Rattle.fs_attrs.proofs.Words.{not, sym, ap, ◌∙◌, lent_segment}
-use Rattle.fs_attrs.proofs.AttributeScans.{wrong_found, wrong_more, wrong_end}
+use Rattle.fs_attrs.proofs.{Words.{not, sym, ap, ◌∙◌, lent_segment}, AttributeScans.{wrong_found, wrong_more, wrong_end}}
 use Rattle.fs_attrs.proofs.paths.are_wrong_segments.Goals as goal
 
 pub returns-then-is_barred : goal.returns-then-is_barred

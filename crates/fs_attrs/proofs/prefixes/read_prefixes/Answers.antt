@@ -1,6 +1,4 @@
-use Rattle.fs_attrs.proofs.Words.{List, sym, ap, ◌∙◌, map, map_push, Prefix, parts_of, shown, Shown, first_prefix}
-use Rattle.fs_attrs.proofs.PartSizes.{prefix_shrinks}
-use Rattle.fs_attrs.proofs.PartLists.{behind, gathered_more, gathered_all, if_whole}
+use Rattle.fs_attrs.proofs.{Words.{List, sym, ap, ◌∙◌, map, map_push, Prefix, parts_of, shown, Shown, first_prefix}, PartSizes.{prefix_shrinks}, PartLists.{behind, gathered_more, gathered_all, if_whole}}
 use Rattle.fs_attrs.proofs.prefixes.read_prefixes.Goals as goal
 
 pub loop-prefix-preserved : goal.loop-prefix-preserved

@@ -1,5 +1,4 @@
-use Rattle.fs_attrs.proofs.Words.{◌≡◌, length, map, parts_of, shown, first_prefix}
-use Rattle.fs_attrs.proofs.PartLists.{behind}
+use Rattle.fs_attrs.proofs.{Words.{◌≡◌, length, map, parts_of, shown, first_prefix}, PartLists.{behind}}
 use Rattle.fs_attrs.proofs.prefixes.read_prefixes.Given as goal
 
 abbrev pub invariant-loop-prefix : goal.invariant-loop-prefix

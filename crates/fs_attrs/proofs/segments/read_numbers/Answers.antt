@@ -1,6 +1,4 @@
-use Rattle.fs_attrs.proofs.Words.{ℕ, List, sym, ap, ◌∙◌, parts_of, first_as}
-use Rattle.fs_attrs.proofs.PartSizes.{as_shrinks}
-use Rattle.fs_attrs.proofs.PartLists.{behind, gathered_more, gathered_all}
+use Rattle.fs_attrs.proofs.{Words.{ℕ, List, sym, ap, ◌∙◌, parts_of, first_as}, PartSizes.{as_shrinks}, PartLists.{behind, gathered_more, gathered_all}}
 use Rattle.fs_attrs.proofs.segments.read_numbers.Goals as goal
 
 pub loop-number-preserved : goal.loop-number-preserved

@@ -1,5 +1,4 @@
-use Rattle.fs_attrs.proofs.Words.{◌≡◌, length, parts_of, first_as}
-use Rattle.fs_attrs.proofs.PartLists.{behind}
+use Rattle.fs_attrs.proofs.{Words.{◌≡◌, length, parts_of, first_as}, PartLists.{behind}}
 use Rattle.fs_attrs.proofs.segments.read_numbers.Given as goal
 
 abbrev pub invariant-loop-number : goal.invariant-loop-number

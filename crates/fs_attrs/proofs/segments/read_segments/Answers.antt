@@ -1,6 +1,4 @@
-use Rattle.fs_attrs.proofs.Words.{ℕ, List, [], ◌∷◌, ◌++◌, sym, ap, ap₂, ◌∙◌, Segment, parts_of, first_segment, segment, lent_segment}
-use Rattle.fs_attrs.proofs.PartSizes.{segment_shrinks}
-use Rattle.fs_attrs.proofs.PartLists.{behind, gathered_more, gathered_all}
+use Rattle.fs_attrs.proofs.{Words.{ℕ, List, [], ◌∷◌, ◌++◌, sym, ap, ap₂, ◌∙◌, Segment, parts_of, first_segment, segment, lent_segment}, PartSizes.{segment_shrinks}, PartLists.{behind, gathered_more, gathered_all}}
 use Rattle.fs_attrs.proofs.segments.read_segments.Goals as goal
 
 pub loop-segment-preserved : goal.loop-segment-preserved

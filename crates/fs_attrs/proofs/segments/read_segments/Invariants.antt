@@ -1,5 +1,4 @@
-use Rattle.fs_attrs.proofs.Words.{◌≡◌, length, parts_of, first_segment}
-use Rattle.fs_attrs.proofs.PartLists.{behind}
+use Rattle.fs_attrs.proofs.{Words.{◌≡◌, length, parts_of, first_segment}, PartLists.{behind}}
 use Rattle.fs_attrs.proofs.segments.read_segments.Given as goal
 
 abbrev pub invariant-loop-segment : goal.invariant-loop-segment

@@ -1,5 +1,4 @@
-use Rattle.fs_nlri.specs.Spelling.{octets_for}
-use Rattle.fs_nlri.proofs.Writable.{high_octets_fit}
+use Rattle.fs_nlri.{specs.Spelling.{octets_for}, proofs.Writable.{high_octets_fit}}
 use Rattle.fs_attrs.proofs.texts.append_bits.Goals as goal
 
 pub write_uint128-requires-clause-fits : goal.write_uint128-requires-clause-fits

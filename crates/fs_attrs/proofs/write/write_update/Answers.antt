@@ -1,8 +1,5 @@
-use Rattle.fs_attrs.proofs.Words.{rules, ◌≡◌, ◌≤◌, ◌+◌, ℕ, List, length, Ok, Err, OnOk, subst, update_text, Writes}
+use Rattle.fs_attrs.{proofs.{Words.{rules, ◌≡◌, ◌≤◌, ◌+◌, ℕ, List, length, Ok, Err, OnOk, subst, update_text, Writes}, UpdateReadBack.{read_back}}, specs.declared.update.WriteFault.{WriteFault, TheVariants.{TooLong, Memory}}}
 use Rattle.std.specs.Prelude.{Result}
-use Rattle.fs_attrs.specs.declared.update.WriteFault.{WriteFault}
-use Rattle.fs_attrs.specs.declared.update.WriteFault.TheVariants.{TooLong, Memory}
-use Rattle.fs_attrs.proofs.UpdateReadBack.{read_back}
 use Rattle.fs_attrs.proofs.write.write_update.Goals as goal
 
 -- what holds of a body that fits a message

@@ -1,6 +1,4 @@
-use Rattle.fs_base.proofs.Words.{width_of, xor_lt}
-use Rattle.fs_base.proofs.CommonBits.{zeros_enough, common_there, common_back}
-use Rattle.fs_base.proofs.Blocks.{width_least}
+use Rattle.fs_base.proofs.{Words.{width_of, xor_lt}, CommonBits.{zeros_enough, common_there, common_back}, Blocks.{width_least}}
 use Rattle.fs_base.proofs.bits.common_bits.Goals as goal
 
 pub overflow_sub-result-2 : goal.overflow_sub-result-2

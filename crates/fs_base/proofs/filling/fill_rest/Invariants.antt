@@ -1,5 +1,4 @@
-use Rattle.fs_base.proofs.Words.{◌≡◌, ◌≤◌, ◌+◌, ◌-◌, ◌++◌, [], drop, length, IsTrue, PassesIn}
-use Rattle.fs_base.proofs.Filled.{Filled}
+use Rattle.fs_base.proofs.{Words.{◌≡◌, ◌≤◌, ◌+◌, ◌-◌, ◌++◌, [], drop, length, IsTrue, PassesIn}, Filled.{Filled}}
 use Rattle.fs_base.proofs.filling.fill_rest.Given as goal
 
 abbrev pub invariant-loop-at : goal.invariant-loop-at

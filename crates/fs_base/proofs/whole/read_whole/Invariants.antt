@@ -1,5 +1,4 @@
-use Rattle.fs_base.proofs.Words.{◌≡◌, ◌≤◌, ◌-◌, ◌++◌, [], length, IsTrue, Passed}
-use Rattle.fs_base.specs.Files.{OnlySlot}
+use Rattle.fs_base.{proofs.Words.{◌≡◌, ◌≤◌, ◌-◌, ◌++◌, [], length, IsTrue, Passed}, specs.Files.{OnlySlot}}
 use Rattle.fs_base.proofs.whole.read_whole.Given as goal
 
 abbrev pub invariant-loop-octets : goal.invariant-loop-octets

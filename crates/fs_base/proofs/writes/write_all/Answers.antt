@@ -1,6 +1,4 @@
-use Rattle.fs_base.proofs.Words.{rules, take_rest}
-use Rattle.fs_base.proofs.Grew.{on_err}
-use Rattle.fs_base.proofs.Writing.{writing_more, writing_part, writing_some}
+use Rattle.fs_base.proofs.{Words.{rules, take_rest}, Grew.{on_err}, Writing.{writing_more, writing_part, writing_some}}
 use Rattle.fs_base.proofs.writes.write_all.Goals as goal
 
 pub returns-in_err-count-clause-err : goal.returns-in_err-count-clause-err

@@ -1,6 +1,5 @@
-use Rattle.fs_buckets.proofs.Words.{nat_lt, get_or, rules, of_calls, arith, ltb-true, ltb-false}
+use Rattle.fs_buckets.proofs.{Words.{nat_lt, get_or, rules, of_calls, arith, ltb-true, ltb-false}, Finding.{parted}}
 use Rattle.std.proofs.lemmas.List.Sorted.{IsPartitionPoint-from_clause}
-use Rattle.fs_buckets.proofs.Finding.{parted}
 use Rattle.fs_buckets.proofs.addresses.find_widened.Goals as goal
 
 pub returns-clause-below : goal.returns-clause-below

@@ -1,5 +1,4 @@
-use Rattle.fs_buckets.proofs.Words.{length, IfOk-weaker, all_admitted, spans_of}
-use Rattle.fs_buckets.proofs.Widths.{narrow}
+use Rattle.fs_buckets.proofs.{Words.{length, IfOk-weaker, all_admitted, spans_of}, Widths.{narrow}}
 use Rattle.fs_buckets.proofs.buckets.buckets_of.Goals as goal
 
 pub runs_of-requires-clause-narrow : goal.runs_of-requires-clause-narrow

@@ -1,5 +1,4 @@
-use Rattle.fs_buckets.proofs.Words.{ℕ, ◌<◌, List, get_or, length, refl, subst, arith, numbers_in, nodes_in, IsSubnet, AreNodes, ArePlain}
-use Rattle.fs_buckets.proofs.Running.{housed_from, buckets_from}
+use Rattle.fs_buckets.proofs.{Words.{ℕ, ◌<◌, List, get_or, length, refl, subst, arith, numbers_in, nodes_in, IsSubnet, AreNodes, ArePlain}, Running.{housed_from, buckets_from}}
 use Rattle.fs_buckets.proofs.buckets.buckets_with.Goals as goal
 
 pub returns : goal.returns

@@ -1,6 +1,4 @@
-use Rattle.fs_buckets.proofs.Words.{◌≡◌, ℕ, ◌-◌, Option, Some, None, OnOk, Result, Ok, Err, List, length, get_or, refl, sym, ap₂, subst, ◌∙◌, numbers_in, AreRuns, EndsWith, Joined, Opened, RunsOf}
-use Rattle.fs_buckets.specs.declared.runs.Runs.{Runs}
-use Rattle.fs_buckets.proofs.Running.{join_runs, open_runs}
+use Rattle.fs_buckets.{proofs.{Words.{◌≡◌, ℕ, ◌-◌, Option, Some, None, OnOk, Result, Ok, Err, List, length, get_or, refl, sym, ap₂, subst, ◌∙◌, numbers_in, AreRuns, EndsWith, Joined, Opened, RunsOf}, Running.{join_runs, open_runs}}, specs.declared.runs.Runs.{Runs}}
 use Rattle.fs_buckets.proofs.runs.add.Goals as goal
 
 -- by the lists of the new runs

@@ -1,6 +1,5 @@
 use Rattle.fs_buckets.proofs.Words.{◌≡◌, ℕ, ◌+◌, ◌-◌, ◌^◌, ◌<◌, Option, Some, None, option_map, List, length, get_or, sym, ap, subst, ◌∙◌, arith, get_or-map, length-map, Ruled, destination_of, shown, Listed, all_admitted, shown_lent, LentRule, span_by, span_of, spans_of}
-use Rattle.fs_base.specs.declared.prefix.Prefix.{Prefix}
-use Rattle.fs_base.specs.Prefix.{last_address}
+use Rattle.fs_base.specs.{declared.prefix.Prefix.{Prefix}, Prefix.{last_address}}
 use Rattle.fs_buckets.proofs.runs.add_each.Goals as goal
 use Rattle.fs_buckets.proofs.Replacing.{spans_size}
 

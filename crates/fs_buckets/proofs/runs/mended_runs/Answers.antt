@@ -1,5 +1,4 @@
-use Rattle.fs_buckets.proofs.Words.{◌≡◌, ◌⊎◌, inl, inr, ℕ, ◌+◌, ◌-◌, ◌<◌, ◌≤◌, Option, None, List, length, get_or, sym, ap, subst, ◌∙◌, arith, cases_lt, all_admitted, LentRule, Buckets, AreAll, AreNarrow, spans_of, Adds, Keeps}
-use Rattle.fs_buckets.proofs.Replacing.{spans_size}
+use Rattle.fs_buckets.proofs.{Words.{◌≡◌, ◌⊎◌, inl, inr, ℕ, ◌+◌, ◌-◌, ◌<◌, ◌≤◌, Option, None, List, length, get_or, sym, ap, subst, ◌∙◌, arith, cases_lt, all_admitted, LentRule, Buckets, AreAll, AreNarrow, spans_of, Adds, Keeps}, Replacing.{spans_size}}
 use Rattle.fs_buckets.proofs.runs.mended_runs.Goals as goal
 
 -- where each has a destination all were added

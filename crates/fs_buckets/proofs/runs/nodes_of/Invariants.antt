@@ -1,5 +1,4 @@
-use Rattle.fs_buckets.proofs.Words.{ℕ, ◌<◌, ◌^◌, get_or, length, node_width, nodes_in}
-use Rattle.fs_buckets.proofs.Running.{AreNodesTo}
+use Rattle.fs_buckets.proofs.{Words.{ℕ, ◌<◌, ◌^◌, get_or, length, node_width, nodes_in}, Running.{AreNodesTo}}
 use Rattle.fs_buckets.proofs.runs.nodes_of.Given as goal
 
 abbrev pub invariant-loop-run : goal.invariant-loop-run

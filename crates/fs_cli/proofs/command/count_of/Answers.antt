@@ -1,5 +1,4 @@
-use Rattle.fs_cli.proofs.Words.{◌≡◌, ℕ, decimal, sym, subst, arith, true, false, ◌∙◌, bytes_eq, bytes_eq-Decides}
-use Rattle.fs_cli.proofs.Counting.{count_found, count_other, same_number, never_both}
+use Rattle.fs_cli.proofs.{Words.{◌≡◌, ℕ, decimal, sym, subst, arith, true, false, ◌∙◌, bytes_eq, bytes_eq-Decides}, Counting.{count_found, count_other, same_number, never_both}}
 use Rattle.fs_cli.proofs.command.count_of.Goals as goal
 
 pub returns-in-Ok : goal.returns-in-Ok

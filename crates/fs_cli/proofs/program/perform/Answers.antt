@@ -1,5 +1,4 @@
-use Rattle.fs_cli.proofs.Words.{◌∙◌, ◌∷◌, [], ap, refl, sym, happened, with_wire, form_shown, Wants, OpensBoth, conversation}
-use Rattle.fs_cli.proofs.Running.{enforce_as, one_but, runs_as, survey_as, wants_enforce}
+use Rattle.fs_cli.proofs.{Words.{◌∙◌, ◌∷◌, [], ap, refl, sym, happened, with_wire, form_shown, Wants, conversation}, Running.{enforce_as, one_but, one_of_session, opens_as, opens_none, runs_as, wants_enforce}}
 use Rattle.fs_cli.proofs.program.perform.Goals as goal
 
 pub returns-in-Enforce-clause-runs : goal.returns-in-Enforce-clause-runs
@@ -21,11 +20,6 @@ pub returns-in-Survey-clause-runs : goal.returns-in-Survey-clause-runs
 returns-in-Survey-clause-runs g c =
     let p = c.survey_tape.ensures.possible in
     runs_as _ _ _ _ _ (ap form_shown c.in-Survey.is) c.answer_of-in-Survey.ensures.answered (one_but c.survey_tape.result (5 ∷ 8 ∷ 10 ∷ []) (p.0, (p.1, (p.2, tt)))) c.survey_tape.ensures.lists
-
-pub returns-in-Survey-clause-opens : goal.returns-in-Survey-clause-opens
-returns-in-Survey-clause-opens g c = λ survey config tape asked.
-    survey_as (λ config tape answer. OpensBoth config tape (g.F.Files.opened c.args.files.now) (g.F.Files.opened c.survey_tape.new.files) answer)
-    (ap form_shown c.in-Survey.is) asked c.answer_of-in-Survey.ensures.answered c.survey_tape.ensures.opens
 
 pub returns-in-Convert-clause-runs : goal.returns-in-Convert-clause-runs
 returns-in-Convert-clause-runs g c =
@@ -49,15 +43,36 @@ returns-in-Gen-clause-runs g c =
 
 pub returns-in-Announce-clause-runs : goal.returns-in-Announce-clause-runs
 returns-in-Announce-clause-runs g c =
-    let p = c.announce.ensures.possible in
-    runs_as _ _ _ _ _ (ap form_shown c.in-Announce.is) c.answer_of-in-Announce.ensures.answered (one_but c.announce.result (4 ∷ 5 ∷ 10 ∷ []) (p.0, (p.1, (p.2, tt)))) c.announce.ensures.announces
+    runs_as _ _ _ _ _ (ap form_shown c.in-Announce.is) c.answer_of-in-Announce.ensures.answered (one_of_session c.announce.result c.announce.ensures.possible) c.announce.ensures.announces
 
 pub returns-in-Listen-clause-runs : goal.returns-in-Listen-clause-runs
 returns-in-Listen-clause-runs g c =
-    let p = c.listen.ensures.possible in
-    runs_as _ _ _ _ _ (ap form_shown c.in-Listen.is) c.answer_of-in-Listen.ensures.answered (one_but c.listen.result (4 ∷ 5 ∷ 10 ∷ []) (p.0, (p.1, (p.2, tt)))) c.listen.ensures.listens
+    runs_as _ _ _ _ _ (ap form_shown c.in-Listen.is) c.answer_of-in-Listen.ensures.answered (one_of_session c.listen.result c.listen.ensures.possible) c.listen.ensures.listens
 
 pub returns-in-Pair-clause-runs : goal.returns-in-Pair-clause-runs
 returns-in-Pair-clause-runs g c =
-    let p = c.pair.ensures.possible in
-    runs_as _ _ _ _ _ (ap form_shown c.in-Pair.is) c.answer_of-in-Pair.ensures.answered (one_but c.pair.result (4 ∷ 5 ∷ 10 ∷ []) (p.0, (p.1, (p.2, tt)))) c.pair.ensures.joins
+    runs_as _ _ _ _ _ (ap form_shown c.in-Pair.is) c.answer_of-in-Pair.ensures.answered (one_of_session c.pair.result c.pair.ensures.possible) c.pair.ensures.joins
+
+pub returns-in-Enforce-clause-opens : goal.returns-in-Enforce-clause-opens
+returns-in-Enforce-clause-opens g c = opens_as (ap form_shown c.in-Enforce.is) c.answer_of.ensures.answered c.enforce.ensures.opens
+
+pub returns-in-Survey-clause-opens : goal.returns-in-Survey-clause-opens
+returns-in-Survey-clause-opens g c = opens_as (ap form_shown c.in-Survey.is) c.answer_of-in-Survey.ensures.answered c.survey_tape.ensures.opens
+
+pub returns-in-Convert-clause-opens : goal.returns-in-Convert-clause-opens
+returns-in-Convert-clause-opens g c = opens_as (ap form_shown c.in-Convert.is) c.answer_of-in-Convert.ensures.answered c.convert.ensures.opens
+
+pub returns-in-Announce-clause-opens : goal.returns-in-Announce-clause-opens
+returns-in-Announce-clause-opens g c = opens_as (ap form_shown c.in-Announce.is) c.answer_of-in-Announce.ensures.answered c.announce.ensures.opens
+
+pub returns-in-Listen-clause-opens : goal.returns-in-Listen-clause-opens
+returns-in-Listen-clause-opens g c = opens_as (ap form_shown c.in-Listen.is) c.answer_of-in-Listen.ensures.answered c.listen.ensures.opens
+
+pub returns-in-Pair-clause-opens : goal.returns-in-Pair-clause-opens
+returns-in-Pair-clause-opens g c = opens_as (ap form_shown c.in-Pair.is) c.answer_of-in-Pair.ensures.answered c.pair.ensures.opens
+
+pub returns-in-Check-clause-opens : goal.returns-in-Check-clause-opens
+returns-in-Check-clause-opens g c = opens_none (g.F.Files.opened c.args.files.now) _ (ap form_shown c.in-Check.is) refl
+
+pub returns-in-Gen-clause-opens : goal.returns-in-Gen-clause-opens
+returns-in-Gen-clause-opens g c = opens_none (g.F.Files.opened c.args.files.now) _ (ap form_shown c.in-Gen.is) refl

@@ -1,5 +1,4 @@
-use Rattle.fs_cli.specs.Program.{objects}
-use Rattle.fs_cli.proofs.Running.{promises_none, promises_some}
+use Rattle.fs_cli.{specs.Program.{objects}, proofs.Running.{promises_none, promises_some}}
 use Rattle.fs_cli.proofs.program.run_within.Goals as goal
 
 pub returns-in-None : goal.returns-in-None

@@ -1,6 +1,5 @@
-use Rattle.fs_cli.proofs.Words.{subst, sym, Rose, Fails, Refusal, stopped_text}
+use Rattle.fs_cli.proofs.{Words.{subst, sym, Rose, Fails, Refusal, stopped_text}, Surveying.{says_failing}}
 use Rattle.fs_reports.specs.TapeFault.{tape_fault_line}
-use Rattle.fs_cli.proofs.Surveying.{says_failing}
 use Rattle.fs_cli.proofs.survey.tell_refusal.Goals as goal
 
 pub returns-in_err-write_made-clause-said : goal.returns-in_err-write_made-clause-said

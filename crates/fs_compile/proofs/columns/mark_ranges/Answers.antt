@@ -1,6 +1,5 @@
-use Rattle.fs_compile.proofs.Words.{◌≡◌, ℕ, true, List, take, sym, ap, subst, ◌∙◌, arith, contains}
+use Rattle.fs_compile.proofs.{Words.{◌≡◌, ℕ, true, List, take, sym, ap, subst, ◌∙◌, arith, contains}, Marking.{grown_on, range_more}}
 use Rattle.std.proofs.Math.Seq.{take-length}
-use Rattle.fs_compile.proofs.Marking.{grown_on, range_more}
 use Rattle.fs_compile.proofs.columns.mark_ranges.Goals as goal
 
 pub loop-range-preserved : goal.loop-range-preserved

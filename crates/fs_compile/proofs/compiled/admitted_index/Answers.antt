@@ -1,5 +1,4 @@
-use Rattle.fs_compile.proofs.Words.{List, IfOk, sym, ap, subst, ◌∙◌, AllByRecursion, Listed, all_admitted, admitted, IsIndexOf, IsOfFamily, spans_of, AreNesting, all_of_family, nesting}
-use Rattle.fs_compile.proofs.MatcherMending.{if_ok}
+use Rattle.fs_compile.proofs.{Words.{List, IfOk, sym, ap, subst, ◌∙◌, AllByRecursion, Listed, all_admitted, admitted, IsIndexOf, IsOfFamily, spans_of, AreNesting, all_of_family, nesting}, MatcherMending.{if_ok}}
 use Rattle.fs_compile.proofs.compiled.admitted_index.Goals as goal
 
 pub of-requires-clause-each : goal.of-requires-clause-each

@@ -1,6 +1,4 @@
-use Rattle.fs_compile.proofs.Words.{◌≡◌, ℕ, ◌+◌, ◌-◌, ◌*◌, ◌/◌, ◌^◌, ◌<◌, ◌≤◌, min, inl, inr, ◌⊎◌, false, get_or, arith, cases_lt, Found, hits}
-use Rattle.fs_compile.proofs.Sieving.{set_in_all}
-use Rattle.fs_compile.proofs.Skipping.{words_missed}
+use Rattle.fs_compile.proofs.{Words.{◌≡◌, ℕ, ◌+◌, ◌-◌, ◌*◌, ◌/◌, ◌^◌, ◌<◌, ◌≤◌, min, inl, inr, ◌⊎◌, false, get_or, arith, cases_lt, Found, hits}, Sieving.{set_in_all}, Skipping.{words_missed}}
 use Rattle.fs_compile.proofs.filters.scan_rows.Goals as goal
 
 pub words-init : goal.words-init

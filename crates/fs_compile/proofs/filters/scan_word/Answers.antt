@@ -1,6 +1,4 @@
-use Rattle.fs_compile.proofs.Words.{◌≡◌, ℕ, ◌+◌, ◌-◌, ◌/◌, ◌^◌, min, ap, sym, subst, ◌∙◌, w64, arith, bit_at, trailing_zeros, facts_hold, Missed, hits}
-use Rattle.fs_compile.proofs.Climbing.{missed_more, test_fails}
-use Rattle.fs_compile.proofs.Sieving.{fits_shifted, left_first, left_next, lowest, missed_all, missed_on, none_marked, test_passes}
+use Rattle.fs_compile.proofs.{Words.{◌≡◌, ℕ, ◌+◌, ◌-◌, ◌/◌, ◌^◌, min, ap, sym, subst, ◌∙◌, w64, arith, bit_at, trailing_zeros, facts_hold, Missed, hits}, Climbing.{missed_more, test_fails}, Sieving.{fits_shifted, left_first, left_next, lowest, missed_all, missed_on, none_marked, test_passes}}
 use Rattle.fs_compile.proofs.filters.scan_word.Goals as goal
 
 pub returns-then-front-eq0 : goal.returns-then-front-eq0

@@ -1,5 +1,4 @@
-use Rattle.fs_compile.proofs.Words.{◌+◌, ◌-◌, ◌^◌, ◌<◌, ◌≤◌, min, Missed, hits}
-use Rattle.fs_compile.proofs.Sieving.{AreLeft}
+use Rattle.fs_compile.proofs.{Words.{◌+◌, ◌-◌, ◌^◌, ◌<◌, ◌≤◌, min, Missed, hits}, Sieving.{AreLeft}}
 use Rattle.fs_compile.proofs.filters.scan_word.Given as goal
 
 abbrev pub invariant-candidates : goal.invariant-candidates

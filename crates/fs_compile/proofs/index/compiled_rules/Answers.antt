@@ -1,5 +1,4 @@
-use Rattle.fs_compile.proofs.Words.{◌≡◌, length, take, ◌∙◌, length-take-le, arith, length-map, all_admitted, shown_lent, StandsFor, each_pushed}
-use Rattle.fs_compile.proofs.Indexing.{stand_size}
+use Rattle.fs_compile.proofs.{Words.{◌≡◌, length, take, ◌∙◌, length-take-le, arith, length-map, all_admitted, shown_lent, StandsFor, each_pushed}, Indexing.{stand_size}}
 use Rattle.fs_compile.proofs.index.compiled_rules.Goals as goal
 
 pub loop-admitted-preserved : goal.loop-admitted-preserved

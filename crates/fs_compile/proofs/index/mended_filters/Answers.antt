@@ -1,5 +1,4 @@
-use Rattle.fs_compile.proofs.Words.{◌≡◌, ◌+◌, ◌++◌, ◌∷◌, [], List, length, sym, ap, subst, arith, ℕ, ◌≤◌, All, splice, All-head, All-push, All-tail, Fast, Filter, IsFilter, spliced_size}
-use Rattle.fs_compile.proofs.Filtering.{filter_kept, filter_moved}
+use Rattle.fs_compile.proofs.{Words.{◌≡◌, ◌+◌, ◌++◌, ◌∷◌, [], List, length, sym, ap, subst, arith, ℕ, ◌≤◌, All, splice, All-head, All-push, All-tail, Fast, Filter, IsFilter, spliced_size}, Filtering.{filter_kept, filter_moved}}
 use Rattle.fs_compile.proofs.index.mended_filters.Goals as goal
 
 all_none : (P : Filter → Type 0) → All P []

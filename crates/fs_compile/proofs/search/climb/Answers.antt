@@ -1,6 +1,4 @@
-use Rattle.fs_compile.proofs.Words.{◌≡◌, ◌+◌, ◌<◌, ◌≤◌, ℕ, Option, Some, None, length, get_or, max, sym, rules, subst, arith, Node, Hit, numbers_in, nodes_in, Missed, hit_number, hits, marked, start_at, tested_to}
-use Rattle.fs_compile.proofs.Counts.{marked_later}
-use Rattle.fs_compile.proofs.Climbing.{climbed_cost, missed_none, parent_ends}
+use Rattle.fs_compile.proofs.{Words.{◌≡◌, ◌+◌, ◌<◌, ◌≤◌, ℕ, Option, Some, None, length, get_or, max, sym, rules, subst, arith, Node, Hit, numbers_in, nodes_in, Missed, hit_number, hits, marked, start_at, tested_to}, Counts.{marked_later}, Climbing.{climbed_cost, missed_none, parent_ends}}
 use Rattle.fs_compile.proofs.search.climb.Goals as goal
 
 pub returns-in-Some-clause-steps : goal.returns-in-Some-clause-steps

@@ -1,5 +1,4 @@
-use Rattle.fs_compile.proofs.Words.{◌<◌, ◌≤◌, length, ap, ◌∙◌, arith, facts_hold, hits}
-use Rattle.fs_compile.proofs.Climbing.{missed_more, test_fails}
+use Rattle.fs_compile.proofs.{Words.{◌<◌, ◌≤◌, length, ap, ◌∙◌, arith, facts_hold, hits}, Climbing.{missed_more, test_fails}}
 use Rattle.fs_compile.proofs.search.scan.Goals as goal
 
 pub loop-number-preserved : goal.loop-number-preserved

@@ -1,5 +1,4 @@
-use Rattle.fs_compile.proofs.Words.{◌<◌, ◌≤◌, ℕ, length, max, ap, subst, arith, Node, numbers_in, nodes_in, hits, marked, parent_at, start_at}
-use Rattle.fs_compile.proofs.Climbing.{found_inside, next_starts, searched_found, searched_steps, skipped_cost, skipped_up}
+use Rattle.fs_compile.proofs.{Words.{◌<◌, ◌≤◌, ℕ, length, max, ap, subst, arith, Node, numbers_in, nodes_in, hits, marked, parent_at, start_at}, Climbing.{found_inside, next_starts, searched_found, searched_steps, skipped_cost, skipped_up}}
 use Rattle.fs_compile.proofs.search.scan_bucket.Goals as goal
 
 pub returns-then-place-node-clause-found : goal.returns-then-place-node-clause-found

@@ -1,5 +1,4 @@
-use Rattle.fs_conf.proofs.Words.{◌≡◌, drop, are_single, has_seen}
-use Rattle.fs_conf.proofs.Single.{are_fresh}
+use Rattle.fs_conf.proofs.{Words.{◌≡◌, drop, are_single, has_seen}, Single.{are_fresh}}
 use Rattle.fs_conf.proofs.rules.are_single.Given as goal
 
 -- no two of those passed are one rule, and what is left is to be tried beside them

@@ -1,5 +1,4 @@
-use Rattle.fs_conf.proofs.Words.{ℕ, ◌<◌, rules, arith, All-from_get_or, IsOctets}
-use Rattle.fs_conf.proofs.OneRule.{one_frame, goes_on, bad_frame}
+use Rattle.fs_conf.proofs.{Words.{ℕ, ◌<◌, rules, arith, All-from_get_or, IsOctets}, OneRule.{one_frame, goes_on, bad_frame}}
 use Rattle.fs_conf.proofs.sent.rule_of.Goals as goal
 
 pub returns-in-Ok-clause-ok : goal.returns-in-Ok-clause-ok

@@ -1,4 +1,4 @@
-use Rattle.fs_conf.proofs.TextSought.{never_read, nothing_found}
+use Rattle.fs_conf.proofs.TextSought.{unread}
 use Rattle.fs_conf.proofs.worded.sent_of_text.Goals as goal
 
 pub returns-in-Ok-clause-ok : goal.returns-in-Ok-clause-ok
@@ -9,16 +9,8 @@ returns-in-Ok-clause-ok c =
 
 pub returns-in-Err-Bad-clause-refused : goal.returns-in-Err-Bad-clause-refused
 returns-in-Err-Bad-clause-refused c _ =
-    nothing_found c.says_its_own.ensures c.args.text.now (
-    λ other is.
-    never_read c.in-Err-Bad.field-0 other.rule other.actions (λ e. absurd (let same = c.in-Err-Bad.field-0-is in cc))
-    (c.in-Err-Bad.ensures.exact other.rule other.actions is.rule is.actions is.text_is)
-    )
+    unread c.says_its_own.ensures c.args.text.now c.in-Err-Bad.field-0 (λ e. absurd (let same = c.in-Err-Bad.field-0-is in cc)) c.in-Err-Bad.ensures.exact
 
 pub returns-in-Err-TooLong-clause-refused : goal.returns-in-Err-TooLong-clause-refused
 returns-in-Err-TooLong-clause-refused c _ =
-    nothing_found c.says_its_own.ensures c.args.text.now (
-    λ other is.
-    never_read c.in-Err-TooLong.field-0 other.rule other.actions (λ e. absurd (let same = c.in-Err-TooLong.field-0-is in cc))
-    (c.in-Err-TooLong.ensures.exact other.rule other.actions is.rule is.actions is.text_is)
-    )
+    unread c.says_its_own.ensures c.args.text.now c.in-Err-TooLong.field-0 (λ e. absurd (let same = c.in-Err-TooLong.field-0-is in cc)) c.in-Err-TooLong.ensures.exact

@@ -1,5 +1,4 @@
-use Rattle.fs_desk.proofs.ChangesJoined.{on_ok, path_back, path_there, told_back, told_given}
-use Rattle.fs_desk.proofs.Telling.{tells_then}
+use Rattle.fs_desk.proofs.{ChangesJoined.{on_ok, path_back, path_there, told_back, told_given}, Telling.{tells_then}}
 use Rattle.fs_desk.proofs.apply.apply.Goals as goal
 
 pub returns-in_default-clause-applied : goal.returns-in_default-clause-applied

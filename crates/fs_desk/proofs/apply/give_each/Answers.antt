@@ -1,7 +1,4 @@
-use Rattle.fs_desk.proofs.Words.{List, map, take, Some, subst, sym, refl, shown, Shown, Changes, same, given_at}
-use Rattle.fs_desk.proofs.Telling.{tells_none, tells_then}
-use Rattle.fs_desk.proofs.ChangesJoined.{changes_none, prefixes_more, shown_more}
-use Rattle.fs_desk.proofs.TableChanges.{given_to}
+use Rattle.fs_desk.proofs.{Words.{List, map, take, Some, subst, sym, refl, shown, Shown, Changes, same, given_at}, Telling.{tells_none, tells_then}, ChangesJoined.{changes_none, prefixes_more, shown_more}, TableChanges.{given_to}}
 use Rattle.fs_desk.proofs.apply.give_each.Goals as goal
 
 pub loop-prefix-preserved : goal.loop-prefix-preserved

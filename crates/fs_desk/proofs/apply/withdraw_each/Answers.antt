@@ -1,7 +1,4 @@
-use Rattle.fs_desk.proofs.Words.{List, map, take, None, subst, sym, refl, shown, Shown, Changes, same, taken_of}
-use Rattle.fs_desk.proofs.Telling.{tells_none, tells_then}
-use Rattle.fs_desk.proofs.ChangesJoined.{changes_none, prefixes_more, shown_more}
-use Rattle.fs_desk.proofs.TableChanges.{taken_to}
+use Rattle.fs_desk.proofs.{Words.{List, map, take, None, subst, sym, refl, shown, Shown, Changes, same, taken_of}, Telling.{tells_none, tells_then}, ChangesJoined.{changes_none, prefixes_more, shown_more}, TableChanges.{taken_to}}
 use Rattle.fs_desk.proofs.apply.withdraw_each.Goals as goal
 
 pub loop-prefix-preserved : goal.loop-prefix-preserved

@@ -1,6 +1,4 @@
-use Rattle.fs_desk.proofs.Telling.{tells_none, tells_then}
-use Rattle.fs_desk.proofs.ChangesJoined.{changes_none, rules_taken_more}
-use Rattle.fs_desk.proofs.TableChanges.{rule_taken_to}
+use Rattle.fs_desk.proofs.{Telling.{tells_none, tells_then}, ChangesJoined.{changes_none, rules_taken_more}, TableChanges.{rule_taken_to}}
 use Rattle.fs_desk.proofs.apply.withdraw_rules.Goals as goal
 
 pub loop-rule-preserved : goal.loop-rule-preserved

@@ -1,8 +1,4 @@
-use Rattle.fs_desk.proofs.Words.{Option, refl, subst, sym, ◌∙◌, Update, reply_at, Does, step_with, too_many}
-use Rattle.fs_desk.proofs.Coming.{comes_applied, comes_fed, comes_nothing, comes_shut}
-use Rattle.fs_desk.proofs.Pieces.{fed_none, fed_update, fed_ceased, fed_closed, not_memory}
-use Rattle.fs_desk.proofs.Replies.{replies_taken, replies_update, replies_ceased, replies_closed, replies_nothing, extends_fed, extends_then}
-use Rattle.fs_desk.proofs.TableChanges.{lost_to}
+use Rattle.fs_desk.proofs.{Words.{Option, refl, subst, sym, ◌∙◌, Update, reply_at, Does, step_with, too_many}, Coming.{comes_applied, comes_fed, comes_nothing, comes_shut}, Pieces.{fed_none, fed_update, fed_ceased, fed_closed, found_does, not_memory}, Replies.{replies_taken, replies_update, replies_ceased, replies_closed, replies_nothing, extends_fed, extends_then}, TableChanges.{lost_to}}
 use Rattle.fs_desk.proofs.receive.take_message.Goals as goal
 
 pub returns-in-Ok-default-None-clause-taken : goal.returns-in-Ok-default-None-clause-taken
@@ -16,15 +12,13 @@ pub returns-else-not-is_open-clause-taken : goal.returns-else-not-is_open-clause
 returns-else-not-is_open-clause-taken g c =
     let fed = c.in-Ok-default-Some in
     fed_update c.args.peer c.args.session.now c.feed.new.self c.take_update.new.session c.args.table.now.held c.take_update.new.table.held c.feed.new.replies.items c.take_update.new.replies.items c.args.piece.now fed.count fed.update _ c.if-not-is_open.false
-    (λ h. subst (λ (u : Option Update). Does (step_with c.args.session.now c.args.piece.now) c.args.session.now c.feed.new.self c.args.piece.now fed.count u) fed.field-0-1-is (fed.ensures.exact h).0)
-    fed.ensures.closed fed.ensures.same.0 fed.ensures.same.1 c.in_ok-is_open-in-Ok-default-Some.ensures.taken
+    fed.field-0-1 fed.field-0-1-is fed.ensures.exact fed.ensures.closed fed.ensures.same.0 fed.ensures.same.1 c.in_ok-is_open-in-Ok-default-Some.ensures.taken
 
 pub returns-then-not-is_open-clause-taken : goal.returns-then-not-is_open-clause-taken
 returns-then-not-is_open-clause-taken g c =
     let fed = c.in-Ok-default-Some in
     fed_ceased c.args.peer c.args.session.now c.feed.new.self c.take_update.new.session c.args.table.now.held c.take_update.new.table.held c.feed.new.replies.items c.take_update.new.replies.items c.args.piece.now fed.count fed.update _ c.if-not-is_open.true
-    (λ h. subst (λ (u : Option Update). Does (step_with c.args.session.now c.args.piece.now) c.args.session.now c.feed.new.self c.args.piece.now fed.count u) fed.field-0-1-is (fed.ensures.exact h).0)
-    fed.ensures.closed fed.ensures.same.0 fed.ensures.same.1 c.in_ok-is_open-in-Ok-default-Some.ensures.taken
+    fed.field-0-1 fed.field-0-1-is fed.ensures.exact fed.ensures.closed fed.ensures.same.0 fed.ensures.same.1 c.in_ok-is_open-in-Ok-default-Some.ensures.taken
 
 pub returns-in_ok-close-in-Err-clause-taken : goal.returns-in_ok-close-in-Err-clause-taken
 returns-in_ok-close-in-Err-clause-taken g c =
@@ -44,14 +38,14 @@ pub returns-else-not-is_open-clause-replied : goal.returns-else-not-is_open-clau
 returns-else-not-is_open-clause-replied g c =
     let fed = c.in-Ok-default-Some in
     replies_update c.args.peer c.args.session.now c.feed.new.self c.take_update.new.session c.args.table.now.held c.take_update.new.table.held c.args.replies.now.items c.feed.new.replies.items c.take_update.new.replies.items c.args.piece.now fed.count fed.update _ c.if-not-is_open.false
-    (λ h. (subst (λ (u : Option Update). Does (step_with c.args.session.now c.args.piece.now) c.args.session.now c.feed.new.self c.args.piece.now fed.count u) fed.field-0-1-is (fed.ensures.exact h).0, (fed.ensures.exact h).1))
+    (found_does c.args.session.now c.feed.new.self c.args.piece.now fed.count fed.field-0-1 fed.update fed.field-0-1-is fed.ensures.exact)
     c.in_ok-is_open-in-Ok-default-Some.ensures.taken
 
 pub returns-then-not-is_open-clause-replied : goal.returns-then-not-is_open-clause-replied
 returns-then-not-is_open-clause-replied g c =
     let fed = c.in-Ok-default-Some in
     replies_ceased c.args.peer c.args.session.now c.feed.new.self c.take_update.new.session c.args.table.now.held c.take_update.new.table.held c.args.replies.now.items c.feed.new.replies.items c.take_update.new.replies.items c.args.piece.now fed.count fed.update _ c.if-not-is_open.true
-    (λ h. (subst (λ (u : Option Update). Does (step_with c.args.session.now c.args.piece.now) c.args.session.now c.feed.new.self c.args.piece.now fed.count u) fed.field-0-1-is (fed.ensures.exact h).0, (fed.ensures.exact h).1))
+    (found_does c.args.session.now c.feed.new.self c.args.piece.now fed.count fed.field-0-1 fed.update fed.field-0-1-is fed.ensures.exact)
     fed.ensures.closed fed.ensures.same.0 fed.ensures.same.1 c.in_ok-is_open-in-Ok-default-Some.ensures.taken
 
 pub returns-in_ok-close-in-Err-clause-replied : goal.returns-in_ok-close-in-Err-clause-replied

@@ -1,5 +1,4 @@
-use Rattle.fs_flows.proofs.Words.{◌≡◌, ◌≤◌, ◌/◌, sym, ap, subst, ◌∙◌, length, take, drop, arith, FlowRoute, AllBefore, place_in}
-use Rattle.fs_flows.proofs.BlockOfRule.{apart_at, place_up_to}
+use Rattle.fs_flows.proofs.{Words.{◌≡◌, ◌≤◌, ◌/◌, sym, ap, subst, ◌∙◌, length, take, drop, arith, FlowRoute, AllBefore, place_in}, BlockOfRule.{apart_at, place_up_to}}
 use Rattle.fs_flows.proofs.block.border.Goals as goal
 
 pub returns-in-Some-clause-inside : goal.returns-in-Some-clause-inside

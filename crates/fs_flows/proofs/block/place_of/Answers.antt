@@ -1,5 +1,4 @@
-use Rattle.fs_flows.proofs.Words.{rules, of_calls, IsPartitionPoint-from_clause}
-use Rattle.fs_flows.proofs.KeyPlaces.{is_after, partitioned, place_from}
+use Rattle.fs_flows.proofs.{Words.{rules, of_calls, IsPartitionPoint-from_clause}, KeyPlaces.{is_after, partitioned, place_from}}
 use Rattle.fs_flows.proofs.block.place_of.Goals as goal
 
 pub returns-clause-place : goal.returns-clause-place

@@ -1,5 +1,4 @@
-use Rattle.fs_flows.proofs.Words.{not, ◌≡◌, sym, ◌∙◌, ap, ap₂, insert, set, slice_get, FlowRoute, has_key_at, place_in}
-use Rattle.fs_flows.proofs.Placing.{put_over, put_into, any_here}
+use Rattle.fs_flows.proofs.{Words.{not, ◌≡◌, sym, ◌∙◌, ap, ap₂, insert, set, slice_get, FlowRoute, has_key_at, place_in}, Placing.{put_over, put_into, any_here}}
 use Rattle.fs_flows.proofs.block.put.Goals as goal
 
 pub returns-then-is_at-clause-ok : goal.returns-then-is_at-clause-ok

@@ -1,5 +1,4 @@
-use Rattle.fs_flows.proofs.Words.{◌≡◌, ◌<◌, sym, ◌∙◌, ap, ap₂, slice_get, remove, length, arith, has_key_at, place_in}
-use Rattle.fs_flows.proofs.Placing.{any_here, take_here, none_here, inside_from_key}
+use Rattle.fs_flows.proofs.{Words.{◌≡◌, ◌<◌, sym, ◌∙◌, ap, ap₂, slice_get, remove, length, arith, has_key_at, place_in}, Placing.{any_here, take_here, none_here, inside_from_key}}
 use Rattle.fs_flows.proofs.block.take.Goals as goal
 
 pub remove-requires : goal.remove-requires

@@ -1,6 +1,4 @@
-use Rattle.fs_flows.proofs.Words.{rules, of_calls, IsPartitionPoint-from_clause, begins_by}
-use Rattle.fs_flows.proofs.BlockOfRule.{later_parts, later_from}
-use Rattle.fs_flows.proofs.KeyPlaces.{tail_is}
+use Rattle.fs_flows.proofs.{Words.{rules, of_calls, IsPartitionPoint-from_clause, begins_by}, BlockOfRule.{later_parts, later_from}, KeyPlaces.{tail_is}}
 use Rattle.fs_flows.proofs.group.block_of.Goals as goal
 
 pub returns-in-len1-up-clause-place : goal.returns-in-len1-up-clause-place

@@ -1,5 +1,4 @@
-use Rattle.fs_flows.proofs.Words.{sym, ap, subst, ◌∙◌, arith, flat, IsCut}
-use Rattle.fs_flows.proofs.Cutting.{sorted_each, sorted_at, can_cut, border_at, flat_cut, cut_cut, either_way}
+use Rattle.fs_flows.proofs.{Words.{sym, ap, subst, ◌∙◌, arith, flat, IsCut}, Cutting.{sorted_each, sorted_at, can_cut, border_at, flat_cut, cut_cut, either_way}}
 use Rattle.fs_flows.proofs.group.cut.Goals as goal
 
 pub border-place-requires : goal.border-place-requires

@@ -1,5 +1,4 @@
-use Rattle.fs_flows.proofs.Words.{rules, is_of_other}
-use Rattle.fs_flows.proofs.Cutting.{retained_blocks}
+use Rattle.fs_flows.proofs.{Words.{rules, is_of_other}, Cutting.{retained_blocks}}
 use Rattle.fs_flows.proofs.group.forget_each.Goals as goal
 
 pub returns : goal.returns

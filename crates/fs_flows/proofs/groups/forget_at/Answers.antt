@@ -1,5 +1,4 @@
-use Rattle.fs_flows.proofs.Words.{◌≡◌, true, false, sym, ◌∙◌, ap, length, filter, ◌==◌, is_at, set_value, remove_entry, prefix_cmp, is_of_other}
-use Rattle.fs_flows.proofs.TakingFromGroups.{taken_some, taken_all, taken_none}
+use Rattle.fs_flows.proofs.{Words.{◌≡◌, true, false, sym, ◌∙◌, ap, length, filter, ◌==◌, is_at, set_value, remove_entry, prefix_cmp, is_of_other}, TakingFromGroups.{taken_some, taken_all, taken_none}}
 use Rattle.fs_flows.proofs.groups.forget_at.Goals as goal
 
 pub returns-in_default : goal.returns-in_default

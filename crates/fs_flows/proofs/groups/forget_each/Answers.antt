@@ -1,5 +1,4 @@
-use Rattle.fs_flows.proofs.Words.{rules, is_of_other}
-use Rattle.fs_flows.proofs.TakingFromGroups.{retained}
+use Rattle.fs_flows.proofs.{Words.{rules, is_of_other}, TakingFromGroups.{retained}}
 use Rattle.fs_flows.proofs.groups.forget_each.Goals as goal
 
 pub returns-clause-kept : goal.returns-clause-kept

@@ -1,8 +1,5 @@
-use Rattle.fs_flows.proofs.Words.{◌≡◌, Some, None, sym, ◌∙◌, ap, subst, ContainsKey, get, get_key, insert_entry, is_at, lookup, prefix_cmp, AreSorted, routes_of, put_kept}
-use Rattle.std.specs.BTreeMap.Entry.{entry_key, entry_map_ref, entry_value, map_with_value, MatchEntry}
-use Rattle.std.proofs.lemmas.Map.Steps.{set_value_same}
-use Rattle.fs_flows.proofs.Apart.{ok_weaker, err_weaker}
-use Rattle.fs_flows.proofs.PuttingInGroups.{put_found, put_new, insert_found, each_lookup}
+use Rattle.fs_flows.proofs.{Words.{◌≡◌, Some, None, sym, ◌∙◌, ap, subst, ContainsKey, get, get_key, insert_entry, is_at, lookup, prefix_cmp, AreSorted, routes_of, put_kept}, Apart.{ok_weaker, err_weaker}, PuttingInGroups.{put_found, put_new, insert_found, each_lookup}}
+use Rattle.std.{specs.BTreeMap.Entry.{entry_key, entry_map_ref, entry_value, map_with_value, MatchEntry}, proofs.lemmas.Map.Steps.{set_value_same}}
 use Rattle.fs_flows.proofs.groups.put_at.Goals as goal
 
 pub put-requires : goal.put-requires

@@ -1,6 +1,4 @@
-use Rattle.fs_flows.proofs.Words.{◌≡◌, true, false, sym, ◌∙◌, ap, length, filter, ◌==◌, is_at, set_value, remove_entry, prefix_cmp, AreSorted, routes_of, is_other_key}
-use Rattle.fs_flows.proofs.PuttingInGroups.{each_lookup}
-use Rattle.fs_flows.proofs.TakingFromGroups.{taken_some, taken_all, taken_none}
+use Rattle.fs_flows.proofs.{Words.{◌≡◌, true, false, sym, ◌∙◌, ap, length, filter, ◌==◌, is_at, set_value, remove_entry, prefix_cmp, AreSorted, routes_of, is_other_key}, PuttingInGroups.{each_lookup}, TakingFromGroups.{taken_some, taken_all, taken_none}}
 use Rattle.fs_flows.proofs.groups.take_at.Goals as goal
 
 pub returns-in_default-clause-taken : goal.returns-in_default-clause-taken

@@ -1,5 +1,4 @@
-use Rattle.fs_flows.proofs.Words.{◌≡◌, subst, entries_between, Included, Unbounded, prefix_cmp}
-use Rattle.fs_flows.proofs.Searching.{first_in_range, none_in_range}
+use Rattle.fs_flows.proofs.{Words.{◌≡◌, subst, entries_between, Included, Unbounded, prefix_cmp}, Searching.{first_in_range, none_in_range}}
 use Rattle.fs_flows.proofs.search.first_from.Goals as goal
 
 pub returns-in-Some : goal.returns-in-Some

@@ -1,5 +1,4 @@
-use Rattle.fs_flows.proofs.Searching.{first_over, short_over}
-use Rattle.fs_flows.proofs.Searching.{nothing_over}
+use Rattle.fs_flows.proofs.Searching.{first_over, short_over, nothing_over}
 use Rattle.fs_flows.proofs.search.first_over.Goals as goal
 
 pub returns-in_default : goal.returns-in_default

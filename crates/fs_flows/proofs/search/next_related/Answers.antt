@@ -1,5 +1,4 @@
-use Rattle.fs_flows.proofs.Words.{◌≡◌, ◌≤◌, ◌∙◌, true, sym, subst, covers}
-use Rattle.fs_flows.proofs.Searching.{last_related, after_related}
+use Rattle.fs_flows.proofs.{Words.{◌≡◌, ◌≤◌, ◌∙◌, true, sym, subst, covers}, Searching.{last_related, after_related}}
 use Rattle.fs_flows.proofs.search.next_related.Goals as goal
 
 pub returns-then-covers : goal.returns-then-covers

@@ -1,11 +1,9 @@
-use Rattle.fs_flows.proofs.Words.{◌≡◌, ◌<◌, ◌≤◌, ◌||◌, Option, Some, None, sym, ◌∙◌, subst, ℕ, true, is_le, List, [], ◌∷◌, Bool, false, length, arith, keys_of, is_at, AllByRecursion, Config, Prefix, covers, prefix_cmp, or_false, Route, is_related, Entry, Noted, Mends, IsNextRelated, Moment, moment}
-use Rattle.fs_flows.proofs.Mending.{Same, mends_none, mends_on, mends_both, mends_keys, along_keys}
-use Rattle.fs_flows.proofs.Searching.{done, none_done, from_first, first_there, all_done, apart_now, one_more_done, none_between, behind_now, next_from, next_there, left, left_falls, IsFrom, IsThere}
+use Rattle.fs_flows.proofs.{Words.{◌≡◌, ◌<◌, ◌≤◌, Some, None, sym, ◌∙◌, subst, ℕ, true, is_le, List, [], ◌∷◌, Bool, false, length, arith, keys_of, is_at, AllByRecursion, Config, Prefix, covers, prefix_cmp, or_false, Route, is_related, Entry, Noted, Mends, IsNextRelated, Progress, progress}, Mending.{mends_none, mends_on, mends_keys}, Searching.{done, none_done, from_first, first_there, all_done, behind_now, related_done, apart_done, next_from, next_there, left, left_falls, IsFrom, IsThere}}
 use Rattle.fs_flows.proofs.search.retest_related.Goals as goal
 
 -- where there is no group nothing is to do
-none_mended : (unicast : List Route) (config : Config) (test : Prefix → Bool) (es : List Entry) (noted : Noted) (steps : ℕ) → length es ≡ 0 → Mends unicast config test (moment es noted steps) (moment es noted steps)
-none_mended unicast config test [] noted steps h = mends_none unicast config test (moment [] noted steps) tt
+none_mended : (unicast : List Route) (config : Config) (test : Prefix → Bool) (es : List Entry) (noted : Noted) (steps : ℕ) → length es ≡ 0 → Mends unicast config test (progress es noted steps) (progress es noted steps)
+none_mended unicast config test [] noted steps h = mends_none unicast config test (progress [] noted steps) tt
 none_mended unicast config test (e ∷ es) noted steps h = absurd (omega (arith, h))
 
 pub returns-then-is_empty : goal.returns-then-is_empty
@@ -13,7 +11,7 @@ returns-then-is_empty g c = none_mended c.args.unicast.now c.args.config.now (is
 
 pub loop-next-init : goal.loop-next-init
 loop-next-init g c = record {
-  mends = mends_none c.args.unicast.now c.args.config.now (done prefix c.first_from-next.result) (moment c.args.groups.now.entries c.args.changes.now c.args.steps.now)
+  mends = mends_none c.args.unicast.now c.args.config.now (done prefix c.first_from-next.result) (progress c.args.groups.now.entries c.args.changes.now c.args.steps.now)
       (none_done prefix c.first_under.result c.first_from-next.result c.args.groups.now.entries c.first_under.ensures c.first_from-next.ensures);
   from = from_first prefix c.first_under.result c.first_from-next.result c.args.groups.now.entries c.first_under.ensures c.first_from-next.ensures;
   there = first_there c.first_under.result c.first_from-next.result c.args.groups.now.entries c.first_from-next.ensures;
@@ -32,11 +30,11 @@ returns g c = mends_on unicast config (done prefix None) (is_related prefix) (su
   prefix : Prefix
   prefix = c.args.prefix.now
 
-  old : Moment
-  old = moment c.args.groups.now.entries c.args.changes.now c.args.steps.now
+  old : Progress
+  old = progress c.args.groups.now.entries c.args.changes.now c.args.steps.now
 
-  here : Moment
-  here = moment c.loop-next.groups.entries c.loop-next.changes c.loop-next.steps
+  here : Progress
+  here = progress c.loop-next.groups.entries c.loop-next.changes c.loop-next.steps
 
 pub first_over-next-requires-clause-behind : goal.first_over-next-requires-clause-behind
 first_over-next-requires-clause-behind g c = subst (λ d. is_le (prefix_cmp c.args.prefix.now d) ≡ true) (sym c.prefix-destination.ensures)
@@ -46,81 +44,20 @@ first_over-next-requires-clause-behind g c = subst (λ d. is_le (prefix_cmp c.ar
 
 pub loop-next-preserved-then-is_related : goal.loop-next-preserved-then-is_related
 loop-next-preserved-then-is_related g c = record {
-  mends = mends_on unicast config with_key (done prefix next) mended more;
-  from = next_from prefix key next (subst (IsFrom prefix) c.in-Some.is c.loop-next.invariant.from) c.next_related-next.ensures.from;
-  there = next_there next c.mark_group.new.groups.entries c.next_related-next.ensures.there;
-} where
-  unicast : List Route
-  unicast = c.args.unicast.now
-
-  config : Config
-  config = c.args.config.now
-
-  prefix : Prefix
-  prefix = c.args.prefix.now
-
-  key : Prefix
-  key = c.in-Some.key
-
-  next : Option Prefix
-  next = c.next_related-next.result
-
-  with_key : Prefix → Bool
-  with_key q = done prefix (Some key) q || is_at (prefix_cmp key) q
-
-  old : Moment
-  old = moment c.args.groups.now.entries c.args.changes.now c.args.steps.now
-
-  here : Moment
-  here = moment c.loop-next.groups.entries c.loop-next.changes c.loop-next.steps
-
-  new : Moment
-  new = moment c.mark_group.new.groups.entries c.mark_group.new.changes c.mark_group.new.steps
-
-  mended : Mends unicast config with_key old new
-  mended = mends_both unicast config (done prefix (Some key)) (is_at (prefix_cmp key))
-      (subst (λ m. Mends unicast config (done prefix m) old here) c.in-Some.is c.loop-next.invariant.mends) c.mark_group.ensures (apart_now prefix key c.args.groups.now.entries)
-
-  more : AllByRecursion (Same with_key (done prefix next)) c.args.groups.now.entries
-  more = along_keys unicast config (λ q. with_key q ≡ done prefix next q) with_key mended (one_more_done prefix key next c.mark_group.new.groups.entries
-      (subst (λ d. is_related prefix d ≡ true) c.prefix-destination.ensures (sym c.is_related.ensures ∙ c.if-is_related.true)) c.next_related-next.ensures)
+  mends = related_done c.args.unicast.now c.args.config.now c.args.prefix.now c.in-Some.key c.loop-next.next c.next_related-next.result c.in-Some.is c.loop-next.invariant.mends
+      (subst (λ d. is_related c.args.prefix.now d ≡ true) c.prefix-destination.ensures (sym c.is_related.ensures ∙ c.if-is_related.true)) c.mark_group.ensures c.next_related-next.ensures;
+  from = next_from c.args.prefix.now c.in-Some.key c.next_related-next.result (subst (IsFrom c.args.prefix.now) c.in-Some.is c.loop-next.invariant.from) c.next_related-next.ensures.from;
+  there = next_there c.next_related-next.result c.mark_group.new.groups.entries c.next_related-next.ensures.there;
+}
 
 pub loop-next-preserved : goal.loop-next-preserved
-loop-next-preserved g c = record {
-  mends = mends_on unicast config (done prefix (Some key)) (done prefix next) mends none;
-  from = next_from prefix key next (subst (IsFrom prefix) c.in-Some.is c.loop-next.invariant.from) over.from;
-  there = next_there next c.loop-next.groups.entries over.there;
-} where
-  unicast : List Route
-  unicast = c.args.unicast.now
-
-  config : Config
-  config = c.args.config.now
-
-  prefix : Prefix
-  prefix = c.args.prefix.now
-
-  key : Prefix
-  key = c.in-Some.key
-
-  next : Option Prefix
-  next = c.first_over-next.result
-
-  old : Moment
-  old = moment c.args.groups.now.entries c.args.changes.now c.args.steps.now
-
-  here : Moment
-  here = moment c.loop-next.groups.entries c.loop-next.changes c.loop-next.steps
-
-  mends : Mends unicast config (done prefix (Some key)) old here
-  mends = subst (λ m. Mends unicast config (done prefix m) old here) c.in-Some.is c.loop-next.invariant.mends
-
-  over : IsNextRelated c.loop-next.groups.entries prefix key next
-  over = subst (λ d. IsNextRelated c.loop-next.groups.entries prefix d next) c.prefix-destination.ensures c.first_over-next.ensures
-
-  none : AllByRecursion (Same (done prefix (Some key)) (done prefix next)) c.args.groups.now.entries
-  none = along_keys unicast config (λ q. done prefix (Some key) q ≡ done prefix next q) (done prefix (Some key)) mends (none_between prefix key next c.loop-next.groups.entries
-      (subst (λ d. is_related prefix d ≡ false) c.prefix-destination.ensures (sym c.is_related.ensures ∙ c.if-is_related.false)) over)
+loop-next-preserved g c =
+    let over = subst (λ d. IsNextRelated c.loop-next.groups.entries c.args.prefix.now d c.first_over-next.result) c.prefix-destination.ensures c.first_over-next.ensures in record {
+      mends = apart_done c.args.unicast.now c.args.config.now c.args.prefix.now c.in-Some.key c.loop-next.next c.first_over-next.result c.in-Some.is c.loop-next.invariant.mends
+          (subst (λ d. is_related c.args.prefix.now d ≡ false) c.prefix-destination.ensures (sym c.is_related.ensures ∙ c.if-is_related.false)) over;
+      from = next_from c.args.prefix.now c.in-Some.key c.first_over-next.result (subst (IsFrom c.args.prefix.now) c.in-Some.is c.loop-next.invariant.from) over.from;
+      there = next_there c.first_over-next.result c.loop-next.groups.entries over.there;
+    }
 
 pub loop-next-smaller-then-is_related : goal.loop-next-smaller-then-is_related
 loop-next-smaller-then-is_related g c = subst (λ m. left c.next_related-next.result (keys_of c.mark_group.new.groups.entries) < left m (keys_of c.loop-next.groups.entries)) (sym c.in-Some.is)

@@ -1,6 +1,5 @@
 use Rattle.std.proofs.Common.{rules, arith, ◌<◌, ◌≤◌, ◌∙◌, length, sym}
-use Rattle.fs_input.proofs.Again.{again_fails, again_more, again_over, again_passes, again_took}
-use Rattle.fs_input.proofs.CutShort.{short_reads}
+use Rattle.fs_input.proofs.{Again.{again_fails, again_more, again_over, again_passes, again_took}, CutShort.{short_reads}}
 use Rattle.fs_input.proofs.fields.take_first.Goals as goal
 
 pub returns-in_default-clause-starts : goal.returns-in_default-clause-starts
@@ -15,9 +14,8 @@ returns-then-count-into-clause-starts g c = record {
   passes = again_passes _ _ (g.F.Files.left c.args.files.now) (g.F.Files.left c.fill.new.files) c.fill.ensures.passes;
   failed = search rules;
   started = λ told.
-      let whole : length c.fill.new.into ≤ c.in-Ok.count = omega arith in
       again_took c.args.counted.now c.fill.new.counted (g.F.Files.left c.args.files.now) (g.F.Files.left c.fill.new.files)
-      c.in-Ok.ensures.passes.slot c.fill.new.into c.in-Ok.count (c.in-Ok.ensures.filled told) whole c.in-Ok.ensures.taken;
+      c.in-Ok.ensures.passes.slot c.fill.new.into c.in-Ok.count (c.in-Ok.ensures.filled told) (omega arith) c.in-Ok.ensures.taken;
 }
 
 pub returns-then-is_over-clause-starts : goal.returns-then-is_over-clause-starts

@@ -1,4 +1,4 @@
-use Rattle.fs_input.proofs.Words.{◌≡◌, ◌≤◌, ◌++◌, ◌-◌, [], None, length, IsTrue, part_in, told_to_come, PassesIn}
+use Rattle.fs_input.proofs.Words.{◌≡◌, ◌≤◌, ◌-◌, [], None, length, IsTrue, part_in, told_ahead, PassesIn}
 use Rattle.fs_input.proofs.reading.next_told.Given as goal
 
 abbrev pub invariant-parts : goal.invariant-parts
@@ -12,8 +12,8 @@ invariant-parts g l =
       passes : PassesIn g.F.Files l.fn.files l.files l.fn.counted l.counted;
       coming :
           IsTrue g.F.Files.tells
-          → told_to_come chain g.P.Parts.cut l.fn.counted.limit l.fn.counted.taken l.fn.parts (l.fn.counted.back ++ g.F.Files.left l.fn.files l.fn.counted.slot)
-          ≡ told_to_come chain g.P.Parts.cut l.counted.limit l.counted.taken l.parts (l.counted.back ++ g.F.Files.left l.files l.counted.slot);
+          → told_ahead chain g.P.Parts.cut l.fn.counted l.fn.parts (g.F.Files.left l.fn.files l.fn.counted.slot)
+          ≡ told_ahead chain g.P.Parts.cut l.counted l.parts (g.F.Files.left l.files l.counted.slot);
     }
 
 abbrev pub decreases-parts : goal.decreases-parts

@@ -1,8 +1,5 @@
-use Rattle.fs_input.proofs.Words.{rules, arith, ◌≡◌, ◌∙◌, refl, ◌+◌, ◌-◌, ◌<◌, ◌≤◌, ◌++◌, length, take, drop, take-append-le, length-take, with_part, records_to_come, passes_in}
+use Rattle.fs_input.{proofs.{Words.{rules, arith, ◌≡◌, ◌∙◌, refl, ◌+◌, ◌-◌, ◌<◌, ◌++◌, length, take, drop, take-append-le, length-take, with_part, records_to_come, passes_in}, AdvancingRecords.{short_advances, cut_advances}, Records.{held_of_taken, wrong_comes, short_comes, cut_comes, record_comes}}, specs.declared.head.Found.{Found}}
 use Rattle.fs_base.proofs.Filled.{fills_straight, none_left}
-use Rattle.fs_input.specs.declared.head.Found.{Found}
-use Rattle.fs_input.proofs.AdvancingRecords.{short_advances, cut_advances}
-use Rattle.fs_input.proofs.Records.{wrong_comes, short_comes, cut_comes, record_comes}
 use Rattle.fs_input.proofs.record.advance.Goals as goal
 
 pub returns-in-Wrong-clause-advances : goal.returns-in-Wrong-clause-advances
@@ -35,12 +32,7 @@ pub returns-then-count-size-clause-advances : goal.returns-then-count-size-claus
 returns-then-count-size-clause-advances g c = λ told.
     let filled = fills_straight _ _ _ _ _ _ _ _ c.requires.none c.in-Ok.ensures.back (c.in-Ok.ensures.filled told) in
     let format = g.H.Heads.format in
-    let all : format.head_size c.args.heads.now ≤ c.in-Ok.count = omega (
-      arith,
-      c.in-Whole.ensures.within,
-      length-take c.in-Ok.count c.fill.new.into,
-      c.in-Ok.ensures.bound,
-    ) in
+    let all = held_of_taken c.in-Ok.count c.fill.new.into c.in-Whole.ensures.within.0 in
     let some : 0 < format.head_size c.args.heads.now = g.met.H.Heads.some c.args.heads.now in
     let none = none_left _ _ _ c.requires.none c.in-Ok.ensures.back in
     let more = rw (c.in-Ok.ensures.passes.limit, c.in-Ok.ensures.taken, c.in-Ok.ensures.passes.slot)
@@ -62,12 +54,7 @@ pub returns-else-count-size-clause-advances : goal.returns-else-count-size-claus
 returns-else-count-size-clause-advances g c = λ told.
     let filled = fills_straight _ _ _ _ _ _ _ _ c.requires.none c.in-Ok.ensures.back (c.in-Ok.ensures.filled told) in
     let format = g.H.Heads.format in
-    let all : format.head_size c.args.heads.now ≤ c.in-Ok.count = omega (
-      arith,
-      c.in-Whole.ensures.within,
-      length-take c.in-Ok.count c.fill.new.into,
-      c.in-Ok.ensures.bound,
-    ) in
+    let all = held_of_taken c.in-Ok.count c.fill.new.into c.in-Whole.ensures.within.0 in
     let none = none_left _ _ _ c.requires.none c.in-Ok.ensures.back in
     let more = rw (c.in-Ok.ensures.passes.limit, c.in-Ok.ensures.taken, c.in-Ok.ensures.passes.slot)
     at (fills_straight _ _ _ _ _ _ _ _ none c.in-Ok-fill.ensures.back (c.in-Ok-fill.ensures.filled told)) in

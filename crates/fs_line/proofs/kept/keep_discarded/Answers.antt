@@ -1,5 +1,4 @@
-use Rattle.fs_line.proofs.Words.{◌∙◌, ◌++◌, List, ℕ, ap, codes, decimal}
-use Rattle.fs_line.proofs.Discarding.{joined}
+use Rattle.fs_line.proofs.{Words.{◌∙◌, ◌++◌, List, ℕ, ap, codes, decimal}, Discarding.{joined}}
 use Rattle.fs_line.proofs.kept.keep_discarded.Goals as goal
 
 pub returns : goal.returns

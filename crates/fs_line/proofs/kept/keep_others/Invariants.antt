@@ -1,5 +1,4 @@
-use Rattle.fs_line.proofs.Words.{◌≡◌, ◌≤◌, ◌+◌, ◌*◌, ◌++◌, length, take, RULE}
-use Rattle.fs_line.proofs.Walks.{others_of}
+use Rattle.fs_line.proofs.{Words.{◌≡◌, ◌≤◌, ◌+◌, ◌*◌, ◌++◌, length, take, RULE}, Walks.{others_of}}
 use Rattle.fs_line.proofs.kept.keep_others.Given as goal
 
 abbrev pub invariant-loop-rule : goal.invariant-loop-rule

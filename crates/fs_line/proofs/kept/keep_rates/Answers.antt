@@ -1,6 +1,5 @@
 use Rattle.std.proofs.Common.{◌++◌, List, ℕ, ◌∙◌, ap, arith}
-use Rattle.fs_line.proofs.Outputs.{kept_more}
-use Rattle.fs_line.proofs.Walks.{acting_left, rates_of, rates_of-append, rates_of-one}
+use Rattle.fs_line.proofs.{Outputs.{kept_more}, Walks.{acting_left, rates_of, rates_of-append, rates_of-one}}
 use Rattle.fs_line.proofs.kept.keep_rates.Goals as goal
 
 pub loop-rule-preserved : goal.loop-rule-preserved

@@ -1,5 +1,4 @@
-use Rattle.fs_line.proofs.Words.{◌≡◌, ◌≤◌, ◌+◌, ◌*◌, ◌++◌, length, take, drop, RATE}
-use Rattle.fs_line.proofs.Walks.{acting, rates_of}
+use Rattle.fs_line.proofs.{Words.{◌≡◌, ◌≤◌, ◌+◌, ◌*◌, ◌++◌, length, take, drop, RATE}, Walks.{acting, rates_of}}
 use Rattle.fs_line.proofs.kept.keep_rates.Given as goal
 
 abbrev pub invariant-loop-rule : goal.invariant-loop-rule

@@ -1,5 +1,4 @@
-use Rattle.fs_line.proofs.Words.{subst, arith, take_all, SaysDiscard}
-use Rattle.fs_line.proofs.Discarding.{AllDiscard, nonempty, says_discard}
+use Rattle.fs_line.proofs.{Words.{subst, arith, take_all, SaysDiscard}, Discarding.{AllDiscard, nonempty, says_discard}}
 use Rattle.fs_line.proofs.line.discards_alone.Goals as goal
 
 pub returns : goal.returns

@@ -1,6 +1,4 @@
-use Rattle.fs_line.proofs.Words.{◌≤◌, ◌+◌, ◌*◌, length, take, LINE, RATE, RULE}
-use Rattle.fs_line.specs.declared.output.TheConstants.{CAPACITY}
-use Rattle.fs_line.proofs.Walks.{acting}
+use Rattle.fs_line.{proofs.{Words.{◌≤◌, ◌+◌, ◌*◌, length, take, LINE, RATE, RULE}, Walks.{acting}}, specs.declared.output.TheConstants.{CAPACITY}}
 use Rattle.fs_line.proofs.line.longest_line.Given as goal
 
 -- what was reckoned is enough for the rules up to here

@@ -1,5 +1,4 @@
-use Rattle.fs_line.specs.Line.{discarded_line}
-use Rattle.fs_line.proofs.Outputs.{sends_stopped}
+use Rattle.fs_line.{specs.Line.{discarded_line}, proofs.Outputs.{sends_stopped}}
 use Rattle.fs_line.proofs.line.write_discarded.Goals as goal
 
 pub returns-in_err-make_room : goal.returns-in_err-make_room

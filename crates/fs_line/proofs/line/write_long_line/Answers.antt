@@ -1,6 +1,4 @@
-use Rattle.fs_line.proofs.Words.{line_of, entries}
-use Rattle.fs_line.proofs.Outputs.{sends_as, sends_kept, sends_stopped, sends_then}
-use Rattle.fs_line.proofs.Parts.{line_parts}
+use Rattle.fs_line.proofs.{Words.{line_of, entries}, Outputs.{sends_as, sends_kept, sends_stopped, sends_then}, Parts.{line_parts}}
 use Rattle.fs_line.proofs.line.write_long_line.Goals as goal
 
 pub returns-in_err-make_room : goal.returns-in_err-make_room

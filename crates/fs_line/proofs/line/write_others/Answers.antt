@@ -1,5 +1,4 @@
-use Rattle.fs_line.proofs.Walks.{others_of, others_of-append, others_of-one}
-use Rattle.fs_line.proofs.Outputs.{sends_as, sends_kept, sends_more, sends_none, sends_within}
+use Rattle.fs_line.proofs.{Walks.{others_of, others_of-append, others_of-one}, Outputs.{sends_as, sends_kept, sends_more, sends_none, sends_within}}
 use Rattle.fs_line.proofs.line.write_others.Goals as goal
 
 pub returns-in_err-make_room : goal.returns-in_err-make_room

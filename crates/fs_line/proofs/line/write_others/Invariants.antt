@@ -1,5 +1,4 @@
-use Rattle.fs_line.proofs.Words.{take, others_text, entries, numbers_walked}
-use Rattle.fs_line.proofs.Outputs.{SentSo}
+use Rattle.fs_line.proofs.{Words.{take, others_text, entries, numbers_walked}, Outputs.{SentSo}}
 use Rattle.fs_line.proofs.line.write_others.Given as goal
 
 abbrev pub invariant-loop-rule : goal.invariant-loop-rule

@@ -1,6 +1,5 @@
 use Rattle.std.proofs.Common.{arith, refl}
-use Rattle.fs_line.proofs.Discarding.{one_discards}
-use Rattle.fs_line.proofs.Outputs.{sends_as}
+use Rattle.fs_line.proofs.{Discarding.{one_discards}, Outputs.{sends_as}}
 use Rattle.fs_line.proofs.line.write_packet_line.Goals as goal
 
 pub returns-in-len1 : goal.returns-in-len1

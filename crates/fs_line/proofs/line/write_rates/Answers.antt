@@ -1,5 +1,4 @@
-use Rattle.fs_line.proofs.Walks.{rates_of, rates_of-append, rates_of-one}
-use Rattle.fs_line.proofs.Outputs.{sends_as, sends_more, sends_within}
+use Rattle.fs_line.proofs.{Walks.{rates_of, rates_of-append, rates_of-one}, Outputs.{sends_as, sends_more, sends_within}}
 use Rattle.fs_line.proofs.line.write_rates.Goals as goal
 
 pub returns-in_err-write_rates_of : goal.returns-in_err-write_rates_of

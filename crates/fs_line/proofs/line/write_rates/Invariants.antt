@@ -1,5 +1,4 @@
-use Rattle.fs_line.proofs.Words.{take, rates_text, actions_walked, entries}
-use Rattle.fs_line.proofs.Outputs.{SentSo}
+use Rattle.fs_line.proofs.{Words.{take, rates_text, actions_walked, entries}, Outputs.{SentSo}}
 use Rattle.fs_line.proofs.line.write_rates.Given as goal
 
 abbrev pub invariant-loop-rule : goal.invariant-loop-rule

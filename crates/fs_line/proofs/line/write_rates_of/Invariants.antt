@@ -1,5 +1,4 @@
-use Rattle.fs_line.proofs.Words.{take, rates_text}
-use Rattle.fs_line.proofs.Outputs.{SentSo}
+use Rattle.fs_line.proofs.{Words.{take, rates_text}, Outputs.{SentSo}}
 use Rattle.fs_line.proofs.line.write_rates_of.Given as goal
 
 abbrev pub invariant-loop-action : goal.invariant-loop-action

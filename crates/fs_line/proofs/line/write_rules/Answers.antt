@@ -1,6 +1,4 @@
-use Rattle.fs_line.proofs.Words.{numbers_text, entries, numbers_walked}
-use Rattle.fs_line.proofs.Walks.{numbers_from}
-use Rattle.fs_line.proofs.Outputs.{sends_as, sends_kept, sends_stopped, sends_then}
+use Rattle.fs_line.proofs.{Words.{numbers_text, entries, numbers_walked}, Walks.{numbers_from}, Outputs.{sends_as, sends_kept, sends_stopped, sends_then}}
 use Rattle.fs_line.proofs.line.write_rules.Goals as goal
 
 pub returns-in_err-make_room : goal.returns-in_err-make_room

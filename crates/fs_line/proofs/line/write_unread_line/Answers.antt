@@ -1,5 +1,4 @@
-use Rattle.fs_line.specs.Line.{unread_line_of}
-use Rattle.fs_line.proofs.Outputs.{sends_stopped}
+use Rattle.fs_line.{specs.Line.{unread_line_of}, proofs.Outputs.{sends_stopped}}
 use Rattle.fs_line.proofs.line.write_unread_line.Goals as goal
 
 pub returns-in_err-make_room : goal.returns-in_err-make_room

@@ -1,5 +1,4 @@
-use Rattle.fs_line.proofs.Words.{line_of, entries}
-use Rattle.fs_line.proofs.Outputs.{sends_stopped}
+use Rattle.fs_line.proofs.{Words.{line_of, entries}, Outputs.{sends_stopped}}
 use Rattle.fs_line.proofs.line.write_whole_line.Goals as goal
 
 pub returns-in_err-make_room : goal.returns-in_err-make_room

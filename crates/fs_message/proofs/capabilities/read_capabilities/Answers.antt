@@ -1,5 +1,4 @@
-use Rattle.fs_message.proofs.Words.{sym, ◌∙◌, field_of}
-use Rattle.fs_message.proofs.CapabilityLists.{gathered_more, gathered_not, gathered_end}
+use Rattle.fs_message.proofs.{Words.{sym, ◌∙◌, field_of}, CapabilityLists.{gathered_more, gathered_not, gathered_end}}
 use Rattle.fs_message.proofs.capabilities.read_capabilities.Goals as goal
 
 pub returns-in_default-with_capability : goal.returns-in_default-with_capability

@@ -1,5 +1,4 @@
-use Rattle.fs_message.proofs.Words.{◌≡◌, ◌==◌, ◌&&◌, Bool, false, sym, ap, ◌∙◌, arith, ne_eqb, Field, field_of, are_fields, is_capability, fields_of, list_all}
-use Rattle.fs_message.proofs.CapabilityLists.{all_more, all_not, none_gathered, all_end}
+use Rattle.fs_message.proofs.{Words.{◌≡◌, ◌==◌, ◌&&◌, Bool, false, sym, ap, ◌∙◌, arith, ne_eqb, Field, field_of, are_fields, is_capability, fields_of, list_all}, CapabilityLists.{all_more, all_not, none_gathered, all_end}}
 use Rattle.fs_message.proofs.capabilities.read_parameters.Goals as goal
 
 pub returns-then-parameter-ne-CAPABILITIES : goal.returns-then-parameter-ne-CAPABILITIES

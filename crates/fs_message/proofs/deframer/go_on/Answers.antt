@@ -1,5 +1,4 @@
-use Rattle.fs_message.proofs.Words.{◌≤◌, sym, ◌∙◌, arith, length-take}
-use Rattle.fs_message.proofs.BegunMessages.{Sized, headed_of, header_judged, short_feeds, size_fits, fed_of}
+use Rattle.fs_message.proofs.{Words.{◌≤◌, sym, ◌∙◌, arith, length-take}, BegunMessages.{Sized, headed_of, header_judged, short_feeds, size_fits, fed_of}}
 use Rattle.fs_message.proofs.deframer.go_on.Goals as goal
 
 pub returns-in-Some-clause-exact : goal.returns-in-Some-clause-exact

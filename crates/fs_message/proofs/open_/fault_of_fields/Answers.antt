@@ -1,5 +1,4 @@
-use Rattle.fs_message.proofs.Words.{◌≡◌, Some, ap, sym, ◌∙◌, arith, nat_tests, common_steps, fault, fields_fault}
-use Rattle.fs_message.proofs.CapabilityLists.{fields_right, fields_sized}
+use Rattle.fs_message.proofs.{Words.{◌≡◌, Some, ap, sym, ◌∙◌, arith, nat_tests, common_steps, fault, fields_fault}, CapabilityLists.{fields_right, fields_sized}}
 use Rattle.fs_message.proofs.open_.fault_of_fields.Goals as goal
 
 pub returns-then-body : goal.returns-then-body

@@ -1,5 +1,4 @@
-use Rattle.fs_nlri.proofs.Words.{length, arith, big_number}
-use Rattle.fs_nlri.proofs.BodyReaders.{aligned_fits, number_small}
+use Rattle.fs_nlri.proofs.{Words.{length, arith, big_number}, BodyReaders.{aligned_fits, number_small}}
 use Rattle.fs_nlri.proofs.body.left_aligned.Goals as goal
 
 pub returns : goal.returns

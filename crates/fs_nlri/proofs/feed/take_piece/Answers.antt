@@ -1,5 +1,4 @@
-use Rattle.fs_nlri.proofs.Words.{◌++◌, err_from_is_err_and}
-use Rattle.fs_nlri.proofs.Fed.{stops_at_once}
+use Rattle.fs_nlri.proofs.{Words.{◌++◌, err_from_is_err_and}, Fed.{stops_at_once}}
 use Rattle.fs_nlri.proofs.feed.take_piece.Goals as goal
 
 pub returns-in_err-extend_from_slice-clause-err : goal.returns-in_err-extend_from_slice-clause-err

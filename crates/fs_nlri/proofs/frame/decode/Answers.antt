@@ -1,5 +1,4 @@
-use Rattle.fs_nlri.proofs.Words.{arith, octets_from}
-use Rattle.fs_nlri.proofs.Frames.{only_read, is_read}
+use Rattle.fs_nlri.proofs.{Words.{arith, octets_from}, Frames.{only_read, is_read}}
 use Rattle.fs_nlri.proofs.frame.decode.Goals as goal
 
 pub returns-clause-only : goal.returns-clause-only

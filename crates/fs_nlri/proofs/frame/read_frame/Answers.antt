@@ -1,5 +1,4 @@
-use Rattle.fs_nlri.proofs.Words.{arith, err_from_is_err_and, octets_from, parts_of}
-use Rattle.fs_nlri.proofs.Frames.{frame_found, frame_bad, frame_rule}
+use Rattle.fs_nlri.proofs.{Words.{arith, err_from_is_err_and, octets_from, parts_of}, Frames.{frame_found, frame_bad, frame_rule}}
 use Rattle.fs_nlri.proofs.frame.read_frame.Goals as goal
 
 pub returns-in_err-components-clause-fault : goal.returns-in_err-components-clause-fault

@@ -1,16 +1,15 @@
-use Rattle.fs_nlri.proofs.Words.{both_ways, parts_of}
-use Rattle.fs_nlri.proofs.ValueSteps.{finished, no_type, not_above, bad_body, more}
+use Rattle.fs_nlri.proofs.{Words.{both_ways, parts_of}, ValueSteps.{finished, no_type, not_above, bad_body, more}}
 use Rattle.fs_nlri.proofs.value.read_components.Goals as goal
 
 pub returns-then-not-has_type-clause-fault : goal.returns-then-not-has_type-clause-fault
 returns-then-not-has_type-clause-fault c =
-    no_type c.args.family c.args.octets.now c.loop-rest.rest.now c.loop-rest.last (parts_of c.loop-rest.components.items) c.loop-rest.invariant c.in-len1-up.len_at_least
-    (λ known. both_ways c.has_type.result c.if-not-has_type.true (c.has_type.ensures.1 known))
+    rw c.bad.ensures (no_type c.args.family c.args.octets.now c.loop-rest.rest.now c.loop-rest.last (parts_of c.loop-rest.components.items) c.loop-rest.invariant c.in-len1-up.len_at_least
+    (λ known. both_ways c.has_type.result c.if-not-has_type.true (c.has_type.ensures.1 known)))
 
 pub returns-then-kind-last-clause-fault : goal.returns-then-kind-last-clause-fault
 returns-then-kind-last-clause-fault c =
-    not_above c.args.family c.args.octets.now c.loop-rest.rest.now c.loop-rest.last (parts_of c.loop-rest.components.items) c.loop-rest.invariant c.in-len1-up.len_at_least
-    (c.has_type.ensures.0 c.if-not-has_type.false) c.if-kind-last.true
+    rw c.bad-then-kind-last.ensures (not_above c.args.family c.args.octets.now c.loop-rest.rest.now c.loop-rest.last (parts_of c.loop-rest.components.items) c.loop-rest.invariant c.in-len1-up.len_at_least
+    (c.has_type.ensures.0 c.if-not-has_type.false) c.if-kind-last.true)
 
 pub loop-rest-preserved : goal.loop-rest-preserved
 loop-rest-preserved c =

@@ -1,5 +1,4 @@
-use Rattle.fs_nlri.proofs.Words.{length, parts_of}
-use Rattle.fs_nlri.proofs.ValueSteps.{HasRead}
+use Rattle.fs_nlri.proofs.{Words.{length, parts_of}, ValueSteps.{HasRead}}
 use Rattle.fs_nlri.proofs.value.read_components.Given as goal
 
 abbrev pub invariant-loop-rest : goal.invariant-loop-rest

@@ -1,5 +1,4 @@
-use Rattle.fs_nlri.proofs.Words.{take, parts_of, canonical_value}
-use Rattle.fs_nlri.proofs.Writable.{front_kept}
+use Rattle.fs_nlri.proofs.{Words.{take, parts_of, canonical_value}, Writable.{front_kept}}
 use Rattle.fs_nlri.proofs.writing.append_value.Goals as goal
 
 pub returns-in_err-append_component-clause-front :

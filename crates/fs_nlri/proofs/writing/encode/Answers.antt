@@ -1,5 +1,4 @@
-use Rattle.fs_nlri.proofs.Words.{List, All, sym, subst, Component, part_of, IsWritable}
-use Rattle.fs_nlri.proofs.Writable.{all_writable}
+use Rattle.fs_nlri.proofs.{Words.{List, All, sym, subst, Component, part_of, IsWritable}, Writable.{all_writable}}
 use Rattle.fs_nlri.proofs.writing.encode.Goals as goal
 
 pub append_frame-written-requires-clause-writable :

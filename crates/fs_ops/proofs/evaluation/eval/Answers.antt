@@ -1,5 +1,4 @@
-use Rattle.fs_ops.specs.Evaluation.{test_of}
-use Rattle.fs_ops.proofs.Groups.{answers_all}
+use Rattle.fs_ops.{specs.Evaluation.{test_of}, proofs.Groups.{answers_all}}
 use Rattle.fs_ops.proofs.evaluation.eval.Goals as goal
 
 pub loop-operator-init : goal.loop-operator-init

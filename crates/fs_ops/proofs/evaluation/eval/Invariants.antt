@@ -1,5 +1,4 @@
-use Rattle.fs_ops.proofs.Words.{◌≡◌, drop, holds, test_of}
-use Rattle.fs_ops.proofs.Groups.{answers}
+use Rattle.fs_ops.proofs.{Words.{◌≡◌, drop, holds, test_of}, Groups.{answers}}
 use Rattle.fs_ops.proofs.evaluation.eval.Given as goal
 
 -- what is left answers for the whole list

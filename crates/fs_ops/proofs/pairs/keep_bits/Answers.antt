@@ -1,6 +1,5 @@
-use Rattle.fs_ops.proofs.Words.{◌<◌, length, get_or, arith, get_or_default}
+use Rattle.fs_ops.proofs.{Words.{◌<◌, length, get_or, arith, get_or_default}, Normal.{with_bits}}
 use Rattle.std.proofs.lemmas.List.Edits.{map_over_more}
-use Rattle.fs_ops.proofs.Normal.{with_bits}
 use Rattle.fs_ops.proofs.pairs.keep_bits.Goals as goal
 
 pub loop-value-preserved : goal.loop-value-preserved

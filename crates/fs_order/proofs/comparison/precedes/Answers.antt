@@ -1,5 +1,4 @@
-use Rattle.fs_order.proofs.Words.{ap, ◌∙◌, is_lt}
-use Rattle.fs_order.proofs.Precede.{before_test}
+use Rattle.fs_order.proofs.{Words.{ap, ◌∙◌, is_lt}, Precede.{before_test}}
 use Rattle.fs_order.proofs.comparison.precedes.Goals as goal
 
 pub returns-clause-before : goal.returns-clause-before

@@ -1,5 +1,4 @@
-use Rattle.fs_order.proofs.Words.{ap, ap₂, ◌∙◌, slice_cmp, content_body}
-use Rattle.fs_order.proofs.Pairs.{lists_compared, pair_cmp}
+use Rattle.fs_order.proofs.{Words.{ap, ap₂, ◌∙◌, slice_cmp, content_body}, Pairs.{lists_compared, pair_cmp}}
 use Rattle.fs_order.proofs.component.compare_content.Goals as goal
 
 pub returns-in-Numbers-Numbers : goal.returns-in-Numbers-Numbers

@@ -1,5 +1,4 @@
-use Rattle.fs_packet.proofs.Words.{ap, sym, ◌∙◌, drop, protocol_at}
-use Rattle.fs_packet.proofs.Walks.{walked, walking_more}
+use Rattle.fs_packet.proofs.{Words.{ap, sym, ◌∙◌, drop, protocol_at}, Walks.{walked, walking_more}}
 use Rattle.fs_packet.proofs.chain.walk.Goals as goal
 
 pub loop-header-preserved : goal.loop-header-preserved

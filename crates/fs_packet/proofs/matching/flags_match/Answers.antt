@@ -1,5 +1,4 @@
-use Rattle.fs_packet.proofs.Words.{ℕ, ap, sym, ◌∙◌, holds, masks}
-use Rattle.fs_packet.proofs.Flags.{flags_same, sound_is_wide}
+use Rattle.fs_packet.proofs.{Words.{ℕ, ap, sym, ◌∙◌, holds, masks}, Flags.{flags_same, sound_is_wide}}
 use Rattle.fs_packet.proofs.matching.flags_match.Goals as goal
 
 pub returns-in-Some : goal.returns-in-Some

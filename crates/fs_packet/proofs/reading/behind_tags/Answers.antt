@@ -1,5 +1,4 @@
-use Rattle.fs_packet.proofs.Words.{ap, sym, ◌∙◌, arith, is_tag}
-use Rattle.fs_packet.proofs.Tags.{tagged_more, tagged_type}
+use Rattle.fs_packet.proofs.{Words.{ap, sym, ◌∙◌, arith, is_tag}, Tags.{tagged_more, tagged_type}}
 use Rattle.fs_packet.proofs.reading.behind_tags.Goals as goal
 
 pub loop-tags-preserved : goal.loop-tags-preserved

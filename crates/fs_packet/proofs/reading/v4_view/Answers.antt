@@ -1,6 +1,4 @@
-use Rattle.fs_packet.proofs.Words.{[], Ok, slice_index, ap, ◌∙◌, arith, if◌then◌else◌, V4, protocol_of, viewed, Upper, held_from, v4_fragment, v4_size, v4_starts}
-use Rattle.fs_packet.proofs.Headers.{v4_read}
-use Rattle.fs_packet.proofs.Uppers.{number_kept}
+use Rattle.fs_packet.proofs.{Words.{[], Ok, slice_index, ap, ◌∙◌, arith, if◌then◌else◌, V4, protocol_of, viewed, Upper, held_from, v4_fragment, v4_size, v4_starts}, Headers.{v4_read}, Uppers.{number_kept}}
 use Rattle.fs_packet.proofs.reading.v4_view.Goals as goal
 
 pub returns : goal.returns

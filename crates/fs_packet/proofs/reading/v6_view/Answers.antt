@@ -1,6 +1,4 @@
-use Rattle.fs_packet.proofs.Words.{ℕ, List, Option, Ok, ◌+◌, ◌==◌, ◌&&◌, slice_index, drop, ap, sym, ◌∙◌, arith, V6, protocol_of, viewed, Upper, chain_of, last_field, protocol_at, held_from, v6_fragment}
-use Rattle.fs_packet.proofs.Headers.{v6_read}
-use Rattle.fs_packet.proofs.Uppers.{protocol_kept}
+use Rattle.fs_packet.proofs.{Words.{ℕ, List, Option, Ok, ◌+◌, ◌==◌, ◌&&◌, slice_index, drop, ap, sym, ◌∙◌, arith, V6, protocol_of, viewed, Upper, chain_of, last_field, protocol_at, held_from, v6_fragment}, Headers.{v6_read}, Uppers.{protocol_kept}}
 use Rattle.fs_packet.proofs.reading.v6_view.Goals as goal
 
 pub returns : goal.returns

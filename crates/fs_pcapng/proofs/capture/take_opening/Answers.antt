@@ -1,5 +1,4 @@
-use Rattle.fs_pcapng.proofs.Words.{rules, ◌≡◌, ap, sym, ◌∙◌, big_number, opened}
-use Rattle.fs_pcapng.proofs.Opening.{opening_fails, opening_reads}
+use Rattle.fs_pcapng.proofs.{Words.{rules, ◌≡◌, ap, sym, ◌∙◌, big_number, opened}, Opening.{opening_fails, opening_reads}}
 use Rattle.fs_pcapng.proofs.capture.take_opening.Goals as goal
 
 pub returns-in-Ok-clause-reads : goal.returns-in-Ok-clause-reads

@@ -1,5 +1,4 @@
-use Rattle.fs_pcapng.proofs.Words.{◌≡◌, ◌≤◌, ◌+◌, [], calls_of}
-use Rattle.fs_pcapng.proofs.Cursors.{Moved}
+use Rattle.fs_pcapng.proofs.{Words.{◌≡◌, ◌≤◌, ◌+◌, [], calls_of}, Cursors.{Moved}}
 use Rattle.fs_pcapng.proofs.options.read_options.Given as goal
 
 abbrev pub invariant-options : goal.invariant-options

@@ -1,5 +1,4 @@
-use Rattle.fs_pcapng.proofs.Words.{rules, ◌≡◌, ◌≢◌, ◌+◌, ◌-◌, ◌==◌, true, false, take, drop, ap, sym, ◌∙◌, arith, number, gives_for, reads_as, reads_fails, reads_then, reads_ends, reads_gives, gives, and, octets_in, end_in, Length, needs_false, needs_true}
-use Rattle.fs_pcapng.proofs.Merged.{closing, first_of, is_equal, is_other, last_four, merged}
+use Rattle.fs_pcapng.proofs.{Words.{rules, ◌≡◌, ◌≢◌, ◌+◌, ◌-◌, ◌==◌, take, drop, ◌∙◌, arith, number, gives_for, reads_as, reads_fails, reads_then, reads_ends, reads_gives, gives, and, octets_in, end_in, Length, needs_false, needs_true}, Merged.{closes, closing, first_of, is_equal, is_other, merged}}
 use Rattle.fs_pcapng.proofs.packets.take_captured.Goals as goal
 
 pub returns-clause-reads : goal.returns-clause-reads
@@ -9,11 +8,8 @@ returns-clause-reads g c =
     let rest = frame.total - c.args.fixed - captured in
     let into = c.take_front-2.new.into in
     let all = take (captured + rest + 4) into in
-    let read : c.read_u32.result ≡ number frame.order 4 (drop (captured + rest) all) =
-    c.read_u32.ensures ∙ ap (λ l. number frame.order 4 l) (last_four captured rest into) in
     let again : c.read_u32.result ≡ frame.total = search rules in
-    let test : (number frame.order 4 (drop (captured + rest) all) == frame.total) ≡ true =
-    ap (λ n. n == frame.total) (sym read) ∙ is_equal c.read_u32.result frame.total again in
+    let test = closes frame captured rest c.read_u32.result into c.read_u32.ensures ∙ is_equal c.read_u32.result frame.total again in
     reads_as (octets_in frame c.args.fixed captured) (merged frame captured rest c.args.counted.now.taken)
     (reads_then (closing frame captured rest) (λ _. take captured into) c.in_default-take_front.ensures.reads
     (reads_as (closing frame captured rest all)
@@ -27,11 +23,8 @@ returns-then-read_u32-frame-clause-reads g c =
     let rest = frame.total - c.args.fixed - captured in
     let into = c.take_front-2.new.into in
     let all = take (captured + rest + 4) into in
-    let read : c.read_u32.result ≡ number frame.order 4 (drop (captured + rest) all) =
-    c.read_u32.ensures ∙ ap (λ l. number frame.order 4 l) (last_four captured rest into) in
     let other : c.read_u32.result ≢ frame.total = search rules in
-    let test : (number frame.order 4 (drop (captured + rest) all) == frame.total) ≡ false =
-    ap (λ n. n == frame.total) (sym read) ∙ is_other c.read_u32.result frame.total other in
+    let test = closes frame captured rest c.read_u32.result into c.read_u32.ensures ∙ is_other c.read_u32.result frame.total other in
     let taken : c.take_front-2.new.counted.taken ≡ c.args.counted.now.taken + (captured + rest + 4) = c.in_default-take_front.ensures.taken in
     let place = c.requires.place in
     let long = c.requires.long in

@@ -1,6 +1,4 @@
-use Rattle.fs_pcapng.proofs.Words.{◌≡◌, take, drop, length, ap, sym, ◌∙◌, arith, take_all, number, and, gives, gives_for, reads_ends, reads_then, close_in, described_behind, Interface}
-use Rattle.fs_pcapng.proofs.Bodies.{interface_of}
-use Rattle.fs_pcapng.proofs.Fitting.{behind_all}
+use Rattle.fs_pcapng.proofs.{Words.{◌≡◌, take, drop, length, ap, sym, ◌∙◌, arith, take_all, number, and, gives, gives_for, reads_ends, reads_then, close_in, described_behind, Interface}, Bodies.{interface_of}, Fitting.{behind_all}}
 use Rattle.fs_pcapng.proofs.packets.take_described.Goals as goal
 
 pub returns-in-Ok-close_block-clause-reads : goal.returns-in-Ok-close_block-clause-reads

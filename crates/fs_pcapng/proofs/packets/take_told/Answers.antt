@@ -1,7 +1,5 @@
-use Rattle.fs_pcapng.proofs.Words.{rules, ◌≡◌, length, take, sym, ◌∙◌, arith, length-take, told_in}
-use Rattle.fs_base.proofs.Filled.{fills_straight}
-use Rattle.fs_base.proofs.Passing.{passes_straight}
-use Rattle.fs_pcapng.proofs.Told.{settled_reads, told_reads}
+use Rattle.fs_pcapng.proofs.{Words.{rules, ◌≡◌, length, take, sym, ◌∙◌, arith, length-take, told_in}, Told.{settled_reads, told_reads}}
+use Rattle.fs_base.proofs.{Filled.{fills_straight}, Passing.{passes_straight}}
 use Rattle.fs_pcapng.proofs.packets.take_told.Goals as goal
 
 pub judge_told-judged-requires : goal.judge_told-judged-requires

@@ -1,17 +1,13 @@
-use Rattle.std.proofs.Common.{◌≡◌, ◌≤◌, ◌<◌, ◌+◌, ◌-◌, false}
-use Rattle.fs_peering.proofs.Exchanging.{Talking}
+use Rattle.std.proofs.Common.{◌≡◌, ◌≤◌, ◌+◌, ◌-◌, false}
+use Rattle.fs_peering.proofs.Exchanging.{Talking, Within}
 use Rattle.fs_peering.proofs.joined.exchange.Given as goal
 
 abbrev pub invariant-loop-flow : goal.invariant-loop-flow
 invariant-loop-flow g l = record {
   later : g.W.Wire.faults l.fn.wire ≤ g.W.Wire.faults l.wire;
-  within_first : l.flow.first_read < l.fn.limit;
-  within_second : g.A.Speaker.count l.second < l.fn.limit;
-  open_first : g.R.Speaker.over l.first ≡ false;
-  open_second : g.A.Speaker.over l.second ≡ false;
+  first : Within (g.R.Speaker.over l.first) l.flow.first_read l.fn.limit (g.R.Speaker.own l.fn.first) (g.R.Speaker.own l.first);
+  second : Within (g.A.Speaker.over l.second) (g.A.Speaker.count l.second) l.fn.limit (g.A.Speaker.own l.fn.second) (g.A.Speaker.own l.second);
   counted : g.A.Speaker.ready l.second ≡ false → g.A.Speaker.count l.second ≡ l.flow.second_read;
-  own_first : g.R.Speaker.own l.first ≡ g.R.Speaker.own l.fn.first;
-  own_second : g.A.Speaker.own l.second ≡ g.A.Speaker.own l.fn.second;
   talking :
       Talking
       (g.R.Speaker.stands l.fn.first)

@@ -1,5 +1,4 @@
-use Rattle.fs_peering.proofs.Words.{standing_at_desk, ◌≡◌, ℕ, ap, subst, ◌∙◌, is_ended, EndsHearing, Hearer}
-use Rattle.fs_peering.proofs.Listened.{listens_as}
+use Rattle.fs_peering.proofs.{Words.{standing_at_desk, ◌≡◌, ℕ, ap, subst, ◌∙◌, is_ended, EndsHearing, Hearer}, Listened.{listens_as}}
 use Rattle.fs_peering.proofs.listen.listen_over.Goals as goal
 
 pub returns-clause-listens : goal.returns-clause-listens

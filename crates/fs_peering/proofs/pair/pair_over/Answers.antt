@@ -1,6 +1,4 @@
-use Rattle.fs_peering.proofs.Words.{standing_at_desk, ◌≡◌, ℕ, true, ap, subst, ◌∙◌, EndsTalk, Hearer, Teller}
-use Rattle.fs_peering.proofs.Paired.{pairs_as, pairs_on}
-use Rattle.fs_peering.proofs.Sending.{says_start}
+use Rattle.fs_peering.proofs.{Words.{standing_at_desk, ◌≡◌, ℕ, true, ap, subst, ◌∙◌, EndsTalk, Hearer, Teller}, Paired.{pairs_as, pairs_on}, Sending.{says_start}}
 use Rattle.fs_peering.proofs.pair.pair_over.Goals as goal
 
 pub returns-clause-pairs : goal.returns-clause-pairs

@@ -1,5 +1,4 @@
-use Rattle.fs_peering.proofs.Words.{rules, arith, ◌<◌, length, take_rest}
-use Rattle.fs_peering.proofs.WrittenInParts.{wrote_more}
+use Rattle.fs_peering.proofs.{Words.{rules, arith, ◌<◌, length, take_rest}, WrittenInParts.{wrote_more}}
 use Rattle.fs_peering.proofs.round.write_end.Goals as goal
 
 pub returns-in_err-count-clause-idle : goal.returns-in_err-count-clause-idle

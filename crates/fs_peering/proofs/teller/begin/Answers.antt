@@ -1,5 +1,4 @@
-use Rattle.fs_peering.proofs.Words.{rules, on_ok_weaker}
-use Rattle.fs_peering.proofs.Sending.{begins_on, begun_on}
+use Rattle.fs_peering.proofs.{Words.{rules, on_ok_weaker}, Sending.{begins_on, begun_on}}
 use Rattle.fs_peering.proofs.teller.begin.Goals as goal
 
 pub returns-then-started-clause-begins : goal.returns-then-started-clause-begins

@@ -1,9 +1,4 @@
-use Rattle.fs_peering.proofs.Words.{machine_in, ◌≡◌, ℕ, List, subst, rules, arith, [], length, true, false, Bool, None, sym, ◌∙◌, take_rest, going_start, rest_none, CountsOn}
-use Rattle.fs_peering.proofs.Counting.{counts_cut, counts_fed, counts_shut, counts_start, shuts_fed, shuts_open, still_open}
-use Rattle.fs_peering.proofs.Feeding.{ends_all, ends_shut, goes_more}
-use Rattle.fs_peering.proofs.Hearing.{says_handed, says_up}
-use Rattle.fs_peering.proofs.Settled.{counts_bound, fed_settled, goes_early, settled_same, settled_then, state_open, stops_up}
-use Rattle.fs_peering.proofs.teller.take.Goals.{then-not-was_settled, else-not-was_settled}
+use Rattle.fs_peering.proofs.{Words.{machine_in, ◌≡◌, ℕ, List, subst, rules, arith, [], length, true, false, Bool, None, sym, ◌∙◌, take_rest, going_start, rest_none, CountsOn}, Counting.{counts_cut, counts_fed, counts_shut, counts_start, shuts_fed, shuts_open, still_open}, Feeding.{ends_all, ends_shut, goes_more}, Hearing.{says_handed, says_up}, Settled.{counts_bound, fed_settled, goes_early, settled_same, settled_then, state_open, stops_up}, teller.take.Goals.{then-not-was_settled, else-not-was_settled}}
 use Rattle.fs_peering.proofs.teller.take.Goals as goal
 
 both : {b : Bool} → b ≡ false → b ≡ true → ⊥

@@ -1,7 +1,4 @@
-use Rattle.fs_peering.proofs.Words.{machine_in, rules, on_ok_weaker, ticks_on, ticks_shut}
-use Rattle.fs_peering.proofs.Counting.{woke_hand}
-use Rattle.fs_peering.proofs.Settled.{woke_settled}
-use Rattle.fs_peering.proofs.Feeding.{woke_over}
+use Rattle.fs_peering.proofs.{Words.{machine_in, rules, on_ok_weaker, ticks_on, ticks_shut}, Counting.{woke_hand}, Settled.{woke_settled}, Feeding.{woke_over}}
 use Rattle.fs_peering.proofs.teller.wake.Goals as goal
 
 pub returns-in-Ok-clause-wakes : goal.returns-in-Ok-clause-wakes

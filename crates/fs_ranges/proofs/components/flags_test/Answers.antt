@@ -1,6 +1,4 @@
-use Rattle.fs_ranges.proofs.Words.{◌∙◌, sym, ap, is_syn}
-use Rattle.fs_ranges.proofs.Flags.{syn_is}
-use Rattle.fs_ranges.proofs.ComponentTests.{flags_are}
+use Rattle.fs_ranges.proofs.{Words.{◌∙◌, sym, ap, is_syn}, Flags.{syn_is}, ComponentTests.{flags_are}}
 use Rattle.fs_ranges.proofs.components.flags_test.Goals as goal
 
 pub returns-then-is_syn : goal.returns-then-is_syn

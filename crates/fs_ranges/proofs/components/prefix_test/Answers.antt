@@ -1,6 +1,5 @@
-use Rattle.fs_ranges.proofs.Words.{inl, inr, subst, sym, body_of, V6Body, part, IsSoundBody, Within, Destination, Source, IsTestOf}
+use Rattle.fs_ranges.proofs.{Words.{inl, inr, subst, sym, body_of, V6Body, part, IsSoundBody, Within, Destination, Source, IsTestOf}, ComponentTests.{v4_prefix, v6_destination, v6_source}}
 use Rattle.fs_nlri.specs.declared.component.PrefixForm.{PrefixForm}
-use Rattle.fs_ranges.proofs.ComponentTests.{v4_prefix, v6_destination, v6_source}
 use Rattle.fs_ranges.proofs.components.prefix_test.Goals as goal
 
 pub returns-in-V4 : goal.returns-in-V4

@@ -1,6 +1,4 @@
-use Rattle.fs_ranges.proofs.Words.{◌≡◌, ◌∙◌, ◌&&◌, ◌++◌, ◌∷◌, [], Bool, List, ap, sym, list_all, list_all-append, and_true, Test, ranges_hold, passes}
-use Rattle.fs_ranges.proofs.Hulls.{pushed}
-use Rattle.fs_ranges.proofs.Placing.{put_free, put_placed}
+use Rattle.fs_ranges.proofs.{Words.{◌≡◌, ◌∙◌, ◌&&◌, ◌++◌, ◌∷◌, [], Bool, List, ap, sym, list_all, list_all-append, and_true, Test, ranges_hold, passes}, Hulls.{pushed}, Placing.{put_free, put_placed}}
 use Rattle.fs_ranges.proofs.fast.place.Goals as goal
 
 pub returns-clause-placed : goal.returns-clause-placed

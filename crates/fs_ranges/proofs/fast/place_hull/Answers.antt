@@ -1,6 +1,5 @@
 use Rattle.std.proofs.Common.{arith}
-use Rattle.fs_ranges.proofs.Hulls.{hull_placed}
-use Rattle.fs_ranges.proofs.Placing.{put_free}
+use Rattle.fs_ranges.proofs.{Hulls.{hull_placed}, Placing.{put_free}}
 use Rattle.fs_ranges.proofs.fast.place_hull.Goals as goal
 
 pub returns-clause-same : goal.returns-clause-same

@@ -1,5 +1,4 @@
-use Rattle.fs_ranges.proofs.Words.{◌≡◌, true, sym, subst, Test, passes}
-use Rattle.fs_ranges.proofs.Truths.{holds_at}
+use Rattle.fs_ranges.proofs.{Words.{◌≡◌, true, sym, subst, Test, passes}, Truths.{holds_at}}
 use Rattle.fs_ranges.proofs.fast.ports_limit_of.Goals as goal
 
 pub returns-in-Some : goal.returns-in-Some

@@ -1,5 +1,4 @@
-use Rattle.fs_ranges.proofs.Words.{◌≡◌, ℕ, List, sym, subst, rules, All-append, recursion_from_All, All-permutation, IsNonDecreasingBy-from_sort_by_key, list_any-IsPermutation, on_ok_weaker, All, AllByRecursion, list_any, IsRange, is_in}
-use Rattle.fs_ranges.proofs.Gapping.{AreAscending, ascending_from, gaps_more, gaps_ranges, gaps_stand_apart}
+use Rattle.fs_ranges.proofs.{Words.{◌≡◌, ℕ, List, sym, subst, rules, All-append, recursion_from_All, All-permutation, IsNonDecreasingBy-from_sort_by_key, list_any-IsPermutation, on_ok_weaker, All, AllByRecursion, list_any, IsRange, is_in}, Gapping.{AreAscending, ascending_from, gaps_more, gaps_ranges, gaps_stand_apart}}
 use Rattle.fs_ranges.proofs.gaps.append_gaps.Goals as goal
 
 pub returns-clause-numbers : goal.returns-clause-numbers

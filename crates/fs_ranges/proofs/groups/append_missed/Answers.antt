@@ -1,5 +1,4 @@
-use Rattle.fs_ranges.proofs.Words.{arith, on_ok_weaker}
-use Rattle.fs_ranges.proofs.Grouping.{more_missed, more_ranges}
+use Rattle.fs_ranges.proofs.{Words.{arith, on_ok_weaker}, Grouping.{more_missed, more_ranges}}
 use Rattle.fs_ranges.proofs.groups.append_missed.Goals as goal
 
 pub returns-clause-numbers : goal.returns-clause-numbers

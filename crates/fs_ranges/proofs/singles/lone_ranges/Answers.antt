@@ -1,5 +1,4 @@
-use Rattle.fs_ranges.proofs.Words.{◌≡◌, ◌+◌, ◌<◌, ◌++◌, [], ◌∷◌, map, drop, length, sym, ap, subst, ◌∙◌, arith, All, All-append, All-cons, All-nil, lone, IsRange}
-use Rattle.fs_ranges.proofs.Numbering.{lone_next}
+use Rattle.fs_ranges.proofs.{Words.{◌≡◌, ◌+◌, ◌<◌, ◌++◌, [], ◌∷◌, map, drop, length, sym, ap, subst, ◌∙◌, arith, All, All-append, All-cons, All-nil, lone, IsRange}, Numbering.{lone_next}}
 use Rattle.fs_ranges.proofs.singles.lone_ranges.Goals as goal
 
 pub loop-value-preserved : goal.loop-value-preserved

@@ -1,5 +1,4 @@
-use Rattle.fs_ranges.proofs.Words.{◌≡◌, ℕ, true, List, take, sym, ap, subst, ◌∙◌, arith, take-length, contains}
-use Rattle.fs_ranges.proofs.Hulls.{hull_more}
+use Rattle.fs_ranges.proofs.{Words.{◌≡◌, ℕ, true, List, take, sym, ap, subst, ◌∙◌, arith, take-length, contains}, Hulls.{hull_more}}
 use Rattle.fs_ranges.proofs.spans.hull_of.Goals as goal
 
 pub loop-range-preserved : goal.loop-range-preserved

@@ -1,5 +1,4 @@
-use Rattle.fs_ranges.proofs.Words.{nat_lt, rules, of_calls, sym, IsPartitionPoint-from_clause, ltb-false}
-use Rattle.fs_ranges.proofs.Enclosing.{found_encloses, lasts_rise, none_encloses}
+use Rattle.fs_ranges.proofs.{Words.{nat_lt, rules, of_calls, sym, IsPartitionPoint-from_clause, ltb-false}, Enclosing.{found_encloses, lasts_rise, none_encloses}}
 use Rattle.fs_ranges.proofs.spans.is_enclosed.Goals as goal
 
 pub returns-in-Some : goal.returns-in-Some

@@ -1,5 +1,4 @@
-use Rattle.fs_reports.proofs.Words.{ℕ, List, ◌++◌, ap, ◌∙◌, desk_text}
-use Rattle.fs_reports.proofs.PeerLines.{desk_lists}
+use Rattle.fs_reports.proofs.{Words.{ℕ, List, ◌++◌, ap, ◌∙◌, desk_text}, PeerLines.{desk_lists}}
 use Rattle.fs_reports.proofs.listing.desk_text.Goals as goal
 
 pub returns : goal.returns

@@ -1,6 +1,5 @@
-use Rattle.fs_reports.proofs.Words.{◌≡◌, ◌++◌, drop, map, shown_lent}
+use Rattle.fs_reports.{proofs.Words.{◌≡◌, ◌++◌, drop, map, shown_lent}, specs.Worded.{rule_lines}}
 use Rattle.std.specs.String.{string_bytes}
-use Rattle.fs_reports.specs.Worded.{rule_lines}
 use Rattle.fs_reports.proofs.worded.append_rules.Given as goal
 
 -- with what is left, all is there

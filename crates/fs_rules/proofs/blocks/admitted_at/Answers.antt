@@ -1,6 +1,4 @@
-use Rattle.fs_rules.proofs.Words.{◌≡◌, ◌≤◌, ◌+◌, ◌++◌, sym, ap, subst, ◌∙◌, length, drop, option_map, slice_get, flat, AreEachSorted, chosen_flat, chosen, shown_admitted, listing, sorted_each}
-use Rattle.fs_rules.proofs.InParts.{chosen_whole, found_front, found_behind, found_back}
-use Rattle.fs_rules.proofs.Stepping.{rest_is}
+use Rattle.fs_rules.proofs.{Words.{◌≡◌, ◌≤◌, ◌+◌, ◌++◌, sym, ap, subst, ◌∙◌, length, drop, option_map, slice_get, flat, AreEachSorted, chosen_flat, chosen, shown_admitted, listing, sorted_each}, InParts.{chosen_whole, found_front, found_behind, found_back}, Stepping.{rest_is}}
 use Rattle.fs_rules.proofs.blocks.admitted_at.Goals as goal
 
 pub loop-block-init : goal.loop-block-init

@@ -1,5 +1,4 @@
-use Rattle.fs_rules.proofs.Words.{ap, ◌∙◌, length, zero-add, sorted_each}
-use Rattle.fs_rules.proofs.InParts.{chosen_whole}
+use Rattle.fs_rules.proofs.{Words.{ap, ◌∙◌, length, zero-add, sorted_each}, InParts.{chosen_whole}}
 use Rattle.fs_rules.proofs.blocks.count_admitted.Goals as goal
 
 pub loop-block-init : goal.loop-block-init

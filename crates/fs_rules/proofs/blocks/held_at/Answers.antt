@@ -1,6 +1,4 @@
-use Rattle.fs_rules.proofs.Words.{◌≡◌, ◌≤◌, ◌+◌, ◌++◌, sym, ap, subst, ◌∙◌, drop, option_map, slice_get, flat, shown_held, judgement}
-use Rattle.fs_rules.proofs.InParts.{found_front, found_behind, found_back}
-use Rattle.fs_rules.proofs.Stepping.{rest_is}
+use Rattle.fs_rules.proofs.{Words.{◌≡◌, ◌≤◌, ◌+◌, ◌++◌, sym, ap, subst, ◌∙◌, drop, option_map, slice_get, flat, shown_held, judgement}, InParts.{found_front, found_behind, found_back}, Stepping.{rest_is}}
 use Rattle.fs_rules.proofs.blocks.held_at.Goals as goal
 
 pub returns-then-is_some : goal.returns-then-is_some

@@ -1,6 +1,4 @@
-use Rattle.fs_rules.proofs.Words.{length-append, ◌≡◌, ◌+◌, ◌++◌, sym, ap, subst, ◌∙◌, length, drop, arith, flat, AreEachSorted, chosen_flat, chosen, sorted_each}
-use Rattle.fs_rules.proofs.InParts.{chosen_whole, next_in, next_front, next_back}
-use Rattle.fs_rules.proofs.Stepping.{rest_is}
+use Rattle.fs_rules.proofs.{Words.{length-append, ◌≡◌, ◌+◌, ◌++◌, sym, ap, subst, ◌∙◌, length, drop, arith, flat, AreEachSorted, chosen_flat, chosen, sorted_each}, InParts.{chosen_whole, next_in, next_front, next_back}, Stepping.{rest_is}}
 use Rattle.fs_rules.proofs.blocks.next_match.Goals as goal
 
 pub loop-block-init : goal.loop-block-init

@@ -1,5 +1,4 @@
-use Rattle.fs_rules.proofs.Words.{◌≡◌, ◌+◌, length, drop, flat, AreEachSorted, chosen_flat, chosen}
-use Rattle.fs_rules.proofs.InParts.{next_in}
+use Rattle.fs_rules.proofs.{Words.{◌≡◌, ◌+◌, length, drop, flat, AreEachSorted, chosen_flat, chosen}, InParts.{next_in}}
 use Rattle.fs_rules.proofs.blocks.next_match.Given as goal
 
 abbrev pub invariant-loop-block : goal.invariant-loop-block

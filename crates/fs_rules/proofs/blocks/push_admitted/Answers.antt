@@ -1,5 +1,4 @@
-use Rattle.fs_rules.proofs.Words.{ap, ◌++◌, map, listed, shown_lent, sorted_each}
-use Rattle.fs_rules.proofs.InParts.{chosen_whole}
+use Rattle.fs_rules.proofs.{Words.{ap, ◌++◌, map, listed, shown_lent, sorted_each}, InParts.{chosen_whole}}
 use Rattle.fs_rules.proofs.blocks.push_admitted.Goals as goal
 
 pub loop-block-init : goal.loop-block-init

@@ -1,5 +1,4 @@
-use Rattle.fs_rules.proofs.Words.{◌≡◌, ◌+◌, ◌++◌, sym, ap, subst, ◌∙◌, length, length-append, arith, chosen, HasSortedGroups, chosen_in}
-use Rattle.fs_rules.proofs.InParts.{next_in, next_front, next_back}
+use Rattle.fs_rules.proofs.{Words.{◌≡◌, ◌+◌, ◌++◌, sym, ap, subst, ◌∙◌, length, length-append, arith, chosen, HasSortedGroups, chosen_in}, InParts.{next_in, next_front, next_back}}
 use Rattle.fs_rules.proofs.reading.next_match.Goals as goal
 
 pub returns-then-is_some : goal.returns-then-is_some

@@ -1,5 +1,4 @@
-use Rattle.fs_rules.proofs.Words.{◌≡◌, ◌+◌, length, routes_of, HasSortedGroups, chosen_in, next_match}
-use Rattle.fs_rules.proofs.InParts.{next_in}
+use Rattle.fs_rules.proofs.{Words.{◌≡◌, ◌+◌, length, routes_of, HasSortedGroups, chosen_in, next_match}, InParts.{next_in}}
 use Rattle.fs_rules.proofs.reading.next_match.Given as goal
 
 abbrev pub invariant-loop-group : goal.invariant-loop-group

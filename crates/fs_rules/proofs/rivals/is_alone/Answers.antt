@@ -1,5 +1,4 @@
-use Rattle.fs_rules.proofs.Words.{◌≡◌, ◌<◌, ◌+◌, ◌-◌, true, sym, ap, ◌∙◌, slice_get, arith, FlowRoute, is_apart, is_before_rule}
-use Rattle.fs_rules.proofs.Alone.{alone_first, alone_at}
+use Rattle.fs_rules.proofs.{Words.{◌≡◌, ◌<◌, ◌+◌, ◌-◌, true, sym, ap, ◌∙◌, slice_get, arith, FlowRoute, is_apart, is_before_rule}, Alone.{alone_first, alone_at}}
 use Rattle.fs_rules.proofs.rivals.is_alone.Goals as goal
 
 pub returns-then-place-eq0 : goal.returns-then-place-eq0

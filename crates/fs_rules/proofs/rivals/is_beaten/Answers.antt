@@ -1,6 +1,4 @@
-use Rattle.fs_rules.proofs.Words.{◌<◌, ◌+◌, ◌-◌, sym, ap, ◌∙◌, length, take, drop, FlowRoute, place_in, tail_is}
-use Rattle.fs_rules.proofs.Stepping.{rest_is}
-use Rattle.fs_rules.proofs.Runs.{run_starts, run_over}
+use Rattle.fs_rules.proofs.{Words.{◌<◌, ◌+◌, ◌-◌, sym, ap, ◌∙◌, length, take, drop, FlowRoute, place_in, tail_is}, Stepping.{rest_is}, Runs.{run_starts, run_over}}
 use Rattle.fs_rules.proofs.rivals.is_beaten.Goals as goal
 
 pub loop-s-init : goal.loop-s-init

@@ -1,5 +1,4 @@
-use Rattle.fs_session.proofs.MessageRuns.{runs_takes, runs_stops, runs_waits}
-use Rattle.fs_session.proofs.SessionSteps.{runs_updates, runs_text}
+use Rattle.fs_session.proofs.{MessageRuns.{runs_takes, runs_stops, runs_waits}, SessionSteps.{runs_updates, runs_text}}
 use Rattle.fs_session.proofs.laws.steps_make_what_is_handed.Goals as goal
 
 pub returns : goal.returns

@@ -1,5 +1,4 @@
-use Rattle.fs_session.proofs.Words.{pending, frame_of, machine_of}
-use Rattle.fs_session.proofs.Closing.{StandsIn, closes}
+use Rattle.fs_session.proofs.{Words.{pending, frame_of, machine_of}, Closing.{StandsIn, closes}}
 use Rattle.fs_session.proofs.line.advance.Goals as goal
 
 pub returns-in-Err-transition-clause-exact : goal.returns-in-Err-transition-clause-exact

@@ -1,5 +1,4 @@
-use Rattle.fs_shadow.proofs.Words.{ℕ, ◌+◌, ◌-◌, ◌^◌, ap, sym, ◌∙◌, width_of}
-use Rattle.fs_shadow.proofs.Known.{highest_of}
+use Rattle.fs_shadow.proofs.{Words.{ℕ, ◌+◌, ◌-◌, ◌^◌, ap, sym, ◌∙◌, width_of}, Known.{highest_of}}
 use Rattle.fs_shadow.proofs.ends.highest_address.Goals as goal
 
 pub returns : goal.returns

@@ -1,6 +1,5 @@
-use Rattle.fs_shadow.proofs.Words.{◌∙◌, sym, subst, body_of, IsSoundBody, body_lies_in}
+use Rattle.fs_shadow.proofs.{Words.{◌∙◌, sym, subst, body_of, IsSoundBody, body_lies_in}, ByEnds.{v4_by_ends, v6_by_ends}}
 use Rattle.fs_nlri.specs.declared.component.PrefixForm.{PrefixForm}
-use Rattle.fs_shadow.proofs.ByEnds.{v4_by_ends, v6_by_ends}
 use Rattle.fs_shadow.proofs.ends.prefix_lies_in.Goals as goal
 
 pub returns-in-V4-V4 : goal.returns-in-V4-V4

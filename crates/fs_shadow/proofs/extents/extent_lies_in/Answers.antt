@@ -1,5 +1,4 @@
-use Rattle.fs_shadow.proofs.Words.{sym, ◌∙◌, extent_lies_in}
-use Rattle.fs_shadow.proofs.Measuring.{spans_tell}
+use Rattle.fs_shadow.proofs.{Words.{sym, ◌∙◌, extent_lies_in}, Measuring.{spans_tell}}
 use Rattle.fs_shadow.proofs.extents.extent_lies_in.Goals as goal
 
 pub returns-in-Numbers-Numbers : goal.returns-in-Numbers-Numbers

@@ -1,5 +1,4 @@
-use Rattle.fs_shadow.proofs.Words.{◌==◌, ℕ, List, nat_lt, rules, of_calls, sym, ap, subst, ◌∙◌, IsPartitionPoint-from_clause, IsPartitionedBy-ltb, IsFirst, first_entry, rank}
-use Rattle.fs_shadow.proofs.Entries.{first_of, rest_whole}
+use Rattle.fs_shadow.proofs.{Words.{◌==◌, ℕ, List, nat_lt, rules, of_calls, sym, ap, subst, ◌∙◌, IsPartitionPoint-from_clause, IsPartitionedBy-ltb, IsFirst, first_entry, rank}, Entries.{first_of, rest_whole}}
 use Rattle.fs_shadow.proofs.keys.first_of_key.Goals as goal
 
 pub returns : goal.returns

@@ -1,5 +1,4 @@
-use Rattle.fs_shadow.proofs.Words.{arith, length, refl, slice_get_read}
-use Rattle.fs_shadow.proofs.Entries.{taken_at}
+use Rattle.fs_shadow.proofs.{Words.{arith, length, refl, slice_get_read}, Entries.{taken_at}}
 use Rattle.fs_shadow.proofs.keys.takes_before.Goals as goal
 
 pub returns : goal.returns

@@ -1,5 +1,4 @@
-use Rattle.fs_shadow.proofs.Words.{arith, part_of, each_pushed, IsMeasureOf}
-use Rattle.fs_shadow.proofs.Measuring.{sound_at}
+use Rattle.fs_shadow.proofs.{Words.{arith, part_of, each_pushed, IsMeasureOf}, Measuring.{sound_at}}
 use Rattle.fs_shadow.proofs.outlines.measures_of.Goals as goal
 
 pub of-requires : goal.of-requires

@@ -1,5 +1,4 @@
-use Rattle.fs_shadow.proofs.Words.{◌∙◌, are_implied}
-use Rattle.fs_shadow.proofs.AtPoints.{marks_tell}
+use Rattle.fs_shadow.proofs.{Words.{◌∙◌, are_implied}, AtPoints.{marks_tell}}
 use Rattle.fs_shadow.proofs.points.numbers_lie_in.Goals as goal
 
 pub returns : goal.returns

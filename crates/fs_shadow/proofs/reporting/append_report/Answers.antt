@@ -1,7 +1,4 @@
-use Rattle.fs_shadow.proofs.Words.{ℕ, ◌<◌, ◌++◌, length, sym, subst, arith, refl, length-map, slice_get_read, AllByRecursion, all_admitted, shown_lent, each_size, each_got, report_of, IsOutlineOf, IsTold}
-use Rattle.fs_shadow.proofs.Destinations.{AreApart}
-use Rattle.fs_shadow.proofs.Probing.{all_told}
-use Rattle.fs_shadow.proofs.Reported.{apart_later, report_ends, report_step, stretch_apart}
+use Rattle.fs_shadow.proofs.{Words.{ℕ, ◌<◌, ◌++◌, length, sym, subst, arith, refl, length-map, slice_get_read, AllByRecursion, all_admitted, shown_lent, each_size, each_got, report_of, IsOutlineOf, IsTold}, Destinations.{AreApart}, Probing.{all_told}, Reported.{apart_later, report_ends, report_step, stretch_apart}}
 use Rattle.fs_shadow.proofs.reporting.append_report.Goals as goal
 
 pub stretch_start-start-requires-clause-inside : goal.stretch_start-start-requires-clause-inside

@@ -1,5 +1,4 @@
-use Rattle.fs_shadow.proofs.Words.{◌≡◌, ◌≤◌, ◌++◌, drop, take, all_admitted, report_behind, report_of}
-use Rattle.fs_shadow.proofs.Destinations.{AreApart}
+use Rattle.fs_shadow.proofs.{Words.{◌≡◌, ◌≤◌, ◌++◌, drop, take, all_admitted, report_behind, report_of}, Destinations.{AreApart}}
 use Rattle.fs_shadow.proofs.reporting.append_report.Given as goal
 
 -- what stands and what is to come is the whole, and no rule before the stretch contains one that is to come

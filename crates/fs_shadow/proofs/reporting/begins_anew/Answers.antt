@@ -1,5 +1,4 @@
-use Rattle.fs_shadow.proofs.Words.{◌≡◌, Bool, ◌-◌, ◌&&◌, None, get_or, ap, sym, ◌∙◌, arith, lt-ltb, all_admitted, spans_of, lie_apart}
-use Rattle.fs_shadow.proofs.Spanning.{span_of_item}
+use Rattle.fs_shadow.proofs.{Words.{◌≡◌, Bool, ◌-◌, ◌&&◌, None, get_or, ap, sym, ◌∙◌, arith, lt-ltb, all_admitted, spans_of, lie_apart}, Spanning.{span_of_item}}
 use Rattle.fs_shadow.proofs.reporting.begins_anew.Goals as goal
 
 pub returns-then-number-gt0 : goal.returns-then-number-gt0

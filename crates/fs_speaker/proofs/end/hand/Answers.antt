@@ -1,5 +1,4 @@
-use Rattle.fs_speaker.proofs.Words.{rules, refl, ◌∙◌, List, sym, subst, drop, take_rest, on_ok_weaker, Update, HandsOver}
-use Rattle.fs_speaker.proofs.Handover.{Going, going_start, going_more, hands_all, hands_closed, rest_none}
+use Rattle.fs_speaker.proofs.{Words.{rules, refl, ◌∙◌, List, sym, subst, drop, take_rest, on_ok_weaker, Update, HandsOver}, Handover.{Going, going_start, going_more, hands_all, hands_closed, rest_none}}
 use Rattle.fs_speaker.proofs.end.hand.Goals as goal
 
 pub loop-count-init : goal.loop-count-init

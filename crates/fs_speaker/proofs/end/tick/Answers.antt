@@ -1,5 +1,4 @@
-use Rattle.fs_speaker.proofs.Words.{rules, on_ok_weaker}
-use Rattle.fs_speaker.proofs.Waking.{ticks_on, ticks_shut}
+use Rattle.fs_speaker.proofs.{Words.{rules, on_ok_weaker}, Waking.{ticks_on, ticks_shut}}
 use Rattle.fs_speaker.proofs.end.tick.Goals as goal
 
 pub returns-in-Ok-clause-ticks : goal.returns-in-Ok-clause-ticks

@@ -1,5 +1,4 @@
-use Rattle.fs_text.proofs.Words.{map, as_part}
-use Rattle.fs_text.proofs.Found.{found}
+use Rattle.fs_text.proofs.{Words.{map, as_part}, Found.{found}}
 use Rattle.fs_text.proofs.actions.loose_action.Goals as goal
 
 pub returns : goal.returns

@@ -1,5 +1,4 @@
-use Rattle.fs_text.proofs.Words.{◌∙◌, ap, sym, map, as_part, parts_of}
-use Rattle.fs_text.proofs.Found.{reads_of}
+use Rattle.fs_text.proofs.{Words.{◌∙◌, ap, sym, map, as_part, parts_of}, Found.{reads_of}}
 use Rattle.fs_text.proofs.actions.read_action.Goals as goal
 
 pub returns-in-Some : goal.returns-in-Some

@@ -1,5 +1,4 @@
-use Rattle.fs_text.proofs.Words.{◌∙◌, ℕ, List, Some, ap, big_number, decode_sized}
-use Rattle.fs_text.proofs.Numerals.{figure_decoded, figure_read}
+use Rattle.fs_text.proofs.{Words.{◌∙◌, ℕ, List, Some, ap, big_number, decode_sized}, Numerals.{figure_decoded, figure_read}}
 use Rattle.fs_text.proofs.figures.loose_figure.Goals as goal
 
 pub returns-in-Ok : goal.returns-in-Ok

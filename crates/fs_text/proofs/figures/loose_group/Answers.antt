@@ -1,5 +1,4 @@
-use Rattle.fs_text.proofs.Words.{◌∙◌, ap, sym, subst, arith, result_ok, IsUtf8, IsUtf8-from_ascii, hexadecimal}
-use Rattle.fs_text.proofs.Numerals.{ascii_group, parse_group}
+use Rattle.fs_text.proofs.{Words.{◌∙◌, ap, sym, subst, arith, result_ok, IsUtf8, IsUtf8-from_ascii, hexadecimal}, Numerals.{ascii_group, parse_group}}
 use Rattle.fs_text.proofs.figures.loose_group.Goals as goal
 
 pub returns-in-Ok : goal.returns-in-Ok

@@ -1,5 +1,4 @@
-use Rattle.fs_text.proofs.Words.{◌++◌, is_sign, is_plain}
-use Rattle.fs_text.proofs.Cuts.{ends_append, split_behind}
+use Rattle.fs_text.proofs.{Words.{◌++◌, is_sign, is_plain}, Cuts.{ends_append, split_behind}}
 use Rattle.fs_text.proofs.lists.cut.Goals as goal
 
 pub returns : goal.returns

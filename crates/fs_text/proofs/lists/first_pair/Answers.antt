@@ -1,5 +1,4 @@
-use Rattle.fs_text.specs.ListWord.{is_within}
-use Rattle.fs_text.proofs.Cuts.{split_behind}
+use Rattle.fs_text.{specs.ListWord.{is_within}, proofs.Cuts.{split_behind}}
 use Rattle.fs_text.proofs.lists.first_pair.Goals as goal
 
 pub returns-clause-parts : goal.returns-clause-parts

@@ -1,5 +1,4 @@
-use Rattle.fs_text.proofs.Words.{width_code, relation_of}
-use Rattle.fs_text.proofs.Pairs.{pair_made, pair_read}
+use Rattle.fs_text.proofs.{Words.{width_code, relation_of}, Pairs.{pair_made, pair_read}}
 use Rattle.fs_text.proofs.lists.loose_pair.Goals as goal
 
 pub returns-in-Some-Some-clause-loose : goal.returns-in-Some-Some-clause-loose

@@ -1,5 +1,4 @@
-use Rattle.fs_text.proofs.Words.{◌∙◌, Some, ap, sym, nil_from_length, some_pair_parts, plain_of}
-use Rattle.fs_text.proofs.Pairs.{last_read, next_left, taken}
+use Rattle.fs_text.proofs.{Words.{◌∙◌, Some, ap, sym, nil_from_length, some_pair_parts, plain_of}, Pairs.{last_read, next_left, taken}}
 use Rattle.fs_text.proofs.lists.loose_pairs.Goals as goal
 
 pub returns-in_default : goal.returns-in_default

@@ -1,5 +1,4 @@
-use Rattle.fs_text.proofs.Words.{◌≡◌, ◌∙◌, ◌∷◌, ℕ, List, take, drop, ap, sym, subst, arith, take_rest, is_plain, parts_of, Run}
-use Rattle.fs_text.proofs.Runs.{run_before}
+use Rattle.fs_text.proofs.{Words.{◌≡◌, ◌∙◌, ◌∷◌, ℕ, List, take, drop, ap, sym, subst, arith, take_rest, is_plain, parts_of, Run}, Runs.{run_before}}
 use Rattle.fs_text.proofs.parts.first_part.Goals as goal
 
 pub returns-else-len-eq0-clause-first : goal.returns-else-len-eq0-clause-first

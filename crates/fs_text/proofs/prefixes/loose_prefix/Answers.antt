@@ -1,5 +1,4 @@
-use Rattle.fs_text.proofs.Words.{map, subst, option_map, Family, body_of, prefix_form, IsNormalBody, as_part}
-use Rattle.fs_text.proofs.Prefixed.{v4_found, v6_found}
+use Rattle.fs_text.proofs.{Words.{map, subst, option_map, Family, body_of, prefix_form, IsNormalBody, as_part}, Prefixed.{v4_found, v6_found}}
 use Rattle.fs_text.proofs.prefixes.loose_prefix.Goals as goal
 
 pub returns-in-V4 : goal.returns-in-V4

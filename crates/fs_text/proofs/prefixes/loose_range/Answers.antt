@@ -1,5 +1,4 @@
-use Rattle.fs_text.proofs.Words.{map, as_part}
-use Rattle.fs_text.proofs.Prefixed.{range_read}
+use Rattle.fs_text.proofs.{Words.{map, as_part}, Prefixed.{range_read}}
 use Rattle.fs_text.proofs.prefixes.loose_range.Goals as goal
 
 pub returns : goal.returns

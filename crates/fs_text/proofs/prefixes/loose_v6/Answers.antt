@@ -1,5 +1,4 @@
-use Rattle.fs_text.proofs.Words.{map, option_map, body_of, as_part}
-use Rattle.fs_text.proofs.Prefixed.{v6_made, v6_none}
+use Rattle.fs_text.proofs.{Words.{map, option_map, body_of, as_part}, Prefixed.{v6_made, v6_none}}
 use Rattle.fs_text.proofs.prefixes.loose_v6.Goals as goal
 
 pub returns-in-Some : goal.returns-in-Some

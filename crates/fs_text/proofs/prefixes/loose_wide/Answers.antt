@@ -1,5 +1,4 @@
-use Rattle.fs_text.proofs.Words.{◌∙◌, ℕ, ◌/◌, ◌%◌, ◌^◌, ◌∷◌, sym, none-some, some_pair_parts, Delimiter, half_parts, range_parts}
-use Rattle.fs_text.proofs.Prefixed.{wide_made}
+use Rattle.fs_text.proofs.{Words.{◌∙◌, ℕ, ◌/◌, ◌%◌, ◌^◌, ◌∷◌, sym, none-some, some_pair_parts, Delimiter, half_parts, range_parts}, Prefixed.{wide_made}}
 use Rattle.fs_text.proofs.prefixes.loose_wide.Goals as goal
 
 pub returns-in-Some-loose_low : goal.returns-in-Some-loose_low

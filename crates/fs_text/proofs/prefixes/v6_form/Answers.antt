@@ -1,5 +1,4 @@
-use Rattle.fs_text.proofs.Words.{ℕ, Some, ap, V6Body}
-use Rattle.fs_text.proofs.Prefixed.{pattern_back}
+use Rattle.fs_text.proofs.{Words.{ℕ, Some, ap, V6Body}, Prefixed.{pattern_back}}
 use Rattle.fs_text.proofs.prefixes.v6_form.Goals as goal
 
 pub returns-then-offset-lt128 : goal.returns-then-offset-lt128

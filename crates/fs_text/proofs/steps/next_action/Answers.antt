@@ -1,5 +1,4 @@
-use Rattle.fs_text.proofs.Words.{refl, subst, ReadsAbove}
-use Rattle.fs_text.proofs.Stepped.{bad_act_value}
+use Rattle.fs_text.proofs.{Words.{refl, subst, ReadsAbove}, Stepped.{bad_act_value}}
 use Rattle.fs_text.proofs.steps.next_action.Goals as goal
 
 pub returns-in-None-clause-fault : goal.returns-in-None-clause-fault

@@ -1,5 +1,4 @@
-use Rattle.fs_text.proofs.Words.{subst, action_text, IsNamed, Reads}
-use Rattle.fs_text.proofs.Stepped.{said}
+use Rattle.fs_text.proofs.{Words.{subst, action_text, IsNamed, Reads}, Stepped.{said}}
 use Rattle.fs_text.proofs.steps.said_above.Goals as goal
 
 pub returns-in-Some-clause-read : goal.returns-in-Some-clause-read

@@ -1,5 +1,4 @@
-use Rattle.fs_text.proofs.Words.{Bor, List, ℕ, map, subst, sym, arith, drop-drop, IsWhole}
-use Rattle.fs_text.proofs.Wholly.{all_parts, drop_end, drop_some, then_acts}
+use Rattle.fs_text.proofs.{Words.{Bor, List, ℕ, map, subst, sym, arith, drop-drop, IsWhole}, Wholly.{all_parts, drop_end, drop_some, then_acts}}
 use Rattle.fs_text.proofs.text.read_actions.Goals as goal
 
 pub returns-then-place-words-clause-found : goal.returns-then-place-words-clause-found

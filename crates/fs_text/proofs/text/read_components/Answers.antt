@@ -1,6 +1,5 @@
-use Rattle.fs_text.proofs.Words.{Bor, List, ℕ, map, refl, IfErr, IsWordFault}
+use Rattle.fs_text.proofs.{Words.{Bor, List, ℕ, map, refl, IfErr, IsWordFault}, Wholly.{err_on, led_pushed, part_fault}}
 use Rattle.fs_nlri.specs.Component.{parts_of}
-use Rattle.fs_text.proofs.Wholly.{err_on, led_pushed, part_fault}
 use Rattle.fs_text.proofs.text.read_components.Goals as goal
 
 pub returns-in_err-component-clause-fault : goal.returns-in_err-component-clause-fault

@@ -1,6 +1,4 @@
-use Rattle.fs_text.proofs.Words.{◌+◌, Bor, List, ℕ, inr, map, refl, subst, sym, arith, IfErr, Acts, IsWhole, IsWordFault}
-use Rattle.fs_text.proofs.Acted.{acts_next, whole_actions}
-use Rattle.fs_text.proofs.Wholly.{action_fault, drop_end, drop_some, err_on}
+use Rattle.fs_text.proofs.{Words.{◌+◌, Bor, List, ℕ, inr, map, refl, subst, sym, arith, IfErr, Acts, IsWhole, IsWordFault}, Acted.{acts_next, whole_actions}, Wholly.{action_fault, drop_end, drop_some, err_on}}
 use Rattle.fs_text.proofs.text.read_some_actions.Goals as goal
 
 pub returns-in_err-action-clause-fault : goal.returns-in_err-action-clause-fault

@@ -1,6 +1,5 @@
-use Rattle.fs_text.proofs.Words.{Bor, List, ℕ, map, ReadsWords}
+use Rattle.fs_text.proofs.{Words.{Bor, List, ℕ, map, ReadsWords}, Wholly.{err_on, reads_fault}}
 use Rattle.fs_nlri.specs.Component.{parts_of}
-use Rattle.fs_text.proofs.Wholly.{err_on, reads_fault}
 use Rattle.fs_text.proofs.text.read_words.Goals as goal
 
 pub returns-in_err-family : goal.returns-in_err-family

@@ -1,5 +1,4 @@
-use Rattle.fs_text.proofs.Words.{◌∙◌, part_of}
-use Rattle.fs_text.proofs.Listed.{compared_of}
+use Rattle.fs_text.proofs.{Words.{◌∙◌, part_of}, Listed.{compared_of}}
 use Rattle.fs_text.proofs.values.compared.Goals as goal
 
 pub returns-in-Some : goal.returns-in-Some

@@ -1,5 +1,4 @@
-use Rattle.fs_text.proofs.Words.{◌∙◌, sym, true, refl, arith, Decides-eqb, slice_eq-Decides}
-use Rattle.fs_text.proofs.Listed.{not_named, type_named}
+use Rattle.fs_text.proofs.{Words.{◌∙◌, sym, true, refl, arith, Decides-eqb, slice_eq-Decides}, Listed.{not_named, type_named}}
 use Rattle.fs_text.proofs.values.component_type.Goals as goal
 use Rattle.fs_text.proofs.values.component_type.Goals.{else-kind-last_type-via-then-kind-last_type+else-eq, else-kind-last_type-via-else-kind-last_type}
 

@@ -1,5 +1,4 @@
-use Rattle.fs_text.proofs.Words.{same_Some, ◌∙◌, Some, ap, map, sym, option_map, body_of, part, as_part, parts_of}
-use Rattle.fs_text.proofs.Listed.{prefixed_loosely}
+use Rattle.fs_text.proofs.{Words.{same_Some, ◌∙◌, Some, ap, map, sym, option_map, body_of, part, as_part, parts_of}, Listed.{prefixed_loosely}}
 use Rattle.fs_text.proofs.values.loose_prefixed.Goals as goal
 
 pub returns-in-Some : goal.returns-in-Some

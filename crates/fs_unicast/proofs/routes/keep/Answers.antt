@@ -1,6 +1,4 @@
-use Rattle.fs_unicast.proofs.Words.{inl, inr, ◌∙◌, sym, ap, subst, true≢false, option_map, insert_entry, place_cmp, IsParted, IsPartedAfter, IsPartedBefore, entry_now, is_alike}
-use Rattle.fs_unicast.proofs.Parting.{put_again, put_changes, parted_put, parted_replaced}
-use Rattle.fs_unicast.proofs.routes.keep.Goals.{else-taken-via-then-taken+else-has_path, else-taken-via-else-taken}
+use Rattle.fs_unicast.proofs.{Words.{inl, inr, ◌∙◌, sym, ap, subst, true≢false, option_map, insert_entry, place_cmp, IsParted, IsPartedAfter, IsPartedBefore, entry_now, is_alike}, Parting.{put_again, put_changes, parted_put, parted_replaced}, routes.keep.Goals.{else-taken-via-then-taken+else-has_path, else-taken-via-else-taken}}
 use Rattle.fs_unicast.proofs.routes.keep.Goals as goal
 
 -- The path was there.

@@ -1,7 +1,4 @@
-use Rattle.fs_unicast.proofs.Words.{◌∙◌, sym, ap, best_at, best_match_of, others_under, covered_before}
-use Rattle.fs_unicast.specs.Search.{neighbour_of}
-use Rattle.fs_unicast.proofs.Fronts.{behind, goes_over, longest_over, no_cover, none_left, none_under, nothing_over, strictly}
-use Rattle.fs_unicast.proofs.Ranges.{best_at_longest}
+use Rattle.fs_unicast.{proofs.{Words.{◌∙◌, sym, ap, best_at, best_match_of, others_under, covered_before}, Fronts.{behind, goes_over, longest_over, no_cover, none_left, none_under, nothing_over, strictly}, Ranges.{best_at_longest}}, specs.Search.{neighbour_of}}
 use Rattle.fs_unicast.proofs.search.best_and_others.Goals as goal
 
 pub returns-in_default-clause-best : goal.returns-in_default-clause-best

@@ -1,5 +1,4 @@
-use Rattle.fs_unicast.proofs.Words.{◌≡◌, ◌∙◌, sym, ap, subst, filter, map, entries_between, Included, Unbounded, best_of, IsFront, candidate, is_same_prefix, place_cmp}
-use Rattle.fs_unicast.proofs.Ranges.{place, front_range, best_starts}
+use Rattle.fs_unicast.proofs.{Words.{◌≡◌, ◌∙◌, sym, ap, subst, filter, map, entries_between, Included, Unbounded, best_of, IsFront, candidate, is_same_prefix, place_cmp}, Ranges.{place, front_range, best_starts}}
 use Rattle.fs_unicast.proofs.search.best_at.Goals as goal
 
 module _ (c : goal.After-range) where

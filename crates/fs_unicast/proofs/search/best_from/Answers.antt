@@ -1,6 +1,4 @@
-use Rattle.fs_unicast.proofs.Words.{◌≡◌, ◌∙◌, sym, ap, subst, Some, option_map, fold, map, filter, entries_between, Included, Unbounded, IsFirst, IsFirstFrom, Path, better, best_at, candidate, is_same_prefix, Route, place_cmp}
-use Rattle.fs_unicast.proofs.Fronts.{best_behind, front_behind}
-use Rattle.fs_unicast.proofs.Ranges.{place, first_in_range, none_in_range}
+use Rattle.fs_unicast.proofs.{Words.{◌≡◌, ◌∙◌, sym, ap, subst, Some, option_map, fold, map, filter, entries_between, Included, Unbounded, IsFirst, IsFirstFrom, Path, better, best_at, candidate, is_same_prefix, Route, place_cmp}, Fronts.{best_behind, front_behind}, Ranges.{place, first_in_range, none_in_range}}
 use Rattle.fs_unicast.proofs.search.best_from.Goals as goal
 
 pub returns-in_err-place-clause-first : goal.returns-in_err-place-clause-first

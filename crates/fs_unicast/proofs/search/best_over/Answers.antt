@@ -1,6 +1,4 @@
-use Rattle.fs_unicast.proofs.Words.{sym, ◌∙◌, seeking_ends, seeking_found, seeking_more, seeking_shorter, seeking_apart, Route}
-use Rattle.fs_unicast.proofs.Fronts.{seeking, covers_over}
-use Rattle.fs_unicast.proofs.Ranges.{best_at_longest, no_best}
+use Rattle.fs_unicast.proofs.{Words.{sym, ◌∙◌, seeking_ends, seeking_found, seeking_more, seeking_shorter, seeking_apart, Route}, Fronts.{seeking, covers_over}, Ranges.{best_at_longest, no_best}}
 use Rattle.fs_unicast.proofs.search.best_over.Goals as goal
 
 pub returns-in_default : goal.returns-in_default

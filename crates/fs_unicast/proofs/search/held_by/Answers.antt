@@ -1,5 +1,4 @@
-use Rattle.fs_unicast.proofs.Words.{◌∙◌, ap, option_copied, entries_between, Unbounded, place_cmp}
-use Rattle.fs_unicast.proofs.Ranges.{held_in_range}
+use Rattle.fs_unicast.proofs.{Words.{◌∙◌, ap, option_copied, entries_between, Unbounded, place_cmp}, Ranges.{held_in_range}}
 use Rattle.fs_unicast.proofs.search.held_by.Goals as goal
 
 pub loop-place-init : goal.loop-place-init

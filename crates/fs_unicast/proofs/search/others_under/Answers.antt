@@ -1,6 +1,5 @@
 use Rattle.std.proofs.Common.{ap₂}
-use Rattle.fs_unicast.proofs.Words.{◌∙◌, ◌&&◌, list_any, is_other, is_within}
-use Rattle.fs_unicast.proofs.Ranges.{place, others_in_range}
+use Rattle.fs_unicast.proofs.{Words.{◌∙◌, ◌&&◌, list_any, is_other, is_within}, Ranges.{place, others_in_range}}
 use Rattle.fs_unicast.proofs.search.others_under.Goals as goal
 
 pub returns : goal.returns

@@ -1,5 +1,4 @@
-use Rattle.fs_unicast.proofs.Words.{ℕ, ◌≡◌, ◌∙◌, sym, ap, subst, Bool, false, Option, find, is_lt, option_map, IsStrictlySortedBy, neighbour, Route, place_cmp, entry_now, names, without, IsParted}
-use Rattle.fs_unicast.proofs.Gap.{without_last, without_next}
+use Rattle.fs_unicast.proofs.{Words.{ℕ, ◌≡◌, ◌∙◌, sym, ap, subst, Bool, false, Option, find, is_lt, option_map, IsStrictlySortedBy, neighbour, Route, place_cmp, entry_now, names, without, IsParted}, Gap.{without_last, without_next}}
 use Rattle.fs_unicast.proofs.turns.close_gap.Goals as goal
 
 unlike : (asn named : Option ℕ) (o : Option Route) (b : Bool) → named ≡ asn → b ≡ names named o → b ≡ false → names asn o ≡ false

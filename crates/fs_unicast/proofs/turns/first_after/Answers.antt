@@ -1,6 +1,5 @@
 use Rattle.std.proofs.Common.{◌∙◌}
-use Rattle.fs_unicast.proofs.Finding.{shows_first}
-use Rattle.fs_unicast.proofs.Beside.{first_behind}
+use Rattle.fs_unicast.proofs.{Finding.{shows_first}, Beside.{first_behind}}
 use Rattle.fs_unicast.proofs.turns.first_after.Goals as goal
 
 pub returns-clause-found : goal.returns-clause-found

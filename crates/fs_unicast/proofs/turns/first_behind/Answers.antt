@@ -1,5 +1,4 @@
-use Rattle.fs_unicast.proofs.Words.{◌∙◌, sym, option_map, entry_now}
-use Rattle.fs_unicast.proofs.Parting.{next_behind}
+use Rattle.fs_unicast.proofs.{Words.{◌∙◌, sym, option_map, entry_now}, Parting.{next_behind}}
 use Rattle.fs_unicast.proofs.turns.first_behind.Goals as goal
 
 pub returns-else-stands_at : goal.returns-else-stands_at

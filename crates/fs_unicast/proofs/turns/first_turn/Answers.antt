@@ -1,6 +1,4 @@
-use Rattle.fs_unicast.proofs.Words.{◌∙◌, sym, ap, subst, map-id, is_lt, IsStrictlySortedBy, place_cmp}
-use Rattle.fs_unicast.proofs.Finding.{find_both}
-use Rattle.fs_unicast.proofs.Beside.{none_before, none_within}
+use Rattle.fs_unicast.proofs.{Words.{◌∙◌, sym, ap, subst, map-id, is_lt, IsStrictlySortedBy, place_cmp}, Finding.{find_both}, Beside.{none_before, none_within}}
 use Rattle.fs_unicast.proofs.turns.first_turn.Goals as goal
 
 pub returns-in_err-turn-clause-found : goal.returns-in_err-turn-clause-found

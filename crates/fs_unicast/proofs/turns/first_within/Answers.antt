@@ -1,6 +1,4 @@
-use Rattle.fs_unicast.proofs.Words.{◌∙◌, sym, ap, slice_get, is_le, is_lt, option_map, place_cmp}
-use Rattle.fs_unicast.proofs.Finding.{find_both}
-use Rattle.fs_unicast.proofs.Beside.{first_ahead, none_before, none_within}
+use Rattle.fs_unicast.proofs.{Words.{◌∙◌, sym, ap, slice_get, is_le, is_lt, option_map, place_cmp}, Finding.{find_both}, Beside.{first_ahead, none_before, none_within}}
 use Rattle.fs_unicast.proofs.turns.first_within.Goals as goal
 
 pub returns-in_err-place-clause-found : goal.returns-in_err-place-clause-found

@@ -1,7 +1,4 @@
-use Rattle.fs_unicast.proofs.Words.{◌∙◌, sym, ap, Some, None, true≢false, refl, find, option_map, is_at, neighbour, place_cmp, is_before, is_at_or_after, is_same, lies_between}
-use Rattle.fs_unicast.proofs.Finding.{found_passes, last_passes}
-use Rattle.fs_unicast.proofs.PlaceOrder.{below_upto}
-use Rattle.fs_unicast.proofs.Gap.{other_stays, parted_idle}
+use Rattle.fs_unicast.proofs.{Words.{◌∙◌, sym, ap, Some, None, true≢false, refl, find, option_map, is_at, neighbour, place_cmp, is_before, is_at_or_after, is_same, lies_between}, Finding.{found_passes, last_passes}, PlaceOrder.{below_upto}, Gap.{other_stays, parted_idle}}
 use Rattle.fs_unicast.proofs.turns.is_needed.Goals as goal
 
 pub returns-in_default : goal.returns-in_default

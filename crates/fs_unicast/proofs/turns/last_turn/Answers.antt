@@ -1,6 +1,5 @@
 use Rattle.std.proofs.Common.{◌∙◌}
-use Rattle.fs_unicast.proofs.Finding.{shows_last}
-use Rattle.fs_unicast.proofs.Beside.{last_upto}
+use Rattle.fs_unicast.proofs.{Finding.{shows_last}, Beside.{last_upto}}
 use Rattle.fs_unicast.proofs.turns.last_turn.Goals as goal
 
 pub returns-clause-found : goal.returns-clause-found

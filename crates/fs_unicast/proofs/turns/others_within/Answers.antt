@@ -1,5 +1,4 @@
-use Rattle.fs_unicast.proofs.Words.{◌∙◌, sym, ap, option_map, is_other}
-use Rattle.fs_unicast.proofs.Searching.{search_starts, search_hits, search_falls, search_turns, search_stops, search_ends}
+use Rattle.fs_unicast.proofs.{Words.{◌∙◌, sym, ap, option_map, is_other}, Searching.{search_starts, search_hits, search_falls, search_turns, search_stops, search_ends}}
 use Rattle.fs_unicast.proofs.turns.others_within.Goals as goal
 
 pub loop-place-init : goal.loop-place-init

@@ -1,5 +1,4 @@
-use Rattle.fs_unicast.proofs.Words.{is_lt, place_cmp}
-use Rattle.fs_unicast.proofs.Searching.{IsAhead, count}
+use Rattle.fs_unicast.proofs.{Words.{is_lt, place_cmp}, Searching.{IsAhead, count}}
 use Rattle.fs_unicast.proofs.turns.others_within.Given as goal
 
 abbrev pub invariant-loop-place : goal.invariant-loop-place

@@ -1,7 +1,4 @@
-use Rattle.fs_unicast.proofs.Words.{◌≡◌, ◌∙◌, sym, ap, option_map, Some, true≢false, find, true, is_lt, place_cmp, is_after, is_at_or_after, entry_now, stands_at, PartsAt, IsParted}
-use Rattle.fs_unicast.proofs.Finding.{found_passes}
-use Rattle.fs_unicast.proofs.Gap.{rest_of, still_here, parted_moved}
-use Rattle.fs_unicast.proofs.Parting.{next_behind, parted_here, parted_aft}
+use Rattle.fs_unicast.proofs.{Words.{◌≡◌, ◌∙◌, sym, ap, option_map, Some, true≢false, find, true, is_lt, place_cmp, is_after, is_at_or_after, entry_now, stands_at, PartsAt, IsParted}, Finding.{found_passes}, Gap.{rest_of, still_here, parted_moved}, Parting.{next_behind, parted_here, parted_aft}}
 use Rattle.fs_unicast.proofs.turns.part.Goals as goal
 
 -- The turn at the route after moved to the place.

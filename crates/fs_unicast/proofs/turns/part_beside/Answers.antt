@@ -1,5 +1,4 @@
-use Rattle.fs_unicast.proofs.Words.{sym, option_map, entry_now, IsParted}
-use Rattle.fs_unicast.proofs.Parting.{parts_on, stays_all, stays_before, parted_fore, parted_aft}
+use Rattle.fs_unicast.proofs.{Words.{sym, option_map, entry_now, IsParted}, Parting.{parts_on, stays_all, stays_before, parted_fore, parted_aft}}
 use Rattle.fs_unicast.proofs.turns.part_beside.Goals as goal
 
 pub returns-in_err-behind-clause-parted : goal.returns-in_err-behind-clause-parted

@@ -1,5 +1,4 @@
-use Rattle.fs_unicast.proofs.Words.{◌≡◌, ◌∙◌, subst, Some, Option, List, is_le, IsStrictlySortedBy, Place, place_cmp, IsLastUpto, find_last}
-use Rattle.fs_unicast.proofs.Gap.{last_is}
+use Rattle.fs_unicast.proofs.{Words.{◌≡◌, ◌∙◌, subst, Some, Option, List, is_le, IsStrictlySortedBy, Place, place_cmp, IsLastUpto, find_last}, Gap.{last_is}}
 use Rattle.fs_unicast.proofs.turns.take_last.Goals as goal
 
 -- the keys stayed as they were, since no turn stood at the place

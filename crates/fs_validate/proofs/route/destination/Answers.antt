@@ -1,7 +1,5 @@
 use Rattle.std.proofs.Common.{◌≡◌, sym, ap, ◌∙◌, refl, Option, Some, None, option_map}
-use Rattle.fs_base.specs.declared.prefix.Prefix.{Prefix}
-use Rattle.fs_base.specs.Prefix.{prefix_of}
-use Rattle.fs_base.proofs.SamePrefix.{prefix_again}
+use Rattle.fs_base.{specs.{declared.prefix.Prefix.{Prefix}, Prefix.{prefix_of}}, proofs.SamePrefix.{prefix_again}}
 use Rattle.fs_nlri.specs.Rule.{shown}
 use Rattle.fs_validate.proofs.route.destination.Goals as goal
 

@@ -1,6 +1,5 @@
 use Rattle.std.proofs.Common.{ℕ, ◌<◌, ◌^◌, List, subst, sym, All}
-use Rattle.fs_ops.specs.Operator.{width_of, meant_bits}
-use Rattle.fs_ops.proofs.Normal.{values_fit}
+use Rattle.fs_ops.{specs.Operator.{width_of, meant_bits}, proofs.Normal.{values_fit}}
 use Rattle.fs_words.proofs.operators.print_operators.Goals as goal
 
 pub print_list-requires : goal.print_list-requires

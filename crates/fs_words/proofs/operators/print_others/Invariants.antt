@@ -1,5 +1,4 @@
-use Rattle.fs_words.proofs.Words.{◌≡◌, ◌++◌, drop, flat_map, string_bytes}
-use Rattle.fs_words.specs.Operators.{joined_text}
+use Rattle.fs_words.{proofs.Words.{◌≡◌, ◌++◌, drop, flat_map, string_bytes}, specs.Operators.{joined_text}}
 use Rattle.fs_words.proofs.operators.print_others.Given as goal
 
 -- with what is left, all is there

@@ -1,6 +1,5 @@
-use Rattle.fs_words.proofs.Words.{◌++◌, ℕ, List, ap, ◌∙◌, string_bytes, component_words, family_word, spaced, then_words}
+use Rattle.fs_words.proofs.{Words.{◌++◌, ℕ, List, ap, ◌∙◌, string_bytes, component_words, family_word, spaced, then_words}, Spaces.{on_ok, whole_text}}
 use Rattle.fs_nlri.specs.Parts.{Part}
-use Rattle.fs_words.proofs.Spaces.{on_ok, whole_text}
 use Rattle.fs_words.proofs.printing.print_whole.Goals as goal
 
 pub returns : goal.returns

@@ -1,6 +1,5 @@
 use Rattle.cmd_convert.proofs.Words.{◌≡◌, ◌∙◌, ap, ℕ, List, Option, Some, None, Bool, inl, inr, refl, get_or, replicate}
-use Rattle.std.proofs.lemmas.Bool.{cases_lt}
-use Rattle.std.proofs.lemmas.List.{get_or-replicate, get_or_past, length-replicate}
+use Rattle.std.proofs.lemmas.{Bool.{cases_lt}, List.{get_or-replicate, get_or_past, length-replicate}}
 use Rattle.cmd_convert.proofs.lives.Lives.new.Goals as goal
 
 only : (P : Option Bool → Type 0) → ((wide : Bool) → P (Some wide) → ⊥) → (y : Option Bool) → P y → y ≡ None

@@ -1,5 +1,4 @@
-use Rattle.cmd_convert.proofs.Words.{ap, sym, sends_as, said_from, What, lives_of, made_by, text_at}
-use Rattle.cmd_convert.proofs.Converting.{change_lives}
+use Rattle.cmd_convert.proofs.{Words.{ap, sym, sends_as, said_from, What, lives_of, made_by, text_at}, Converting.{change_lives}}
 use Rattle.cmd_convert.proofs.making.Making.write_heard.Goals as goal
 
 pub returns-in-Change-clause-lives : goal.returns-in-Change-clause-lives

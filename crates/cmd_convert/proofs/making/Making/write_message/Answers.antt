@@ -1,5 +1,4 @@
-use Rattle.cmd_convert.proofs.Words.{◌≡◌, rules, true, false, sends_as, sends_stopped, sends_then, item_text_at, received, Two, has_width, lives_of, is_taken}
-use Rattle.cmd_convert.proofs.Converting.{message_text, sends_from}
+use Rattle.cmd_convert.proofs.{Words.{◌≡◌, rules, true, false, sends_as, sends_stopped, sends_then, item_text_at, received, Two, has_width, lives_of, is_taken}, Converting.{message_text, sends_from}}
 use Rattle.cmd_convert.proofs.making.Making.write_message.Goals as goal
 
 pub returns-in_err-open-clause-sends : goal.returns-in_err-open-clause-sends

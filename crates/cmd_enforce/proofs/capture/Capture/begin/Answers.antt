@@ -1,5 +1,4 @@
-use Rattle.cmd_enforce.proofs.Words.{rules, arith, ◌≤◌, length, sym, ap, ◌∙◌, length-drop, length-take, CaptureState, coming}
-use Rattle.cmd_enforce.proofs.Opened.{begins_as}
+use Rattle.cmd_enforce.proofs.{Words.{rules, arith, ◌≤◌, length, sym, ap, ◌∙◌, length-drop, length-take, CaptureState, coming}, Opened.{begins_as}}
 use Rattle.cmd_enforce.proofs.capture.Capture.begin.Goals as goal
 
 pub put_back-requires-clause-few : goal.put_back-requires-clause-few

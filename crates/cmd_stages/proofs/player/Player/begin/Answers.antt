@@ -1,6 +1,4 @@
-use Rattle.cmd_stages.proofs.Words.{◌≤◌, ℕ, List, arith, length, subst, sym, with_items, with_items_is, longest_payload, IsReady, Stands}
-use Rattle.cmd_stages.proofs.Stages.{match_err}
-use Rattle.cmd_stages.proofs.LookingAhead.{player_with, ready_ahead, slots_then, stands_begun, unbegun, with_room}
+use Rattle.cmd_stages.proofs.{Words.{◌≤◌, ℕ, List, arith, length, subst, sym, with_items, with_items_is, longest_payload, IsReady, Stands}, Stages.{match_err}, LookingAhead.{player_with, ready_ahead, slots_then, stands_begun, unbegun, with_room}}
 use Rattle.cmd_stages.proofs.player.Player.begin.Goals as goal
 
 pub returns-in_err-ahead-clause-begun : goal.returns-in_err-ahead-clause-begun

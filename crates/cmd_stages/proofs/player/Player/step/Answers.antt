@@ -1,5 +1,4 @@
-use Rattle.cmd_stages.proofs.Words.{◌≡◌, ◌∙◌, ℕ, List, ap, arith, subst, sym, with_items, with_items_is, Config, Plays, coming, item_from, Gives, PlayerState}
-use Rattle.cmd_stages.proofs.LookingAhead.{stands_step}
+use Rattle.cmd_stages.proofs.{Words.{◌≡◌, ◌∙◌, ℕ, List, ap, arith, subst, sym, with_items, with_items_is, Config, Plays, coming, item_from, Gives, PlayerState}, LookingAhead.{stands_step}}
 use Rattle.cmd_stages.proofs.player.Player.step.Goals as goal
 
 pub returns-clause-played : goal.returns-clause-played

@@ -1,6 +1,5 @@
-use Rattle.fs_actions.proofs.Words.{◌≡◌, Option, Some, None, List, ℕ, ◌∙◌, ap, subst, length, ◌-◌, last_or, IsAbove}
+use Rattle.fs_actions.proofs.{Words.{◌≡◌, Option, Some, None, List, ℕ, ◌∙◌, ap, subst, length, ◌-◌, last_or, IsAbove}, Behind.{last_is}}
 use Rattle.std.specs.Prelude.{◌↔◌, IsTrue, slice_get}
-use Rattle.fs_actions.proofs.Behind.{last_is}
 use Rattle.fs_actions.proofs.actions.Actions.goes_behind.Goals as goal
 
 pub returns-in-Some : goal.returns-in-Some

@@ -1,5 +1,4 @@
-use Rattle.fs_actions.proofs.Words.{sym, subst, IsActions}
-use Rattle.fs_actions.proofs.Behind.{actions_more}
+use Rattle.fs_actions.proofs.{Words.{sym, subst, IsActions}, Behind.{actions_more}}
 use Rattle.fs_actions.proofs.actions.Actions.push.Goals as goal
 
 pub invariant_of-self-2 : goal.invariant_of-self-2

@@ -1,6 +1,4 @@
-use Rattle.fs_base.specs.Bits.{width_of}
-use Rattle.fs_base.proofs.Blocks.{host_block}
-use Rattle.fs_base.proofs.Covers.{block}
+use Rattle.fs_base.{specs.Bits.{width_of}, proofs.{Blocks.{host_block}, Covers.{block}}}
 use Rattle.fs_base.proofs.prefix.Prefix.lowest.Goals as goal
 
 pub invariant_of-result-clause-clear : goal.invariant_of-result-clause-clear

@@ -1,5 +1,4 @@
-use Rattle.fs_base.proofs.Blocks.{cleared_again}
-use Rattle.fs_base.specs.Bits.{width_of}
+use Rattle.fs_base.{proofs.Blocks.{cleared_again}, specs.Bits.{width_of}}
 use Rattle.fs_base.proofs.prefix.Prefix.of_bits.Goals as goal
 
 pub invariant_of-result-clause-clear : goal.invariant_of-result-clause-clear

@@ -1,5 +1,4 @@
-use Rattle.fs_buckets.proofs.Words.{◌<◌, length, arith, numbers_in}
-use Rattle.fs_buckets.proofs.Stretching.{left_on}
+use Rattle.fs_buckets.proofs.{Words.{◌<◌, length, arith, numbers_in}, Stretching.{left_on}}
 use Rattle.fs_buckets.proofs.buckets.Buckets.passed.Goals as goal
 
 pub returns-else-passes : goal.returns-else-passes

@@ -1,5 +1,4 @@
-use Rattle.fs_buckets.proofs.Words.{length, refl, ap, ◌∙◌, arith, splice}
-use Rattle.fs_buckets.proofs.Resizing.{bounds, resizes, shift_fits}
+use Rattle.fs_buckets.proofs.{Words.{length, refl, ap, ◌∙◌, arith, splice}, Resizing.{bounds, resizes, shift_fits}}
 use Rattle.fs_buckets.proofs.buckets.Buckets.resized.Goals as goal
 
 pub overflow_cast-to : goal.overflow_cast-to

@@ -1,5 +1,4 @@
-use Rattle.fs_buckets.proofs.Words.{ℕ, ap, arith, Node}
-use Rattle.fs_buckets.proofs.Stretching.{stretch_at, stretch_before, stretch_behind, stretch_ordered}
+use Rattle.fs_buckets.proofs.{Words.{ℕ, ap, arith, Node}, Stretching.{stretch_at, stretch_before, stretch_behind, stretch_ordered}}
 use Rattle.fs_buckets.proofs.buckets.Buckets.stretch.Goals as goal
 
 pub returns-clause-ordered : goal.returns-clause-ordered

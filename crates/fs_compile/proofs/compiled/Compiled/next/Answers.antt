@@ -1,5 +1,4 @@
-use Rattle.fs_compile.proofs.Words.{◌≤◌, ◌+◌, length, subst, arith, Family, IsIndexOf}
-use Rattle.fs_compile.proofs.Indexing.{none_behind}
+use Rattle.fs_compile.proofs.{Words.{◌≤◌, ◌+◌, length, subst, arith, Family, IsIndexOf}, Indexing.{none_behind}}
 use Rattle.fs_compile.proofs.compiled.Compiled.next.Goals as goal
 
 pub returns-then-n-len-clause-next : goal.returns-then-n-len-clause-next

@@ -1,5 +1,4 @@
-use Rattle.fs_compile.proofs.Words.{◌≡◌, ℕ, ◌+◌, ◌*◌, List, get_or, sym, ap, subst, ◌∙◌, arith, IsClass, key_of, hits}
-use Rattle.fs_compile.proofs.Sieving.{fewer_rows, port_set}
+use Rattle.fs_compile.proofs.{Words.{◌≡◌, ℕ, ◌+◌, ◌*◌, List, get_or, sym, ap, subst, ◌∙◌, arith, IsClass, key_of, hits}, Sieving.{fewer_rows, port_set}}
 use Rattle.fs_compile.proofs.filters.Filter.scan.Goals as goal
 
 pub scan_rows-requires-clause-rows : goal.scan_rows-requires-clause-rows

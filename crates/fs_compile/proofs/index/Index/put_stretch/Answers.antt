@@ -1,7 +1,4 @@
-use Rattle.fs_compile.proofs.Words.{◌≡◌, ℕ, ◌+◌, ◌-◌, ◌^◌, ◌<◌, ◌≤◌, List, length, sym, ap, ap₂, subst, ◌∙◌, arith, splice, all_admitted, Fast, AreFilters, Indexed, StandForEach, target_of, AreSound, sound_more, map_spliced, spliced_size}
-use Rattle.fs_compile.proofs.Indexing.{stand_size}
-use Rattle.fs_compile.proofs.IndexMending.{has_stretch, index_spliced}
-use Rattle.fs_compile.proofs.IndexMending.{stand_spliced}
+use Rattle.fs_compile.proofs.{Words.{◌≡◌, ℕ, ◌+◌, ◌-◌, ◌^◌, ◌<◌, ◌≤◌, List, length, sym, ap, ap₂, subst, ◌∙◌, arith, splice, all_admitted, Fast, AreFilters, Indexed, StandForEach, target_of, AreSound, sound_more, map_spliced, spliced_size}, Indexing.{stand_size}, IndexMending.{has_stretch, index_spliced, stand_spliced}}
 use Rattle.fs_compile.proofs.index.Index.put_stretch.Goals as goal
 
 -- how many rules there are
@@ -33,8 +30,8 @@ mended-requires-clause-homes c = λ some. subst (λ (x : Indexed). c.args.to ≤
 pub mended-requires-clause-some : goal.mended-requires-clause-some
 mended-requires-clause-some c = (
   c.requires.some.0,
-  has_stretch c.args.family c.requires.some.0 (record { buckets = c.self.inside.buckets; rules = c.self.inside.rules.items; actions = c.self.inside.actions.items }) c.args.self
-      (target_of c.args.destination) c.args.from c.args.to c.self.view_is c.self.invariant.0.few c.requires.some.1 c.requires.some.2,
+  has_stretch c.args.place.family c.requires.some.0 (record { buckets = c.self.inside.buckets; rules = c.self.inside.rules.items; actions = c.self.inside.actions.items }) c.args.self
+      (target_of c.args.place.destination) c.args.from c.args.to c.self.view_is c.self.invariant.0.few c.requires.some.1 c.requires.some.2,
 )
 
 pub invariant_of-result : goal.invariant_of-result
@@ -54,17 +51,17 @@ invariant_of-result c = (subst (AreSound c.in_ok-buckets.buckets) (sym (size ∙
 
   sound : AreSound c.in_ok-buckets.buckets (c.args.from + length c.args.list.now + (length c.requires.some.0 - c.args.to))
   sound = (c.in_ok-buckets.ensures c.requires.some.0
-      (has_stretch c.args.family c.requires.some.0 (record { buckets = c.self.inside.buckets; rules = c.self.inside.rules.items; actions = c.self.inside.actions.items }) c.args.self
-      (target_of c.args.destination) c.args.from c.args.to c.self.view_is c.self.invariant.0.few c.requires.some.1 c.requires.some.2)).sound
+      (has_stretch c.args.place.family c.requires.some.0 (record { buckets = c.self.inside.buckets; rules = c.self.inside.rules.items; actions = c.self.inside.actions.items }) c.args.self
+      (target_of c.args.place.destination) c.args.from c.args.to c.self.view_is c.self.invariant.0.few c.requires.some.1 c.requires.some.2)).sound
 
 pub returns : goal.returns
 returns c = λ rules h s.
-    index_spliced c.args.family rules (all_admitted c.args.list.now) c.args.from c.args.to (record { buckets = c.in_ok-buckets.buckets; rules = c.put_between-2.new.items.items; actions = c.put_between.new.items.items }) h.each c.requires.each
+    index_spliced c.args.place.family rules (all_admitted c.args.list.now) c.args.from c.args.to (record { buckets = c.in_ok-buckets.buckets; rules = c.put_between-2.new.items.items; actions = c.put_between.new.items.items }) h.each c.requires.each
     (subst (StandForEach (splice rules c.args.from c.args.to (all_admitted c.args.list.now))) (sym c.in_ok-put_between-2.ensures)
     (stand_spliced rules (all_admitted c.args.list.now) c.self.inside.rules.items c.in_ok-compiled_rules.field-0.items c.args.from c.args.to
     (subst (λ (x : Indexed). StandForEach rules x.rules) (sym c.self.view_is) h.stands) c.in_ok-compiled_rules.ensures.stand))
     (c.in_ok-put_between.ensures ∙ ap₂ (λ xs ys. splice xs c.args.from c.args.to ys) (ap (λ (x : Indexed). x.actions) c.self.view_is ∙ h.actions_are) c.in_ok-shared_actions.ensures
     ∙ sym (map_spliced (λ r. r.actions) rules (all_admitted c.args.list.now) c.args.from c.args.to))
     ((c.in_ok-buckets.ensures rules
-    (has_stretch c.args.family rules (record { buckets = c.self.inside.buckets; rules = c.self.inside.rules.items; actions = c.self.inside.actions.items }) c.args.self (target_of c.args.destination) c.args.from c.args.to c.self.view_is
+    (has_stretch c.args.place.family rules (record { buckets = c.self.inside.buckets; rules = c.self.inside.rules.items; actions = c.self.inside.actions.items }) c.args.self (target_of c.args.place.destination) c.args.from c.args.to c.self.view_is
     c.self.invariant.0.few h s)).housed)

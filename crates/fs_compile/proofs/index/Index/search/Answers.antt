@@ -1,5 +1,4 @@
-use Rattle.fs_compile.proofs.Words.{subst, sym, Indexed, IsIndexOf, hit_number}
-use Rattle.fs_compile.proofs.Indexing.{search_is, steps_are}
+use Rattle.fs_compile.proofs.{Words.{subst, sym, Indexed, IsIndexOf, hit_number}, Indexing.{search_is, steps_are}}
 use Rattle.fs_compile.proofs.index.Index.search.Goals as goal
 
 pub returns-then-is_empty-clause-found : goal.returns-then-is_empty-clause-found

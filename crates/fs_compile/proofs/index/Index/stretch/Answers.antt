@@ -1,5 +1,4 @@
-use Rattle.fs_compile.proofs.Words.{◌≡◌, ℕ, Option, Some, None, length, sym, ap, subst, ◌∙◌, arith, IsIndexOf, spans_of, IsStretch, target_of, rules_size, stretch_none, stretch_some}
-use Rattle.fs_compile.proofs.Indexing.{stand_size}
+use Rattle.fs_compile.proofs.{Words.{◌≡◌, ℕ, Option, Some, None, length, sym, ap, subst, ◌∙◌, arith, IsIndexOf, spans_of, IsStretch, target_of, rules_size, stretch_none, stretch_some}, Indexing.{stand_size}}
 use Rattle.fs_compile.proofs.index.Index.stretch.Goals as goal
 
 pub returns-in-Some-clause-stretch : goal.returns-in-Some-clause-stretch

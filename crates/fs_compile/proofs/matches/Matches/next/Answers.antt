@@ -1,7 +1,5 @@
 use Rattle.std.proofs.Common.{◌<◌, ◌≤◌, Some, None, length, subst, sym}
-use Rattle.fs_compile.specs.Matches.{AreMatchesOf, Matching}
-use Rattle.fs_compile.proofs.Indexing.{no_more_steps}
-use Rattle.fs_compile.proofs.Walking.{next_inside}
+use Rattle.fs_compile.{specs.Matches.{AreMatchesOf, Matching}, proofs.{Indexing.{no_more_steps}, Walking.{next_inside}}}
 use Rattle.fs_compile.proofs.matches.Matches.next.Goals as goal
 
 pub returns-clause-inside : goal.returns-clause-inside

@@ -1,6 +1,5 @@
-use Rattle.std.proofs.Common.{sym, ◌∙◌}
-use Rattle.fs_desk.proofs.TableChanges.{lost_to}
-use Rattle.fs_desk.proofs.Played.{desk_lost}
+use Rattle.std.proofs.Common.{sym}
+use Rattle.fs_desk.proofs.{TableChanges.{lost_to}, Played.{desk_lost}}
 use Rattle.fs_desk.proofs.desk.Desk.lost.Goals as goal
 
 pub returns-clause-played : goal.returns-clause-played

@@ -1,5 +1,4 @@
-use Rattle.fs_desk.proofs.Words.{ap, sym, subst, ◌∙◌, Held, Desked, Leaves}
-use Rattle.fs_desk.proofs.Leaves.{played_leaves}
+use Rattle.fs_desk.proofs.{Words.{ap, sym, subst, ◌∙◌, Held, Desked, Leaves}, Leaves.{played_leaves}}
 use Rattle.fs_desk.proofs.desk.Desk.table.Goals as goal
 
 pub returns-clause-left : goal.returns-clause-left

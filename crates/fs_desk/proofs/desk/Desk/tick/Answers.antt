@@ -1,6 +1,4 @@
-use Rattle.fs_desk.proofs.Words.{BTreeMap, Live, ap, ℕ, sym, ◌∙◌}
-use Rattle.fs_desk.proofs.Played.{desk_stays}
-use Rattle.fs_desk.proofs.Ticking.{desk_expires, desk_keeps_standing, desk_ticked, desk_ticks, desk_rests}
+use Rattle.fs_desk.proofs.{Words.{BTreeMap, Live, ap, ℕ, sym}, Played.{desk_stays}, Ticking.{desk_ticked, desk_ticks, desk_rests, ticks_expire}}
 use Rattle.fs_desk.proofs.desk.Desk.tick.Goals as goal
 
 pub returns-clause-ticked : goal.returns-clause-ticked
@@ -30,14 +28,7 @@ returns-in_default-clause-played c = λ stays config items played.
     (ap (λ (m : BTreeMap ℕ Live). m.entries) c.get_mut.follows.holds-at-none) played
 
 pub returns-clause-expired : goal.returns-clause-expired
-returns-clause-expired c =
-    desk_expires c.self.inside.table.changes c.tick_session.new.table.changes c.args.peer c.args.moment c.in-Some.session.now c.tick_session.new.session c.self.inside.config.now c.self.inside.table.held c.tick_session.new.table.held
-    c.self.inside.sessions.entries _ c.args.self.now c.args.replies.now.items c.tick_session.new.replies.items (sym c.self.view_is) (sym c.in-Some.ensures.value)
-    c.in_ok-tick_session.ensures.ticked
-    (c.get_mut.follows.holds c.tick_session.new.session).0
+returns-clause-expired c = ticks_expire c.args.peer c.args.moment c.args.self.now _ c.args.replies.now.items c.tick_session.new.replies.items (returns-clause-ticked c)
 
 pub returns-in_default-clause-expired : goal.returns-in_default-clause-expired
-returns-in_default-clause-expired c =
-    desk_keeps_standing c.args.peer c.self.inside.config.now c.self.inside.table.held c.self.inside.sessions.entries _ c.args.self.now
-    (sym c.self.view_is)
-    (ap (λ (m : BTreeMap ℕ Live). m.entries) c.get_mut.follows.holds-at-none)
+returns-in_default-clause-expired c = ticks_expire c.args.peer c.args.moment c.args.self.now _ c.args.replies.now.items c.args.replies.now.items (returns-in_default-clause-ticked c)

@@ -1,5 +1,4 @@
-use Rattle.fs_desk.proofs.Words.{Result, Ok, Err, OnErr, ap, sym, ◌∙◌, Desked}
-use Rattle.fs_desk.proofs.Played.{desk_begun, desk_up, desk_stays}
+use Rattle.fs_desk.proofs.{Words.{Result, Ok, Err, OnErr, ap, sym, ◌∙◌, Desked}, Played.{desk_begun, desk_up, desk_stays}}
 use Rattle.fs_desk.proofs.desk.Desk.up.Goals as goal
 
 on_err : {T E P : Type 0} (result : Result T E) → P → OnErr result P

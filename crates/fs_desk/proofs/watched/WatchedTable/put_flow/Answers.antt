@@ -1,6 +1,4 @@
-use Rattle.fs_desk.proofs.Words.{ap, ◌∙◌, is_to}
-use Rattle.fs_desk.proofs.ChangesJoined.{on_ok}
-use Rattle.fs_desk.proofs.Telling.{tells_place, watched_of}
+use Rattle.fs_desk.proofs.{Words.{ap, ◌∙◌, is_to}, ChangesJoined.{on_ok}, Telling.{tells_place, watched_of}}
 use Rattle.fs_desk.proofs.watched.WatchedTable.put_flow.Goals as goal
 
 pub returns-clause-told : goal.returns-clause-told

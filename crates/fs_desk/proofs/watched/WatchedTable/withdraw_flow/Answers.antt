@@ -1,5 +1,4 @@
-use Rattle.fs_desk.proofs.Words.{refl, sym, ◌∙◌, is_to}
-use Rattle.fs_desk.proofs.Telling.{tells_place, tells_same, without_nothing}
+use Rattle.fs_desk.proofs.{Words.{refl, sym, ◌∙◌, is_to}, Telling.{tells_place, tells_same, without_nothing}}
 use Rattle.fs_desk.proofs.watched.WatchedTable.withdraw_flow.Goals as goal
 
 pub returns-then-withdraw_flow-clause-told : goal.returns-then-withdraw_flow-clause-told

@@ -1,6 +1,5 @@
 use Rattle.fs_flows.proofs.Words.{◌≡◌, ◌∙◌, refl, sym, Decides-eqb}
-use Rattle.std.proofs.lemmas.Slice.Eq.{slice_eq-Decides}
-use Rattle.std.specs.Bool.{Decides}
+use Rattle.std.{proofs.lemmas.Slice.Eq.{slice_eq-Decides}, specs.Bool.{Decides}}
 use Rattle.fs_flows.proofs.actions.SharedActions.are.Goals as goal
 
 pub returns : goal.returns

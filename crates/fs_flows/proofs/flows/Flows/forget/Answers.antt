@@ -1,6 +1,4 @@
-use Rattle.fs_flows.proofs.Words.{List, ◌≡◌, false, not, ◌==◌, sym, subst, AllByRecursion, Prefix, V4, V6, IsAmong, is_of_other}
-use Rattle.fs_flows.proofs.Along.{listed_others, among_taken}
-use Rattle.fs_flows.proofs.BothFamilies.{filtered}
+use Rattle.fs_flows.proofs.{Words.{List, ◌≡◌, false, not, ◌==◌, sym, subst, AllByRecursion, Prefix, V4, V6, IsAmong, is_of_other}, Along.{listed_others, among_taken}, BothFamilies.{filtered}}
 use Rattle.fs_flows.proofs.flows.Flows.forget.Goals as goal
 
 -- Few destinations are listed.

@@ -1,6 +1,4 @@
-use Rattle.fs_flows.proofs.Words.{◌++◌, subst, V4, V6, MendsKept}
-use Rattle.fs_flows.proofs.Along.{listed_mended}
-use Rattle.fs_flows.proofs.BothFamilies.{mended_now, mends_families, rules_each}
+use Rattle.fs_flows.proofs.{Words.{◌++◌, subst, V4, V6, MendsKept}, Along.{listed_mended}, BothFamilies.{mended_now, mends_families, rules_each}}
 use Rattle.fs_flows.proofs.flows.Flows.mend.Goals as goal
 
 pub invariant_of-self : goal.invariant_of-self

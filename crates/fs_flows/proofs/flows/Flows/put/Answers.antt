@@ -1,7 +1,4 @@
-use Rattle.fs_flows.proofs.Words.{Bool, not, ◌++◌, sym, ap, ◌∙◌, V4, V6, IsSound, has_key, put_kept, IsListed}
-use Rattle.fs_flows.proofs.Along.{listed_still}
-use Rattle.fs_flows.proofs.Apart.{ok_weaker, ok_along}
-use Rattle.fs_flows.proofs.BothFamilies.{rules_each, each_now, put_first, put_second, held_first, held_second, sorted_first, sorted_second}
+use Rattle.fs_flows.proofs.{Words.{Bool, not, ◌++◌, sym, ap, ◌∙◌, V4, V6, IsSound, has_key, put_kept, IsListed}, Along.{listed_still}, Apart.{ok_weaker, ok_along}, BothFamilies.{rules_each, each_now, put_first, put_second, held_first, held_second, sorted_first, sorted_second}}
 use Rattle.fs_flows.proofs.flows.Flows.put.Goals as goal
 
 pub put-requires-clause-sorted : goal.put-requires-clause-sorted

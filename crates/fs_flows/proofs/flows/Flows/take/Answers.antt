@@ -1,6 +1,4 @@
-use Rattle.fs_flows.proofs.Words.{◌++◌, sym, ap, ◌∙◌, filter, list_any, V4, V6, is_key, is_other_key}
-use Rattle.fs_flows.proofs.Along.{listed_left}
-use Rattle.fs_flows.proofs.BothFamilies.{rules_each, rules_of, filtered, take_first, take_second, held_first, held_second, sorted_first, sorted_second}
+use Rattle.fs_flows.proofs.{Words.{◌++◌, sym, ap, ◌∙◌, filter, list_any, V4, V6, is_key, is_other_key}, Along.{listed_left}, BothFamilies.{rules_each, rules_of, filtered, take_first, take_second, held_first, held_second, sorted_first, sorted_second}}
 use Rattle.fs_flows.proofs.flows.Flows.take.Goals as goal
 
 pub take-requires-clause-sorted : goal.take-requires-clause-sorted

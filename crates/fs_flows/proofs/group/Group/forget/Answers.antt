@@ -1,6 +1,4 @@
-use Rattle.fs_flows.proofs.Words.{sym, ap, subst, ◌∙◌, filter, flat, IsCut, routes_in, AreWell, the_invariant, the_view, is_of_other}
-use Rattle.fs_flows.proofs.Cutting.{flat_kept, cut_kept}
-use Rattle.fs_flows.proofs.group.Group.forget.Goals.{in-One, in-Many}
+use Rattle.fs_flows.proofs.{Words.{sym, ap, subst, ◌∙◌, filter, flat, IsCut, routes_in, AreWell, the_invariant, the_view, is_of_other}, Cutting.{flat_kept, cut_kept}, group.Group.forget.Goals.{in-One, in-Many}}
 use Rattle.fs_flows.proofs.group.Group.forget.Goals as goal
 
 pub invariant_of-self : goal.invariant_of-self

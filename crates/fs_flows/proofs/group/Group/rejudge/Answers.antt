@@ -1,7 +1,4 @@
-use Rattle.fs_flows.proofs.Words.{◌≡◌, ◌↔◌, false, refl, sym, ap, subst, ◌∙◌, map, AllByRecursion, AreJudged, rejudged, flat, IsCut, routes_in, AreWell, the_invariant, the_view}
-use Rattle.fs_flows.proofs.Cutting.{flat_map, cut_map, each_flat, flat_each, written}
-use Rattle.fs_flows.proofs.Mending.{told_as}
-use Rattle.fs_flows.proofs.group.Group.rejudge.Goals.{in-One, in-Many}
+use Rattle.fs_flows.proofs.{Words.{◌≡◌, ◌↔◌, false, refl, sym, ap, subst, ◌∙◌, map, AllByRecursion, AreJudged, rejudged, flat, IsCut, routes_in, AreWell, the_invariant, the_view}, Cutting.{flat_map, cut_map, each_flat, flat_each, written}, Mending.{told_as}, group.Group.rejudge.Goals.{in-One, in-Many}}
 use Rattle.fs_flows.proofs.group.Group.rejudge.Goals as goal
 
 pub invariant_of-self : goal.invariant_of-self

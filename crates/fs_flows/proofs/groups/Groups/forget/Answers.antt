@@ -1,6 +1,4 @@
-use Rattle.fs_flows.proofs.Words.{ap, sym, subst, ◌∙◌, ◌≤◌, filter, AreNoShorter, is_of_other}
-use Rattle.fs_flows.proofs.Grouping.{grouped_kept, kept_left}
-use Rattle.fs_flows.proofs.TakingFromGroups.{each_left}
+use Rattle.fs_flows.proofs.{Words.{ap, sym, subst, ◌∙◌, ◌≤◌, filter, AreNoShorter, is_of_other}, Grouping.{grouped_kept, kept_left}, TakingFromGroups.{each_left}}
 use Rattle.fs_flows.proofs.groups.Groups.forget.Goals as goal
 
 pub invariant_of-self : goal.invariant_of-self

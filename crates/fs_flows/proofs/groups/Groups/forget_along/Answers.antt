@@ -1,5 +1,4 @@
-use Rattle.fs_flows.proofs.Words.{ap, sym, subst, ◌∙◌, ◌≡◌, ◌≤◌, false, not, ◌==◌, filter, AllByRecursion, AreNoShorter, IsAmong, is_of_other}
-use Rattle.fs_flows.proofs.Along.{along_keys, grouped_along, kept_along}
+use Rattle.fs_flows.proofs.{Words.{ap, sym, subst, ◌∙◌, ◌≡◌, ◌≤◌, false, not, ◌==◌, filter, AllByRecursion, AreNoShorter, IsAmong, is_of_other}, Along.{along_keys, grouped_along, kept_along}}
 use Rattle.fs_flows.proofs.groups.Groups.forget_along.Goals as goal
 
 pub invariant_of-self : goal.invariant_of-self

@@ -1,6 +1,4 @@
-use Rattle.fs_flows.proofs.Words.{◌≤◌, sym, subst, AllByRecursion, is_related, kept_in, MendsKept}
-use Rattle.fs_flows.proofs.Grouping.{grouped_mended, mends_kept}
-use Rattle.fs_flows.proofs.Mending.{mends_keys}
+use Rattle.fs_flows.proofs.{Words.{◌≤◌, sym, subst, AllByRecursion, is_related, kept_in, MendsKept}, Grouping.{grouped_mended, mends_kept}, Mending.{mends_keys}}
 use Rattle.fs_flows.proofs.groups.Groups.mend.Goals as goal
 
 pub invariant_of-self : goal.invariant_of-self

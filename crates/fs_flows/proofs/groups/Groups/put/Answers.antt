@@ -1,8 +1,4 @@
-use Rattle.fs_flows.proofs.Words.{ℕ, rules, not, ◌≡◌, ◌≤◌, ◌+◌, refl, sym, ap, subst, ◌∙◌, arith, AllByRecursion, AreSorted, routes_of, put_kept, has_key, IsSound, kept_in, AreNoShorter}
-use Rattle.fs_flows.proofs.PuttingInGroups.{sorted_groups, sorted_rest, put_entries, put_rest, each_entry}
-use Rattle.fs_flows.proofs.Grouping.{grouped_put, grouped_rest}
-use Rattle.fs_flows.proofs.BothFamilies.{rules_of}
-use Rattle.fs_flows.proofs.TakingFromGroups.{taken_held, held_rest, turned}
+use Rattle.fs_flows.proofs.{Words.{ℕ, rules, not, ◌≡◌, ◌≤◌, ◌+◌, refl, sym, ap, subst, ◌∙◌, arith, AllByRecursion, AreSorted, routes_of, put_kept, has_key, IsSound, kept_in, AreNoShorter}, PuttingInGroups.{sorted_groups, sorted_rest, put_entries, put_rest, each_entry}, Grouping.{grouped_put, grouped_rest}, BothFamilies.{rules_of}, TakingFromGroups.{taken_held, held_rest, turned}}
 use Rattle.fs_flows.proofs.groups.Groups.put.Goals as goal
 
 pub put_at-requires : goal.put_at-requires

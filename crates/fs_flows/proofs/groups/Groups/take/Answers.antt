@@ -1,7 +1,4 @@
-use Rattle.fs_flows.proofs.Words.{sym, ap, subst, ◌∙◌, ◌≤◌, filter, list_any, is_key, kept_in, AreNoShorter, AreSorted, routes_of, is_other_key, HaveRules}
-use Rattle.fs_flows.proofs.TakingFromGroups.{taken_kept, taken_held, taken_rest, held_rest, each_at}
-use Rattle.fs_flows.proofs.PuttingInGroups.{sorted_groups, sorted_rest}
-use Rattle.fs_flows.proofs.Grouping.{grouped_taken, grouped_taken_rest}
+use Rattle.fs_flows.proofs.{Words.{sym, ap, subst, ◌∙◌, ◌≤◌, filter, list_any, is_key, kept_in, AreNoShorter, AreSorted, routes_of, is_other_key, HaveRules}, TakingFromGroups.{taken_kept, taken_held, taken_rest, held_rest, each_at}, PuttingInGroups.{sorted_groups, sorted_rest}, Grouping.{grouped_taken, grouped_taken_rest}}
 use Rattle.fs_flows.proofs.groups.Groups.take.Goals as goal
 
 pub invariant_of-self : goal.invariant_of-self

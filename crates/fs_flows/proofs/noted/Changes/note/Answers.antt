@@ -1,5 +1,4 @@
-use Rattle.fs_flows.proofs.Words.{subst, sym, [], ◌∷◌, AllByRecursion, each_append, IsOwn}
-use Rattle.fs_flows.proofs.Noting.{covers_more, noted_more, stays_more}
+use Rattle.fs_flows.proofs.{Words.{subst, sym, [], ◌∷◌, AllByRecursion, each_append, IsOwn}, Noting.{covers_more, noted_more, stays_more}}
 use Rattle.fs_flows.proofs.noted.Changes.note.Goals as goal
 
 pub returns-then-len-capacity-clause-covers : goal.returns-then-len-capacity-clause-covers

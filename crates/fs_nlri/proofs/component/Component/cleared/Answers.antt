@@ -1,6 +1,5 @@
-use Rattle.fs_nlri.proofs.Words.{◌≡◌, Bool, true, sym, subst, ◌∙◌, form_of, Part, part_of, IsNormalAt, IsTyped, part_given}
+use Rattle.fs_nlri.proofs.{Words.{◌≡◌, Bool, true, sym, subst, ◌∙◌, form_of, Part, part_of, IsNormalAt, IsTyped, part_given}, Made.{normal_at}}
 use Rattle.std.specs.Bool.{OnTrue}
-use Rattle.fs_nlri.proofs.Made.{normal_at}
 use Rattle.fs_nlri.proofs.component.Component.cleared.Goals as goal
 
 pub returns-clause-normal : goal.returns-clause-normal

@@ -1,5 +1,4 @@
-use Rattle.fs_nlri.proofs.Words.{subst, parts_of, Ruled, ruled, AreSound}
-use Rattle.fs_nlri.proofs.Sound.{rule_sound}
+use Rattle.fs_nlri.proofs.{Words.{subst, parts_of, Ruled, ruled, AreSound}, Sound.{rule_sound}}
 use Rattle.fs_nlri.proofs.rule.Rule.components.Goals as goal
 
 pub returns-clause-sound : goal.returns-clause-sound

@@ -1,5 +1,4 @@
-use Rattle.fs_nlri.proofs.Words.{List, ap, sym, ◌∙◌, slice_get, Component, Ruled, destination_of}
-use Rattle.fs_nlri.proofs.Destination.{first_part}
+use Rattle.fs_nlri.proofs.{Words.{List, ap, sym, ◌∙◌, slice_get, Component, Ruled, destination_of}, Destination.{first_part}}
 use Rattle.fs_nlri.proofs.rule.Rule.destination.Goals as goal
 
 pub returns-in-Some-clause-shown : goal.returns-in-Some-clause-shown

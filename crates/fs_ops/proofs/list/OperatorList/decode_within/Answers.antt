@@ -1,5 +1,4 @@
-use Rattle.fs_ops.proofs.Words.{take, arith, subst, octets_from, octets_take, Kind, IsNormal}
-use Rattle.fs_ops.proofs.Normal.{spelled_normal}
+use Rattle.fs_ops.proofs.{Words.{take, arith, subst, octets_from, octets_take, Kind, IsNormal}, Normal.{spelled_normal}}
 use Rattle.fs_ops.proofs.list.OperatorList.decode_within.Goals as goal
 
 pub new-requires : goal.new-requires

@@ -1,5 +1,4 @@
-use Rattle.fs_ops.proofs.Words.{◌<◌, ◌^◌, List, ℕ, All, sym, subst, meant_bits, width_of}
-use Rattle.fs_ops.proofs.Normal.{values_fit}
+use Rattle.fs_ops.proofs.{Words.{◌<◌, ◌^◌, List, ℕ, All, sym, subst, meant_bits, width_of}, Normal.{values_fit}}
 use Rattle.fs_ops.proofs.list.OperatorList.encode.Goals as goal
 
 pub write-requires : goal.write-requires

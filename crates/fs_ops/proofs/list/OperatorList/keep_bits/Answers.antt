@@ -1,5 +1,4 @@
-use Rattle.fs_ops.proofs.Words.{sym, subst, IsNormal}
-use Rattle.fs_ops.proofs.Normal.{kept_is_normal}
+use Rattle.fs_ops.proofs.{Words.{sym, subst, IsNormal}, Normal.{kept_is_normal}}
 use Rattle.fs_ops.proofs.list.OperatorList.keep_bits.Goals as goal
 
 pub invariant_of-self : goal.invariant_of-self

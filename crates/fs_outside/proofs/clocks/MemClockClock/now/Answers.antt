@@ -1,6 +1,5 @@
 use Rattle.std.proofs.Common.{rules, ◌≡◌, ◌+◌, ◌-◌, ◌^◌, min}
-use Rattle.fs_outside.specs.Moments.{answer_at, mem_clock_calls, mem_clock_moments}
-use Rattle.fs_outside.proofs.Answering.{told_more}
+use Rattle.fs_outside.{specs.Moments.{answer_at, mem_clock_calls, mem_clock_moments}, proofs.Answering.{told_more}}
 use Rattle.fs_outside.proofs.clocks.MemClockClock.now.Goals as goal
 
 pub returns-clause-answered : goal.returns-clause-answered

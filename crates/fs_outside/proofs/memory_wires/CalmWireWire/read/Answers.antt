@@ -1,8 +1,5 @@
 use Rattle.std.proofs.Common.{arith, Ok}
-use Rattle.fs_outside.specs.declared.files.Failed.{Failed}
-use Rattle.fs_outside.specs.Wire.{EndReads}
-use Rattle.fs_outside.specs.MemoryWires.{ends_of}
-use Rattle.fs_outside.proofs.Telling.{takes_some, told_kept}
+use Rattle.fs_outside.{specs.{declared.files.Failed.{Failed}, Wire.{EndReads}, MemoryWires.{ends_of}}, proofs.Telling.{takes_some, told_kept}}
 use Rattle.fs_outside.proofs.memory_wires.CalmWireWire.read.Goals as goal
 
 pub returns-clause-reads : goal.returns-clause-reads

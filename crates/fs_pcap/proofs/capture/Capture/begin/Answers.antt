@@ -1,4 +1,4 @@
-use Rattle.fs_pcap.proofs.Words.{rules, arith, ◌≡◌, Ok, Err, [], none_back, opens_not, opens_so, IsFrontWithin, opened_answer, header_of, CaptureState, Cut, Heading}
+use Rattle.fs_pcap.proofs.Words.{rules, arith, ◌≡◌, Ok, Err, none_back, opens_not, opens_so, IsFrontWithin, opened_answer, header_of, CaptureState, Cut, Heading}
 use Rattle.fs_pcap.proofs.capture.Capture.begin.Goals as goal
 
 pub returns-in-Err-clause-opens : goal.returns-in-Err-clause-opens

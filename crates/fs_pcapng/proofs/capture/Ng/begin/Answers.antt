@@ -1,5 +1,4 @@
-use Rattle.fs_pcapng.specs.Pcapng.{NgState, coming}
-use Rattle.fs_pcapng.proofs.Opening.{opens, opens_not, opens_others}
+use Rattle.fs_pcapng.{specs.Pcapng.{NgState, coming}, proofs.Opening.{opens, opens_not, opens_others}}
 use Rattle.fs_pcapng.proofs.capture.Ng.begin.Goals as goal
 
 pub returns-in-Ok-clause-begins : goal.returns-in-Ok-clause-begins

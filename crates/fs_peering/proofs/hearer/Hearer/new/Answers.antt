@@ -1,5 +1,4 @@
-use Rattle.fs_peering.proofs.Words.{Config, begins, refl, ap, ◌∙◌}
-use Rattle.fs_peering.proofs.Receiving.{open_new, receives_none}
+use Rattle.fs_peering.proofs.{Words.{Config, begins, refl, ap, ◌∙◌}, Receiving.{open_new, receives_none}}
 use Rattle.fs_peering.proofs.hearer.Hearer.new.Goals as goal
 
 pub returns-clause-fresh : goal.returns-clause-fresh

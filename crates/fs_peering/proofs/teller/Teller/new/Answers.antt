@@ -1,5 +1,4 @@
-use Rattle.fs_peering.proofs.Words.{sender_of}
-use Rattle.fs_peering.proofs.Hearing.{starts_open}
+use Rattle.fs_peering.proofs.{Words.{sender_of}, Hearing.{starts_open}}
 use Rattle.fs_peering.proofs.teller.Teller.new.Goals as goal
 
 pub returns-clause-open : goal.returns-clause-open

@@ -1,8 +1,4 @@
-use Rattle.fs_peering.proofs.Words.{SaysText, next_text, rules, Bool, subst, SaysUpTo}
-use Rattle.fs_peering.proofs.Ahead.{if_if, if_on, says_all}
-use Rattle.fs_peering.proofs.Hearing.{says_same}
-use Rattle.fs_peering.proofs.Sending.{next_on, opens_on}
-use Rattle.fs_peering.proofs.Settled.{settled_up}
+use Rattle.fs_peering.proofs.{Words.{SaysText, next_text, rules, Bool, subst, SaysUpTo}, Ahead.{if_if, if_on, says_all}, Hearing.{says_same}, Sending.{next_on, opens_on}, Settled.{settled_up}}
 use Rattle.fs_peering.proofs.teller.TellerSpeaker.next.Goals as goal
 
 pub returns-clause-says : goal.returns-clause-says

@@ -3,11 +3,7 @@ use Rattle.fs_ranges.proofs.facts.Facts.of.Goals as goal
 
 pub returns : goal.returns
 returns c = record {
-  family = refl;
-  destination = refl;
-  source = refl;
-  tcp_octets = refl;
-  fragment = refl;
+  same = refl;
   numbers = λ i.
       0
       ∷ (c.address_number.ensures.value ∙ ap address_number c.requires.value) i

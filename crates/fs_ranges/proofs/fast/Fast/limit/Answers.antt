@@ -1,6 +1,4 @@
-use Rattle.fs_ranges.proofs.Words.{◌≡◌, ℕ, true, List, sym, subst, list_all, Test, key_of, passes}
-use Rattle.fs_ranges.specs.Limits.{allows}
-use Rattle.fs_ranges.proofs.Placing.{tests_held}
+use Rattle.fs_ranges.{proofs.{Words.{◌≡◌, ℕ, true, List, sym, subst, list_all, Test, key_of, passes}, Placing.{tests_held}}, specs.Limits.{allows}}
 use Rattle.fs_ranges.proofs.fast.Fast.limit.Goals as goal
 
 pub returns-then-field-eq-FRONT : goal.returns-then-field-eq-FRONT

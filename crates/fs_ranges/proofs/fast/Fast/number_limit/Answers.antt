@@ -1,5 +1,4 @@
-use Rattle.fs_ranges.proofs.Words.{◌≡◌, true, List, sym, subst, list_all, Test, passes}
-use Rattle.fs_ranges.proofs.Placing.{ranges_held, tests_held}
+use Rattle.fs_ranges.proofs.{Words.{◌≡◌, true, List, sym, subst, list_all, Test, passes}, Placing.{ranges_held, tests_held}}
 use Rattle.fs_ranges.proofs.fast.Fast.number_limit.Goals as goal
 
 pub returns-in-Any : goal.returns-in-Any

@@ -1,5 +1,4 @@
-use Rattle.fs_ranges.proofs.Words.{◌≡◌, true, List, sym, subst, list_all, Test, passes}
-use Rattle.fs_ranges.proofs.Placing.{tests_held}
+use Rattle.fs_ranges.proofs.{Words.{◌≡◌, true, List, sym, subst, list_all, Test, passes}, Placing.{tests_held}}
 use Rattle.fs_ranges.proofs.fast.Fast.ports_limit.Goals as goal
 
 pub returns : goal.returns

@@ -1,5 +1,4 @@
-use Rattle.fs_ranges.proofs.Words.{◌≡◌, true, sym, ap, subst, ◌∙◌, All, compares, holds, are_singles, AreApart, IsRange, contains}
-use Rattle.fs_ranges.proofs.Numbering.{singles_apart, singles_same}
+use Rattle.fs_ranges.proofs.{Words.{◌≡◌, true, sym, ap, subst, ◌∙◌, All, compares, holds, are_singles, AreApart, IsRange, contains}, Numbering.{singles_apart, singles_same}}
 use Rattle.fs_ranges.proofs.spans.Spans.of.Goals as goal
 
 pub invariant_of-result : goal.invariant_of-result

@@ -1,5 +1,4 @@
-use Rattle.fs_ranges.proofs.Words.{◌∙◌, subst, AreApart}
-use Rattle.fs_ranges.proofs.Enclosing.{all_within, decides}
+use Rattle.fs_ranges.proofs.{Words.{◌∙◌, subst, AreApart}, Enclosing.{all_within, decides}}
 use Rattle.fs_ranges.proofs.spans.Spans.within.Goals as goal
 
 pub returns : goal.returns

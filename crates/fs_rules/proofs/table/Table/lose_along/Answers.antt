@@ -1,8 +1,4 @@
-use Rattle.fs_rules.proofs.Words.{◌≡◌, ◌+◌, sym, ap, subst, ◌∙◌, List, [], ◌∷◌, drop, arith, IsStrictlySortedBy, keys_of, drop_all, Prefix, place_total, place_cmp, AreAmong, Held}
-use Rattle.fs_rules.proofs.Entries.{sorted-remove_entry}
-use Rattle.fs_rules.proofs.Losing.{is_place, losing_starts, losing_ends}
-use Rattle.fs_rules.proofs.Prefixes.{among_more, none_among, along_more}
-use Rattle.fs_rules.proofs.Stepping.{rest_is}
+use Rattle.fs_rules.proofs.{Words.{◌≡◌, ◌+◌, sym, ap, subst, ◌∙◌, List, [], ◌∷◌, drop, arith, IsStrictlySortedBy, keys_of, drop_all, Prefix, place_total, place_cmp, AreAmong, Held}, Entries.{sorted-remove_entry}, Losing.{is_place, losing_starts, losing_ends}, Prefixes.{among_more, none_among, along_more}, Stepping.{rest_is}}
 use Rattle.fs_rules.proofs.table.Table.lose_along.Goals as goal
 
 pub loop-key-init : goal.loop-key-init

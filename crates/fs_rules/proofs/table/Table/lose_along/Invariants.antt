@@ -1,5 +1,4 @@
-use Rattle.fs_rules.proofs.Words.{drop, IsStrictlySortedBy, keys_of, place_cmp, AreAmong, Covers, Held}
-use Rattle.fs_rules.proofs.Losing.{IsLosing}
+use Rattle.fs_rules.proofs.{Words.{drop, IsStrictlySortedBy, keys_of, place_cmp, AreAmong, Covers, Held}, Losing.{IsLosing}}
 use Rattle.fs_rules.proofs.table.Table.lose_along.Given as goal
 
 abbrev pub invariant-loop-key : goal.invariant-loop-key

@@ -1,5 +1,4 @@
-use Rattle.fs_rules.proofs.Words.{◌≡◌, sym, ◌∙◌, Some, None, held_by}
-use Rattle.fs_rules.proofs.Losing.{losing_starts, losing_more, losing_shorter, losing_ends, found_hit, none_left, passed_starts, passed_more, from_start}
+use Rattle.fs_rules.proofs.{Words.{◌≡◌, sym, ◌∙◌, Some, None, held_by}, Losing.{losing_starts, losing_more, losing_shorter, losing_ends, found_hit, none_left, passed_starts, passed_more, from_start}}
 use Rattle.fs_rules.proofs.table.Table.lose_each.Goals as goal
 
 pub loop-prefix-init : goal.loop-prefix-init

@@ -1,5 +1,4 @@
-use Rattle.fs_rules.proofs.Words.{length, Covers, Held}
-use Rattle.fs_rules.proofs.Losing.{IsLosing, Passed}
+use Rattle.fs_rules.proofs.{Words.{length, Covers, Held}, Losing.{IsLosing, Passed}}
 use Rattle.fs_rules.proofs.table.Table.lose_each.Given as goal
 
 abbrev pub invariant-loop-prefix : goal.invariant-loop-prefix

@@ -1,7 +1,4 @@
-use Rattle.fs_rules.proofs.Words.{◌≡◌, ap, sym, ◌∙◌, not, ◌==◌, arith, nat_tests, Held, without_peer_unicast, without_peer_flows, routes_of, keeps-filter, routes-filter}
-use Rattle.fs_rules.proofs.Chosen.{flows_changed}
-use Rattle.fs_rules.proofs.Counting.{counted_as, counted_lost, with_same_flows}
-use Rattle.fs_rules.proofs.Prefixes.{held_still, held_others}
+use Rattle.fs_rules.proofs.{Words.{◌≡◌, ap, sym, ◌∙◌, not, ◌==◌, arith, nat_tests, Held, without_peer_unicast, without_peer_flows, routes_of, keeps-filter, routes-filter}, Chosen.{flows_changed}, Counting.{counted_as, counted_lost, with_same_flows}, Prefixes.{held_still, held_others}}
 use Rattle.fs_rules.proofs.table.Table.lose_flows.Goals as goal
 
 pub returns-then-of-eq0-clause-removed : goal.returns-then-of-eq0-clause-removed

@@ -1,5 +1,4 @@
-use Rattle.fs_rules.proofs.Words.{◌≡◌, ap, sym, ◌∙◌, subst, arith, nat_tests, Covers, Held, held_count, without_peer_unicast}
-use Rattle.fs_rules.proofs.Counting.{with_same, gone_twice}
+use Rattle.fs_rules.proofs.{Words.{◌≡◌, ap, sym, ◌∙◌, subst, arith, nat_tests, Covers, Held, held_count, without_peer_unicast}, Counting.{with_same, gone_twice}}
 use Rattle.fs_rules.proofs.table.Table.lose_telling.Goals as goal
 
 pub returns-then-of-eq0-clause-removed : goal.returns-then-of-eq0-clause-removed

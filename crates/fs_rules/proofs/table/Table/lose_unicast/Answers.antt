@@ -1,5 +1,4 @@
-use Rattle.fs_rules.proofs.Words.{sym, subst, List, Prefix, AreAmong}
-use Rattle.fs_rules.proofs.Prefixes.{kept_still, among_held}
+use Rattle.fs_rules.proofs.{Words.{sym, subst, List, Prefix, AreAmong}, Prefixes.{kept_still, among_held}}
 use Rattle.fs_rules.proofs.table.Table.lose_unicast.Goals as goal
 
 pub invariant_of-self : goal.invariant_of-self

@@ -1,8 +1,4 @@
-use Rattle.fs_rules.proofs.Words.{ℕ, List, ◌≡◌, ap, ap₂, sym, subst, ◌∙◌, not, Path, Kept, IsKept, put_route, is_key, with_flow, routes_of, put_kept, has_key, keeps-put, routes-put, any-routes, IsRule}
-use Rattle.fs_rules.proofs.Chosen.{flows_changed}
-use Rattle.fs_rules.proofs.Counting.{counted_as, counted_put_flow}
-use Rattle.fs_rules.proofs.Elsewhere.{put_elsewhere}
-use Rattle.fs_rules.proofs.Prefixes.{held_still, kept_still}
+use Rattle.fs_rules.proofs.{Words.{ℕ, List, ◌≡◌, ap, ap₂, sym, subst, ◌∙◌, not, Path, Kept, IsKept, put_route, is_key, with_flow, routes_of, put_kept, has_key, keeps-put, routes-put, any-routes, IsRule}, Chosen.{flows_changed}, Counting.{counted_as, counted_put_flow}, Elsewhere.{put_elsewhere}, Prefixes.{held_still, kept_still}}
 use Rattle.fs_rules.proofs.table.Table.put_flow.Goals as goal
 
 pub invariant_of-self-in_err-reserve : goal.invariant_of-self-in_err-reserve

@@ -1,8 +1,4 @@
-use Rattle.fs_rules.proofs.Words.{rules, of_calls, refl, sym, ap, subst, ◌∙◌, List, insert_entry, place_cmp, Route, IsKept, routes_of, routes_mended}
-use Rattle.fs_rules.proofs.Chosen.{held_of, unicast_changed, keeps_after, agree_put}
-use Rattle.fs_rules.proofs.Counting.{counted_as, counted_put}
-use Rattle.fs_rules.proofs.Elsewhere.{covers_noted, related_elsewhere}
-use Rattle.fs_rules.proofs.Prefixes.{kept_still, held_put}
+use Rattle.fs_rules.proofs.{Words.{rules, of_calls, refl, sym, ap, subst, ◌∙◌, List, insert_entry, place_cmp, Route, IsKept, routes_of, routes_mended}, Chosen.{held_of, unicast_changed, keeps_after, agree_put}, Counting.{counted_as, counted_put}, Elsewhere.{covers_noted, related_elsewhere}, Prefixes.{kept_still, held_put}}
 use Rattle.fs_rules.proofs.table.Table.put_unicast_telling.Goals as goal
 
 pub invariant_of-self : goal.invariant_of-self

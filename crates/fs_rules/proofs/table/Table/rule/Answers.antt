@@ -1,5 +1,4 @@
-use Rattle.fs_rules.proofs.Words.{ap, ◌∙◌, option_map, slice_get, listed, chosen_in}
-use Rattle.fs_rules.proofs.Chosen.{get-routes}
+use Rattle.fs_rules.proofs.{Words.{ap, ◌∙◌, option_map, slice_get, listed, chosen_in}, Chosen.{get-routes}}
 use Rattle.fs_rules.proofs.table.Table.rule.Goals as goal
 
 pub returns-clause-rule : goal.returns-clause-rule

@@ -1,8 +1,4 @@
-use Rattle.fs_rules.proofs.Words.{ap, ◌∙◌, not, is_key, without_route, has_route, routes_of, keeps-filter, routes-filter, any-routes}
-use Rattle.fs_rules.proofs.Chosen.{flows_changed}
-use Rattle.fs_rules.proofs.Counting.{counted_without_flow}
-use Rattle.fs_rules.proofs.Elsewhere.{taken_elsewhere}
-use Rattle.fs_rules.proofs.Prefixes.{held_still}
+use Rattle.fs_rules.proofs.{Words.{ap, ◌∙◌, not, is_key, without_route, has_route, routes_of, keeps-filter, routes-filter, any-routes}, Chosen.{flows_changed}, Counting.{counted_without_flow}, Elsewhere.{taken_elsewhere}, Prefixes.{held_still}}
 use Rattle.fs_rules.proofs.table.Table.withdraw_flow.Goals as goal
 
 pub invariant_of-self : goal.invariant_of-self

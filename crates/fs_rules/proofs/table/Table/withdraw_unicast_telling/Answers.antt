@@ -1,9 +1,4 @@
-use Rattle.fs_rules.proofs.Words.{◌≡◌, refl, sym, ap, ◌∙◌, subst, List, length, arith, is_at, remove_entry, keys_of, place_cmp, Route, Covers, IsStrictlySortedBy, place_total, IsKept, routes_of, Held, routes_mended, remove_nothing, removes_one}
-use Rattle.fs_rules.proofs.Chosen.{held_of, unicast_changed, keeps_after, agree_taken}
-use Rattle.fs_rules.proofs.Counting.{counted_taken}
-use Rattle.fs_rules.proofs.Elsewhere.{covers_noted, related_elsewhere}
-use Rattle.fs_rules.proofs.Entries.{sorted-remove_entry}
-use Rattle.fs_rules.proofs.Prefixes.{held_taken}
+use Rattle.fs_rules.proofs.{Words.{◌≡◌, refl, sym, ap, ◌∙◌, subst, List, length, arith, is_at, remove_entry, keys_of, place_cmp, Route, Covers, IsStrictlySortedBy, place_total, IsKept, routes_of, Held, routes_mended, remove_nothing, removes_one}, Chosen.{held_of, unicast_changed, keeps_after, agree_taken}, Counting.{counted_taken}, Elsewhere.{covers_noted, related_elsewhere}, Entries.{sorted-remove_entry}, Prefixes.{held_taken}}
 use Rattle.fs_rules.proofs.table.Table.withdraw_unicast_telling.Goals as goal
 
 pub invariant_of-self : goal.invariant_of-self

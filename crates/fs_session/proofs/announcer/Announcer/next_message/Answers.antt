@@ -1,5 +1,4 @@
-use Rattle.fs_session.proofs.Words.{◌≡◌, true, sym, subst, list_all, Terms, is_short}
-use Rattle.fs_session.proofs.Fitting.{all_short}
+use Rattle.fs_session.proofs.{Words.{◌≡◌, true, sym, subst, list_all, Terms, is_short}, Fitting.{all_short}}
 use Rattle.fs_session.proofs.announcer.Announcer.next_message.Goals as goal
 
 pub append_next-requires-clause-fits : goal.append_next-requires-clause-fits

@@ -1,6 +1,4 @@
-use Rattle.fs_speaker.proofs.Words.{rules, sym, subst, Ok, ap, List, ℕ, [], false, ◌∙◌, Update, StartsOpen, both, Flying, flying}
-use Rattle.fs_speaker.proofs.Running.{joint_begins}
-use Rattle.fs_speaker.proofs.Lowest.{is_told}
+use Rattle.fs_speaker.proofs.{Words.{rules, sym, subst, Ok, ap, List, ℕ, [], false, ◌∙◌, Update, StartsOpen, both, Flying, flying}, Running.{joint_begins}, Lowest.{is_told}}
 use Rattle.fs_speaker.proofs.joint.Joint.new.Goals as goal
 
 pub new-requires : goal.new-requires

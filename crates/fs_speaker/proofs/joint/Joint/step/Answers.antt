@@ -1,5 +1,4 @@
-use Rattle.fs_speaker.proofs.Words.{true, Bool, List, [], ◌∷◌, ◌++◌, refl, ap, sym, subst, ◌∙◌, Event, jointed, IsRun}
-use Rattle.fs_speaker.proofs.Running.{one_happened, none_happened, same_joint}
+use Rattle.fs_speaker.proofs.{Words.{true, Bool, List, [], ◌∷◌, ◌++◌, refl, ap, sym, subst, ◌∙◌, Event, jointed, IsRun}, Running.{one_happened, none_happened, same_joint}}
 use Rattle.fs_speaker.proofs.joint.Joint.step.Goals as goal
 
 pub invariant_of-self : goal.invariant_of-self

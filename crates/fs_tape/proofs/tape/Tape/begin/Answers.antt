@@ -1,4 +1,4 @@
-use Rattle.fs_tape.proofs.Words.{rules, arith, ◌≡◌, Ok, Err, [], none_back, opens_not, opens_so, IsFrontWithin, opened_answer, magic_field, TapeState, Cut, Version}
+use Rattle.fs_tape.proofs.Words.{rules, arith, ◌≡◌, Ok, Err, none_back, opens_not, opens_so, IsFrontWithin, opened_answer, magic_field, TapeState, Cut, Version}
 use Rattle.fs_tape.proofs.tape.Tape.begin.Goals as goal
 
 pub returns-in-Err-clause-opens : goal.returns-in-Err-clause-opens

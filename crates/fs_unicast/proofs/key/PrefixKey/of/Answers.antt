@@ -1,6 +1,5 @@
 use Rattle.std.proofs.Common.{ap₂}
-use Rattle.fs_unicast.proofs.Words.{sym, ap, subst, ◌∙◌, afi_of, prefix_of, last_address, IsKey, family_of, high_of, last_of}
-use Rattle.fs_unicast.proofs.Keys.{shown_again, key_is}
+use Rattle.fs_unicast.proofs.{Words.{sym, ap, subst, ◌∙◌, afi_of, prefix_of, last_address, IsKey, family_of, high_of, last_of}, Keys.{shown_again, key_is}}
 use Rattle.fs_unicast.proofs.key.PrefixKey.of.Goals as goal
 
 pub invariant_of-result : goal.invariant_of-result

@@ -1,0 +1,15 @@
+use Rattle.fs_desk.proofs.Words.{◌≡◌, ℕ, List, ◌++◌, length, None, Config, Peer, IsListed, bounded_replies_from, IsUp, HasTaken, Extends, IsReplyingMore, Comes, Tells}
+use Rattle.fs_desk.proofs.receive.receive.Given as goal
+
+abbrev pub invariant-messages : goal.invariant-messages
+invariant-messages g l =
+    Extends l.fn.replies.items l.replies.items
+    × Tells l.fn.table l.table
+    × ((config : Config) (whose : Peer) (octets : List ℕ) → IsListed l.fn.table.held → IsUp config whose l.peer octets l.fn.session l.fn.table.held
+    → HasTaken config whose l.peer (octets ++ l.fn.piece) l.rest l.session l.fn.table.held l.table.held
+    × IsReplyingMore config whose (octets ++ l.fn.piece) l.rest l.session (bounded_replies_from config whose octets) l.fn.replies.items l.replies.items)
+    × (l.session.closed ≡ None)
+    × Comes l.fn.session l.fn.piece l.session l.rest l.fn.replies.items l.replies.items
+
+abbrev pub decreases-messages : goal.decreases-messages
+decreases-messages g l = length l.rest
