@@ -295,7 +295,7 @@ def send_all(first, last, frames):
         for frame in frames[begin:begin + BATCH]:
             first.send(frame)
         came |= received(last)
-    deadline = time.monotonic() + 10
+    deadline = time.monotonic() + 60
     while frames_counted() < len(frames) and time.monotonic() < deadline:
         time.sleep(0.05)
     time.sleep(0.05)

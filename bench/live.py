@@ -33,7 +33,7 @@ from peer import KEEPALIVE, message, open_message, reset
 
 ROOT = pathlib.Path(__file__).resolve().parent.parent
 PORT, MANY = 1790, 1000
-PATIENCE = 30       # seconds until a step is given up
+PATIENCE = 120      # seconds until a step is given up
 EVERY, ARRIVAL = 0.01, 0.1      # seconds between two frames, and that a frame may take
 HERE, FIRST, SECOND = "127.0.0.1", "127.0.0.15", "127.0.0.16"
 TARGET, OTHER = "192.0.2.10", "203.0.113.9"     # of the first and the second peer's network

@@ -16,7 +16,7 @@ import time
 from draws import MARKER, message, record
 
 PROGRAM = str(pathlib.Path(sys.argv[1] if len(sys.argv) > 1 else "crates/welgutan/out/welgutan").resolve())
-PATIENCE = 40
+PATIENCE = 120
 CONFIG = """local_as = 65000
 local_id = "192.0.2.254"
 allow_no_destination = true
@@ -84,7 +84,7 @@ def free_port(family, host):
 
 def connect(port, host="127.0.0.1", family=socket.AF_INET):
     """A connection to the program, once it listens."""
-    for _ in range(200):
+    for _ in range(20 * PATIENCE):
         end = socket.socket(family)
         try:
             end.connect((host, port))

@@ -41,7 +41,7 @@ def shown(text):
 
 
 def printed(command, folder, path):
-    ran = subprocess.run(["bash", "-c", command], cwd=folder, env={"PATH": path}, capture_output=True, text=True, timeout=60)
+    ran = subprocess.run(["bash", "-c", command], cwd=folder, env={"PATH": path}, capture_output=True, text=True, timeout=300)
     return ran.stdout.splitlines() + ran.stderr.splitlines()
 
 
