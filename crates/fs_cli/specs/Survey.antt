@@ -7,7 +7,7 @@ use Rattle.fs_rules.specs.Table.{Held}
 use Rattle.fs_shadow.specs.Text.{shadow_listing}
 use Rattle.fs_tape.specs.Tape.{Item, Timed}
 use Rattle.cmd_stages.specs.{Load.{HoldsConfig, Names}, Play.{HoldsTape, accepted_stage, untimed}, Refusal.{Answers, verdict_with, Stage, Found, Stopped, status_of}, Writing.{Fails}, declared.refusal.Refusal.{Refusal, TheVariants.{Tape}}}
-use Rattle.fs_desk.specs.{Desk.{Desked, Played}, Leaves.{Leaves}}
+use Rattle.fs_desk.specs.Leaves.{Leaves}
 
 -- a survey: its text, of the configuration, the items of a tape, and the routes that they leave held
 abbrev pub Text : Type 0
@@ -17,11 +17,6 @@ abbrev pub text_for : Survey → Text
 text_for Rules = listing
 text_for Words = worded
 text_for Shadow = shadow_listing
-
--- the text surveys what a desk holds that was played to these items
-abbrev pub SurveysDesk : Text → Desked → List ℕ → Type 0
-SurveysDesk survey desk text =
-    (config : Config) (items : List Item) → Played config items desk → text ≡ survey config items desk.held
 
 -- what is written at a refusal: of a tape's fault its name and its place
 abbrev pub stopped_text : Refusal → List ℕ

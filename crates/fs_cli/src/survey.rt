@@ -3,7 +3,8 @@
 ghost use Rattle.std.specs.Prelude.{◌≡◌, ◌≤◌, ◌⊎◌, IfOk, IsTrue};
 ghost use Rattle.fs_base.specs.{Happened.{happened}, Outside.{Rose}};
 ghost use Rattle.cmd_stages.specs.{Load.{OpensFront, config_then}, Refusal.{IsOfTape, answered, status_of}};
-ghost use Rattle.fs_cli.specs.Survey.{IsOfSurvey, Lists, SaysOf, SurveysDesk, text_for};
+ghost use Rattle.fs_cli.specs.Survey.{IsOfSurvey, Lists, SaysOf, text_for};
+ghost use Rattle.fs_reports.specs.Listing.{Tells};
 
 use cmd_stages::{Refusal, load_config, play_whole, write_made};
 use fs_base::{Files, Memory, Sink};
@@ -59,7 +60,7 @@ pub fn survey_tape<F: Files, S: Sink>(
 
 /// The survey of the desk behind a tape.
 fn survey_text(alloc: Global, survey: Survey, desk: &Desk<'_>) -> Result<Vec<u8>, Memory>
-    ensures { IfOk result (λ text. SurveysDesk (text_for survey) desk.now text.items) }
+    ensures { IfOk result (λ text. Tells (text_for survey) desk.now text.items) }
 {
     match survey {
         Survey::Rules => desk_text(alloc, desk),
