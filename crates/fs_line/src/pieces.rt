@@ -26,12 +26,18 @@ pub fn append_decimal<N: Integer>(number: N, text: &mut Vec<u8>) -> Result<(), M
     append(buffer.format(number).as_bytes(), text)
 }
 
-/// Appends a word, and a number directly after it.
+/// Appends a word, and a number directly after it. After `Memory` `text` is as before.
 pub fn append_numbered<N: Integer>(word: &[u8], number: N, text: &mut Vec<u8>) -> Result<(), Memory>
-    ensures { OnOk result (text.new.items ≡ text.old.items ++ (word.now ++ N.text number)) }
+    ensures ok { OnOk result (text.new.items ≡ text.old.items ++ (word.now ++ N.text number)) }
+    ensures err { OnErr result (text.new.items ≡ text.old.items) }
 {
+    let start = text.len();
     append(word, text)?;
-    append_decimal(number, text)
+    let appended = append_decimal(number, text);
+    if appended.is_err() {
+        text.truncate(start);
+    }
+    appended
 }
 
 /// Appends octets in hexadecimal, in lower case. After `Memory` `text` is as before.
