@@ -236,6 +236,13 @@ def two_paths_in_turn(count):
     return b"".join(parts), EMPTY_CAPTURE
 
 
+def network_in_turn(count):
+    """A network that comes and goes beside as many rules for it, each of which is valid and isn't in turn."""
+    network = bytes([24, 192, 0, 2])
+    turns = [announce(network), update(network, b"", b"")]
+    return b"".join([up(1)] + rules_for(network, count) + turns * (count // 2)), EMPTY_CAPTURE
+
+
 def routes_under_a_network(count):
     """As many routes under a network as there are rules for it."""
     network = bytes([8, 10])
@@ -347,6 +354,7 @@ SHAPES = [
     ("peers with equal rules", equal_rules, 512),
     ("peers with one network", one_network, 512),
     ("two paths of one network in turn", two_paths_in_turn, 4000),
+    ("a network that comes and goes", network_in_turn, 4000),
     ("routes under a network", routes_under_a_network, 4000),
     ("pairs of rules in shadow", rules_side_by_side, 8000),
     ("pairs of ranges in shadow", ranges_side_by_side, 2000),

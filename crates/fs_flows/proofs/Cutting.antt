@@ -1,5 +1,5 @@
 -- Routes in blocks that are cut between rules: where a rule has its place, and what changes of one block do to all.
-use Rattle.fs_flows.proofs.{Words.{ℕ, zero, suc, ◌≡◌, ◌+◌, ◌<◌, ◌≤◌, refl, sym, ap, ap₂, subst, ◌∙◌, Bool, true, false, true≢false, not, ◌==◌, cond, List, [], ◌∷◌, ◌++◌, map, filter, length, get_or, set, insert, remove, take, drop, Ordering, Less, Equal, Greater, is_eq, nat_cmp, Result, Ok, Err, OnOk, OnErr, arith, list_any, AllByRecursion, append_assoc, map-append, take-append-drop, is_lt, match_ordering, ordering_then, ordering_reverse, false_of_not, true_of_not, each_weaker, each_both, each_append, filter-append, each_filtered, less_of_is_lt, Ruled, rule_cmp, rule_total, Kept, key_cmp, is_key, put_kept, AreSorted, routes_of, is_other_key, flat, RuleBefore, AllBefore, AreCut, is_filled, AreFilled, IsCut, AreEachSorted, begins_by, begun, block_of, with_block, keep_blocks, cut_list, CanCut}, Apart.{each_front, each_back, take_each, drop_each}, Changed.{any_back, any_front, each-put, left_back, left_front, routes-put, sorted-put}, PuttingInGroups.{put_left, put_right, sorted_front, sorted_back}, TakingFromGroups.{empty, not_empty}}
+use Rattle.fs_flows.proofs.{Words.{ℕ, zero, suc, ◌≡◌, ◌+◌, ◌<◌, ◌≤◌, refl, sym, ap, ap₂, subst, ◌∙◌, Bool, true, false, true≢false, not, ◌==◌, cond, List, [], ◌∷◌, ◌++◌, map, filter, length, get_or, set, insert, remove, take, drop, Ordering, Less, Equal, Greater, is_eq, nat_cmp, nat_le, ◌⊎◌, inl, inr, Result, Ok, Err, OnOk, OnErr, arith, leb-true, list_any, length-append, or_either, AllByRecursion, append_assoc, map-append, take-append-drop, is_lt, match_ordering, ordering_then, ordering_reverse, false_of_not, true_of_not, each_weaker, each_both, each_append, filter-append, each_filtered, less_of_is_lt, Ruled, rule_cmp, rule_total, Kept, key_cmp, is_key, put_kept, AreSorted, routes_of, is_other_key, flat, RuleBefore, AllBefore, AreCut, is_filled, AreFilled, IsCut, AreEachSorted, begins_by, begun, block_of, with_block, keep_blocks, cut_list, CanCut}, Apart.{each_front, each_back, take_each, drop_each}, Changed.{any_back, any_front, each-put, left_back, left_front, routes-put, sorted-put}, PuttingInGroups.{put_left, put_right, sorted_front, sorted_back}, TakingFromGroups.{empty, not_empty}}
 use Rattle.std.specs.List.Retain.{RetainsInTurn}
 
 -- Of a rule, the routes of earlier rules and those of later ones.
@@ -23,6 +23,14 @@ pub sorted_at : (bs : List (List Kept)) (n : ℕ) (b : List Kept) → AreEachSor
 sorted_at [] n b h k e = absurd (omega arith)
 sorted_at (x ∷ xs) zero b h k e = subst (λ ks. AreSorted (routes_of ks)) (sym e) h.0
 sorted_at (x ∷ xs) (suc n) b h k e = sorted_at xs n b h.1 (omega arith) e
+
+-- where a block has as many routes, all have
+pub many_in : (n : ℕ) (bs : List (List Kept)) → list_any (λ block. nat_le n (length block)) bs ≡ true → n ≤ length (flat bs)
+many_in n [] h = absurd (true≢false (sym h))
+many_in n (b ∷ bs) h = at (or_either (nat_le n (length b)) (list_any (λ block. nat_le n (length block)) bs) h) (many_in n bs) where
+  at : (nat_le n (length b) ≡ true) ⊎ (list_any (λ block. nat_le n (length block)) bs ≡ true) → (list_any (λ block. nat_le n (length block)) bs ≡ true → n ≤ length (flat bs)) → n ≤ length (b ++ flat bs)
+  at (inl e) ih = omega (arith, leb-true n (length b) e, length-append b (flat bs))
+  at (inr e) ih = omega (arith, ih e, length-append b (flat bs))
 
 -- The search.
 swapped : (r s : Ruled) → rule_cmp r s ≡ Greater → rule_cmp s r ≡ Less

@@ -1,5 +1,5 @@
 -- Validating anew the groups whose destination passes a test, and noting those in which a validity changed.
-use Rattle.fs_flows.proofs.{Words.{set, map_over_more, ℕ, zero, suc, ◌≡◌, ◌↔◌, ◌⊎◌, inl, inr, ◌+◌, ◌<◌, ◌≤◌, refl, sym, ap, ap₂, subst, ◌∙◌, Bool, true, false, true≢false, ◌&&◌, ◌||◌, cond, List, [], ◌∷◌, ◌++◌, map, length, take, drop, get_or, Option, Some, None, Less, is_eq, arith, length-map, map-append, take_more, same_Some, AllByRecursion, IsStrictlySortedBy, is_at, keys_of, lookup, set_value, sorted_head, sorted_tail, Config, Prefix, prefix_cmp, false_from, or_false, or_none, same_from_cmp, each_append, each_both, each_mapped, each_of_map, each_weaker, Route, is_related, validity_to, Kept, Noted, StaysNoted, IsNotedAt, is_noted, AreRight, AreRightTo, IsMarked, IsRightAt, retested, retested_to, mended, routes_of, has_related, related_count, Entry, kept_in, IsTo, ArePlaced, AreInOrder, touched, size, Marks, Mends, MendsKept, Progress, progress}, Apart.{each_front, each_back}, Placing.{get_or_again, related-append}, TakingFromGroups.{other_keys}}
+use Rattle.fs_flows.proofs.{Words.{set, map_over_more, ℕ, zero, suc, ◌≡◌, ◌↔◌, ◌⊎◌, inl, inr, ◌+◌, ◌<◌, ◌≤◌, refl, sym, ap, ap₂, subst, ◌∙◌, Bool, true, false, true≢false, ◌&&◌, ◌||◌, cond, List, [], ◌∷◌, ◌++◌, map, length, take, drop, get_or, Option, Some, None, is_eq, arith, length-map, map-append, take_more, same_Some, AllByRecursion, IsStrictlySortedBy, is_at, keys_of, lookup, set_value, sorted_head, sorted_tail, Config, Prefix, prefix_cmp, false_from, or_false, or_none, same_from_cmp, each_append, each_both, each_mapped, each_of_map, each_weaker, Route, Swap, IsSwap, is_related, validity_to, FlowRoute, Kept, Noted, StaysNoted, IsNotedAt, is_noted, IsRight, AreRight, AreRightTo, IsMarked, IsRightAt, retested, retested_to, mended, routes_of, has_related, related_count, Entry, kept_in, IsTo, ArePlaced, AreInOrder, touched, size, Marks, Mends, Progress, progress, IsRightEither, AreRightSince, WereRight}, Apart.{each_front, each_back}, Placing.{get_or_again, related-append}, TakingFromGroups.{other_keys}}
 
 -- a flag is down exactly where one fact holds, and so another
 pub told_as : {P Q : Type 0} (b : Bool) → (P → Q) → (Q → P) → (b ≡ false) ↔ P → (b ≡ false) ↔ Q
@@ -204,6 +204,72 @@ module _ (unicast : List Route) (config : Config) where
   mends_missing p old new noted steps h e = subst (λ es. Mends unicast config (is_at (prefix_cmp p)) now (progress es noted steps)) (sym e) (mends_none (is_at (prefix_cmp p)) now (none_found p old h)) where
     now : Progress
     now = progress old noted steps
+
+  -- What is right stays as it is, validated anew.
+  pub right_stays : (d : Prefix) (ks : List Kept) → AreRightTo unicast config d ks → ks ≡ map (retested_to unicast config d) ks
+  right_stays d [] r = refl
+  right_stays d (k ∷ ks) r = ap₂ (λ v xs. record { route = k.route; validity = v } ∷ xs) r.0 (right_stays d ks r.1)
+
+  -- and what was right is so still, where each route to the destination has the validity that it had
+  still_right : (earlier : List Route) (d : Prefix) (ks : List Kept) → ((route : FlowRoute) → validity_to earlier config route (Some d) ≡ validity_to unicast config route (Some d))
+      → AreRightTo earlier config d ks ⊎ AreRightTo unicast config d ks → AreRightTo unicast config d ks
+  still_right earlier d ks same (inl r) = each_weaker (λ k. k.validity ≡ validity_to earlier config k.route (Some d)) (λ k. k.validity ≡ validity_to unicast config k.route (Some d)) (λ k e. e ∙ same k.route) ks r
+  still_right earlier d ks same (inr r) = r
+
+  -- what is known of each group, of the one that stands at a key
+  at_key : (P : Prefix → List Kept → Type 0) (p : Prefix) (es : List Entry) (group : List Kept) → lookup (is_at (prefix_cmp p)) es ≡ Some group → AllByRecursion (λ e. P e.0 e.1) es → P p group
+  at_key P p [] group there all = cc
+  at_key P p (e ∷ es) group there all = at (is_eq (prefix_cmp p e.0)) refl there (λ g. at_key P p es group g all.1) where
+    at : (b : Bool) → is_eq (prefix_cmp p e.0) ≡ b → cond b (Some e.1) (lookup (is_at (prefix_cmp p)) es) ≡ Some group → (lookup (is_at (prefix_cmp p)) es ≡ Some group → P p group) → P p group
+    at true t g ih = subst (λ q. P q group) (sym (same_from_cmp p e.0 t)) (subst (P e.0) (same_Some e.1 group g) all.0)
+    at false t g ih = ih g
+
+  -- a group that the swap leaves right
+  pub right_left : (swap : Swap) (p d : Prefix) (es : List Entry) (group : List Kept) → AreRightSince swap unicast config es → lookup (is_at (prefix_cmp p)) es ≡ Some group → d ≡ p
+      → ((earlier : List Route) → IsSwap swap earlier unicast → (route : FlowRoute) → validity_to earlier config route (Some d) ≡ validity_to unicast config route (Some d)) → AreRightTo unicast config d group
+  right_left swap p d es group since there same judged = still_right since.earlier d group (judged since.earlier since.swapped)
+      (at_key (λ q ks. AreRightTo since.earlier config q ks ⊎ AreRightTo unicast config q ks) d es group (subst (λ q. lookup (is_at (prefix_cmp q)) es ≡ Some group) (sym same) there) since.right)
+
+  touched_right : (earlier : List Route) (t : Prefix → Bool) (es : List Entry) → AllByRecursion (IsRightEither earlier unicast config) es → AllByRecursion (IsRightEither earlier unicast config) (touches t es)
+  touched_right earlier t [] h = tt
+  touched_right earlier t (e ∷ es) h = (at (t e.0), touched_right earlier t es h.1) where
+    now_right : (ks : List Kept) → AreRightTo unicast config e.0 (map (retested_to unicast config e.0) ks)
+    now_right [] = tt
+    now_right (k ∷ ks) = (refl, now_right ks)
+
+    at : (b : Bool) → IsRightEither earlier unicast config (cond b (e.0, map (retested_to unicast config e.0) e.1) e)
+    at true = inr (now_right e.1)
+    at false = h.0
+
+  -- while groups are validated anew
+  pub right_since : (swap : Swap) (t : Prefix → Bool) {old new : Progress} → Mends unicast config t old new → AreRightSince swap unicast config old.groups → AreRightSince swap unicast config new.groups
+  right_since swap t {old} {new} m since = record {
+    earlier = since.earlier;
+    swapped = since.swapped;
+    right = subst (AllByRecursion (IsRightEither since.earlier unicast config)) (sym m.entries) (touched_right since.earlier t old.groups since.right);
+  }
+
+  -- From all routes to the entries.
+  right_to : (earlier : List Route) (d : Prefix) (ks : List Kept) → AllByRecursion (IsTo (Some d)) ks → AreRight earlier config ks → AreRightTo earlier config d ks
+  right_to earlier d [] to r = tt
+  right_to earlier d (k ∷ ks) to r = (r.0 ∙ ap (validity_to earlier config k.route) to.0, right_to earlier d ks to.1 r.1)
+
+  groups_right : (earlier : List Route) (es : List Entry) (rest : List Kept) → ArePlaced es → AreRight earlier config (kept_in es rest) → AllByRecursion (IsRightEither earlier unicast config) es
+  groups_right earlier [] rest placed r = tt
+  groups_right earlier (e ∷ es) rest placed r = (
+    inl (right_to earlier e.0 e.1 placed.0 (each_front (IsRight earlier config) e.1 (kept_in es rest) r)),
+    groups_right earlier es rest placed.1 (each_back (IsRight earlier config) e.1 (kept_in es rest) r),
+  )
+
+  pub right_in : (swap : Swap) (es : List Entry) (rest : List Kept) → ArePlaced es → WereRight swap unicast config (kept_in es rest) → AreRightSince swap unicast config es
+  right_in swap es rest placed were = record { earlier = were.earlier; swapped = were.swapped; right = groups_right were.earlier es rest placed were.right }
+
+  -- of both families
+  pub right_first : (swap : Swap) (xs ys : List Kept) → WereRight swap unicast config (xs ++ ys) → WereRight swap unicast config xs
+  right_first swap xs ys were = record { earlier = were.earlier; swapped = were.swapped; right = each_front (IsRight were.earlier config) xs ys were.right }
+
+  pub right_second : (swap : Swap) (xs ys : List Kept) → WereRight swap unicast config (xs ++ ys) → WereRight swap unicast config ys
+  right_second swap xs ys were = record { earlier = were.earlier; swapped = were.swapped; right = each_back (IsRight were.earlier config) xs ys were.right }
 
   -- From the entries to all routes.
   mended_all : (p : Prefix) (destination : Option Prefix) (b : Bool) → has_related p destination ≡ b → (ks : List Kept) → AllByRecursion (IsTo destination) ks → map (mended p unicast config) ks ≡ cond b (map (retested unicast config) ks) ks

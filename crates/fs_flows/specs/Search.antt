@@ -1,9 +1,9 @@
 -- Groups found by their destination, and what validating their routes anew does.
 use Rattle.std.specs.{Prelude.{◌≡◌, ℕ, ◌+◌, ◌≤◌, ◌⊎◌, Bool, true, false, Option, Some, None, List, [], ◌∷◌, map, length, MatchOption, if◌then◌else◌}, BTreeMap.{BTreeMap}, List.{list_any, AllByRecursion}, Ordering.{is_eq, is_lt, is_le}}
 use Rattle.fs_base.specs.{declared.{config.Config.{Config}, prefix.Prefix.{Prefix}}, Prefix.{prefix_cmp}}
-use Rattle.fs_unicast.specs.Unicast.{Route}
+use Rattle.fs_unicast.specs.{Unicast.{Route, IsSwap}, declared.unicast.Swap.{Swap}}
 use Rattle.fs_validate.specs.Laws.{is_related}
-use Rattle.fs_flows.specs.{Changes.{Noted, StaysNoted, IsNotedAt}, Kept.{Kept}, Group.{AreRightTo, IsMarked, mended, retested_to, routes_of}, Table.{related_count}, Groups.{Entry}}
+use Rattle.fs_flows.specs.{Changes.{Noted, StaysNoted, IsNotedAt}, Kept.{Kept}, Group.{AreRight, AreRightTo, IsMarked, mended, retested_to, routes_of}, Table.{related_count}, Groups.{Entry}}
 
 -- the groups whose destination passes are validated anew, as routes to it
 abbrev pub touched : List Route → Config → (Prefix → Bool) → Entry → Entry
@@ -52,6 +52,22 @@ pub record MendsKept (p : Prefix) (unicast : List Route) (config : Config) (old 
   pub marked : AllByRecursion (IsMarked more p unicast config) old
   pub later : before ≤ after
   pub steps : after ≤ before + related_count p (routes_of old)
+
+-- the validities are right over the unicast routes from which the swap led to these
+pub record WereRight (swap : Swap) (unicast : List Route) (config : Config) (kept : List Kept) : Type 0 where
+  pub earlier : List Route
+  pub swapped : IsSwap swap earlier unicast
+  pub right : AreRight earlier config kept
+
+-- a group's validities are right over the earlier unicast routes or over these
+abbrev pub IsRightEither : (earlier unicast : List Route) → Config → Entry → Type 0
+IsRightEither earlier unicast config e = AreRightTo earlier config e.0 e.1 ⊎ AreRightTo unicast config e.0 e.1
+
+-- each group's are, where the swap led from the earlier ones to these
+pub record AreRightSince (swap : Swap) (unicast : List Route) (config : Config) (groups : List Entry) : Type 0 where
+  pub earlier : List Route
+  pub swapped : IsSwap swap earlier unicast
+  pub right : AllByRecursion (IsRightEither earlier unicast config) groups
 
 -- before the next key, if there is one
 abbrev pub is_before : Option Prefix → Prefix → Bool

@@ -1,7 +1,7 @@
 //! The flow routes of both families.
 
 ghost use Rattle.std.specs.{Prelude.{◌≡◌, ◌+◌, not, [], OnOk, OnErr, IfOk, filter}, List.{list_any, AllByRecursion}};
-ghost use Rattle.fs_flows.specs.{Table.{IsRuleOf, is_key}, Group.{has_key, put_kept, AreSorted, routes_of, chosen, of_family, is_other_key, is_of_other, HaveRules}, Lending.{AreLent}, Search.{MendsKept}};
+ghost use Rattle.fs_flows.specs.{Table.{IsRuleOf, is_key}, Group.{has_key, put_kept, AreSorted, routes_of, chosen, of_family, is_other_key, is_of_other, HaveRules}, Lending.{AreLent}, Search.{MendsKept, WereRight}};
 ghost use Rattle.fs_base.specs.declared.prefix.Family.{Family};
 ghost use Rattle.fs_nlri.specs.Rule.{IsRule};
 
@@ -9,9 +9,9 @@ use crate::groups::{Groups, LentGroups};
 use crate::kept::Kept;
 use crate::listed::Listed;
 use crate::noted::Changes;
-use fs_base::{Config, Family, Memory, Prefix, Steps};
+use fs_base::{Config, Family, Memory, Steps};
 use fs_nlri::Rule;
-use fs_unicast::Unicast;
+use fs_unicast::{Swap, Unicast};
 use std::alloc::Global;
 use std::marker::Model;
 use std::sync::ledger::Ledger;
@@ -99,21 +99,22 @@ impl Flows {
         }
     }
 
-    /// Validates the routes anew that are related to the prefix, and notes where a validity is another than before. At most
-    /// as many steps as there are of them.
+    /// Validates the routes anew, behind the swap that led to these unicast routes, that are related to its prefix, and
+    /// notes where a validity is another than before. At most as many steps as there are of them.
     pub fn mend<L: Ledger>(
         &mut self,
-        prefix: &Prefix,
+        swap: &Swap,
         unicast: &Unicast,
         config: &Config,
         changes: &mut Changes,
         steps: &mut Steps<L>,
     )
-        ensures mends { MendsKept prefix.now unicast.now config.now self.old self.new changes.old changes.new steps.old steps.new }
+        requires { WereRight swap.now unicast.now config.now self.old }
+        ensures mends { MendsKept swap.now.prefix unicast.now config.now self.old self.new changes.old changes.new steps.old steps.new }
         ensures rules { HaveRules self.old }
     {
-        self.v4.mend(prefix, unicast, config, changes, steps);
-        self.v6.mend(prefix, unicast, config, changes, steps);
+        self.v4.mend(swap, unicast, config, changes, steps);
+        self.v6.mend(swap, unicast, config, changes, steps);
     }
 
     /// The flow routes of the family, to be read.

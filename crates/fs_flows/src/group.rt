@@ -1,6 +1,6 @@
 //! The flow routes of one destination, or those without one, in blocks.
 
-ghost use Rattle.std.specs.{Prelude.{◌≡◌, ◌≤◌, ◌+◌, ◌<◌, ◌==◌, ◌↔◌, not, true, false, [], ◌∷◌, OnOk, OnErr, IfOk, map, filter, length}, List.{list_any, AllByRecursion}};
+ghost use Rattle.std.specs.{Prelude.{◌≡◌, ◌≤◌, ◌+◌, ◌<◌, ◌==◌, ◌↔◌, nat_le, not, true, false, [], ◌∷◌, OnOk, OnErr, IfOk, map, filter, length}, List.{list_any, AllByRecursion}};
 ghost use Rattle.fs_flows.specs.{Table.{is_key}, Group.{put_kept, rejudged, retested_to, has_key, AreSorted, AreJudged, AreRightTo, routes_of, is_other_key, is_of_other}, Blocks.{flat, AreCut, IsCut, block_of, keep_blocks, CanCut, cut_list}};
 
 use crate::block::Block;
@@ -19,6 +19,9 @@ const MANY: usize = 256;
 
 /// A block is cut in two when it has come to a multiple of as many routes.
 const FULL: usize = 512;
+
+/// A group with a block of as many routes is one of many.
+const LARGE: usize = 16;
 
 /// The number of the block in which the rule has its place: the last that begins with it or with an earlier one, or
 /// else the first.
@@ -161,6 +164,13 @@ fn retest_each(blocks: &mut [Block], config: &Config, basis: &Basis<'_>) -> bool
     changed
 }
 
+/// Whether one of the blocks is one of many routes.
+fn have_many(blocks: &[Block]) -> bool
+    ensures { result ≡ list_any (λ block. nat_le 16 (length block)) blocks.now }
+{
+    blocks.iter().any(|block| block.len() >= LARGE)
+}
+
 /// A block as the only one of a list. Where memory is refused nothing changes.
 fn list_of(block: &mut Block) -> Result<Vec<Block>, Memory>
     ensures ok { IfOk result (λ blocks. blocks.items ≡ block.old ∷ []) }
@@ -233,6 +243,16 @@ impl Group {
         }
     }
 
+    /// Whether there are many routes. Mostly the first block tells.
+    pub(crate) fn has_many(&self) -> bool
+        ensures { result ≡ true → 16 ≤ length self.now }
+    {
+        match &self.blocks {
+            Blocks::One(block) => block.len() >= LARGE,
+            Blocks::Many(blocks) => have_many(blocks),
+        }
+    }
+
     /// Keeps many routes in a list of blocks.
     fn widen(&mut self) -> Result<(), Memory>
         ensures { self.new ≡ self.old }
@@ -284,7 +304,7 @@ impl Group {
     }
 
     /// Validates each route anew, all to the destination, and tells whether a validity is another than before. The
-    /// unicast routes are looked up once. At most one step for each.
+    /// unicast routes are looked up once. At most one step, and none without a route.
     pub(crate) fn retest<L: Ledger>(
         &mut self,
         destination: &Prefix,
@@ -295,6 +315,7 @@ impl Group {
         ensures retested { self.new ≡ map (retested_to unicast.now config.now destination.now) self.old }
         ensures told { (result ≡ false) ↔ AreRightTo unicast.now config.now destination.now self.old }
         ensures later { steps.old ≤ steps.new }
+        ensures step { steps.new ≤ steps.old + 1 }
         ensures steps { steps.new ≤ steps.old + length self.old }
     {
         if self.is_empty() {

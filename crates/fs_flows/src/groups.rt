@@ -3,7 +3,7 @@
 ghost use Rattle.std.specs.{Prelude.{◌≡◌, ◌≤◌, ◌==◌, not, false, [], OnOk, OnErr, IfOk, filter}, List.{list_any, AllByRecursion}};
 ghost use Rattle.fs_base.specs.declared.prefix.Family.{Family};
 ghost use Rattle.fs_nlri.specs.Rule.{IsRule};
-ghost use Rattle.fs_flows.specs.{Table.{is_key}, Group.{has_key, put_kept, AreSorted, routes_of, chosen, is_other_key, is_of_other, HaveRules}, Groups.{IsSound, HasSortedGroups, AreInOrder, AreNoShorter, put_entry, keep_at, keep_each, IsHeldAt}, Listed.{IsAmong, keep_along}, Lending.{AreLent}, Search.{MendsKept}};
+ghost use Rattle.fs_flows.specs.{Table.{is_key}, Group.{has_key, put_kept, AreSorted, routes_of, chosen, is_other_key, is_of_other, HaveRules}, Groups.{IsSound, HasSortedGroups, AreInOrder, AreNoShorter, put_entry, keep_at, keep_each, IsHeldAt}, Listed.{IsAmong, keep_along}, Lending.{AreLent}, Search.{MendsKept, WereRight}};
 
 use crate::group::Group;
 use crate::kept::{Kept, destination_key};
@@ -11,7 +11,7 @@ use crate::noted::Changes;
 use crate::search::retest_related;
 use fs_base::{Config, Memory, Prefix, Steps};
 use fs_nlri::Rule;
-use fs_unicast::{PrefixKey, Unicast};
+use fs_unicast::{PrefixKey, Swap, Unicast};
 use std::alloc::Global;
 use std::collections::BTreeMap;
 use std::collections::btree_map::Entry;
@@ -125,21 +125,22 @@ impl Groups {
         self.rest.forget(peer);
     }
 
-    /// Validates the routes anew that are related to the prefix, and notes where a validity is another than before. At most
-    /// as many steps as there are of them.
+    /// Validates the routes anew, behind the swap, that are related to its prefix, and notes where a validity is another
+    /// than before. At most as many steps as there are of them.
     pub(crate) fn mend<L: Ledger>(
         &mut self,
-        prefix: &Prefix,
+        swap: &Swap,
         unicast: &Unicast,
         config: &Config,
         changes: &mut Changes,
         steps: &mut Steps<L>,
     )
-        ensures { MendsKept prefix.now unicast.now config.now self.old self.new changes.old changes.new steps.old steps.new }
+        requires { WereRight swap.now unicast.now config.now self.old }
+        ensures { MendsKept swap.now.prefix unicast.now config.now self.old self.new changes.old changes.new steps.old steps.new }
     {
         let shortest = self.shortest;
         let groups = &mut self.groups;
-        retest_related(groups, shortest, prefix, unicast, config, changes, steps);
+        retest_related(groups, shortest, swap, unicast, config, changes, steps);
     }
 
     /// The routes, to be read.

@@ -105,7 +105,7 @@ impl Prefixes {
 fn is_among(keys: &[PrefixKey], prefix: &PrefixKey) -> bool
     ensures { result ≡ is_among keys.now prefix.now }
 {
-    keys.iter().any(|key| key.cmp(prefix).is_eq())
+    keys.iter().any(|key| key.is(prefix))
 }
 
 /// The destinations to which each peer gave flow routes.

@@ -1,5 +1,5 @@
 -- How many routes a peer holds, and the counts of them.
-use Rattle.fs_rules.proofs.{Words.{◌≡◌, ℕ, ◌+◌, ◌-◌, refl, sym, ap, ◌∙◌, Bool, true, false, true≢false, not, ◌&&◌, ◌||◌, ◌==◌, nat_lt, cond, if◌then◌else◌, List, [], ◌∷◌, length, filter, Some, is_some, Ordering, Less, Equal, Greater, is_eq, nat_cmp, arith, nat_tests, insert_entry, is_at, IsTotalOrder, AllByRecursion, IsStrictlySortedBy, lookup, remove_entry, keys_of, match_ordering, ordering_then, sorted_head, sorted_tail, Config, Path, Prefix, prefix_cmp, each, each_weaker, each_none, filter_all, equal_of_is_eq, is_eq_of_nats, Ruled, place_total, Route, place_cmp, put_path, take_path, has_path, FlowRoute, Held, held_count, without_peer, key_cmp, is_key, put_route, without_route, has_route, without_peer_unicast, without_peer_flows, count_in, AreSorted, Counts, count_of, flow_total}, Chosen.{held_of, with_flows}}
+use Rattle.fs_rules.proofs.{Words.{◌≡◌, ℕ, ◌+◌, ◌-◌, refl, sym, ap, ap₂, ◌∙◌, Bool, true, false, true≢false, not, ◌&&◌, ◌||◌, ◌==◌, cond, if◌then◌else◌, List, [], ◌∷◌, length, filter, Some, is_some, Ordering, Less, Equal, Greater, is_eq, nat_cmp, arith, nat_tests, insert_entry, is_at, IsTotalOrder, AllByRecursion, IsStrictlySortedBy, lookup, remove_entry, keys_of, match_ordering, ordering_then, sorted_head, sorted_tail, Config, Path, Prefix, prefix_cmp, each, each_weaker, each_none, filter_all, equal_of_is_eq, is_eq_of_nats, Ruled, place_total, IsSwapOf, Route, Swap, place_cmp, put_path, take_path, has_path, FlowRoute, Held, held_count, without_peer, key_cmp, is_key, put_route, without_route, has_route, without_peer_unicast, without_peer_flows, count_in, AreSorted, Counts, count_of, flow_total}, Chosen.{held_of, with_flows}}
 use Rattle.fs_base.proofs.NumberTests.{eq_itself}
 
 above : {K : Type 0} {cmp : K → K → Ordering} (total : IsTotalOrder cmp) (k p : K) (qs : List K) → cmp k p ≡ Less → AllByRecursion (λ q. cmp p q ≡ Less) qs → AllByRecursion (λ q. cmp k q ≡ Less) qs
@@ -200,28 +200,19 @@ counted_without_flow unicast rule peer flows new before after less sorted c lowe
     let three : count_of other before ≡ count_in other unicast flows = c other in
     omega (arith, one, two, three)
 
--- a route is a new one where there are more routes behind its put
-pub fresh_put : (peer : ℕ) (prefix : Prefix) (path : Path) (unicast unicast' : List Route) → IsStrictlySortedBy place_cmp (keys_of unicast) → unicast' ≡ put_path peer prefix path unicast
-    → nat_lt (length unicast) (length unicast') ≡ not (has_path peer prefix unicast)
-fresh_put peer prefix path unicast unicast' sorted e =
-    ap (nat_lt (length unicast))
-    (ap length e ∙ sym (whole (put_path peer prefix path unicast)) ∙ size_insert (λ q. true) place_total (record { prefix = prefix; peer = peer }) path unicast sorted
-    ∙ ap (λ n. n + (if not (has_path peer prefix unicast) && true then 1 else 0)) (whole unicast))
-    ∙ at (not (has_path peer prefix unicast)) (length unicast)
-  where
-    whole : (es : List Route) → size (λ q. true) es ≡ length es
-    whole es = ap length (filter_all (λ e. true) es (each (λ e. true ≡ true) (λ e. refl) es))
-
-    at : (b : Bool) (n : ℕ) → nat_lt n (n + (if b && true then 1 else 0)) ≡ b
-    at true n = grind (arith, nat_tests)
-    at false n = grind (arith, nat_tests)
+-- a route is a new one where no path was replaced
+pub fresh_swap : (peer : ℕ) (prefix : Prefix) (swap : Swap) (unicast unicast' : List Route) (b : Bool) → IsSwapOf peer prefix swap unicast unicast' → is_some swap.old ≡ not b → b ≡ not (has_path peer prefix unicast)
+fresh_swap peer prefix swap unicast unicast' b s h = at b (sym h ∙ ap is_some (sym s.swapped.was) ∙ ap₂ (λ n q. has_path n q unicast) s.of_peer s.at_prefix) where
+  at : (b : Bool) → not b ≡ has_path peer prefix unicast → b ≡ not (has_path peer prefix unicast)
+  at true e = ap not e
+  at false e = ap not e
 
 pub counted_put : (peer : ℕ) (prefix : Prefix) (path : Path) (unicast unicast' : List Route) (flows new : List FlowRoute) (before after : Counts) (more : Bool)
-    → IsStrictlySortedBy place_cmp (keys_of unicast) → Counted unicast flows before → Raised peer more before after → more ≡ nat_lt (length unicast) (length unicast')
+    → IsStrictlySortedBy place_cmp (keys_of unicast) → Counted unicast flows before → Raised peer more before after → more ≡ not (has_path peer prefix unicast)
     → unicast' ≡ put_path peer prefix path unicast → new ≡ flows → Counted unicast' new after
 counted_put peer prefix path unicast unicast' flows new before after more sorted c raised fresh e f = λ other.
     let one : count_of other after ≡ count_of other before + (if not (has_path peer prefix unicast) && (peer == other) then 1 else 0) =
-    raised other ∙ ap (λ b. count_of other before + (if b && (peer == other) then 1 else 0)) (fresh ∙ fresh_put peer prefix path unicast unicast' sorted e) in
+    raised other ∙ ap (λ b. count_of other before + (if b && (peer == other) then 1 else 0)) fresh in
     let two : size (λ q. q.peer == other) unicast' ≡ size (λ q. q.peer == other) unicast + (if not (has_path peer prefix unicast) && (peer == other) then 1 else 0) =
     ap (size (λ q. q.peer == other)) e ∙ size_insert (λ q. q.peer == other) place_total (record { prefix = prefix; peer = peer }) path unicast sorted in
     let three : count_of other before ≡ count_in other unicast flows = c other in

@@ -1,5 +1,5 @@
 -- Of the rules that a change doesn't touch the same routes are admitted, since a route is beaten only by one of its rule.
-use Rattle.fs_rules.proofs.{Words.{◌≡◌, refl, sym, ap, ap₂, subst, ◌∙◌, Bool, true, false, not, ◌&&◌, ◌||◌, cond, List, [], ◌∷◌, filter, Ordering, Less, Equal, Greater, nat_cmp, ℕ, list_any, AllByRecursion, match_ordering, Config, Family, Prefix, and_both, and_first, and_second, false_of_not, or_second, same_tests, any_filter, any_on, each, each_both, each_weaker, filter_none, filter_on, each_mapped, equal_of_is_eq, Ruled, IsRule, destination_prefix, rule_cmp, first_equal, same_rules, preferred, Route, validity, FlowRoute, Kept, IsRight, AreRight, IsMarked, is_related_kept, routes_of, HaveRules, AdmitsElsewhere, Covers, Noted, StaysNoted, is_noted, touched_by, Held, admitted, beats, is_key, is_most_preferred, is_of_family, is_valid, key_cmp, put_route, same_rule, without_route, AgreeOff, each-filtered, each-put_route, unrelated}, Chosen.{held_of}}
+use Rattle.fs_rules.proofs.{Words.{◌≡◌, refl, sym, ap, ap₂, subst, ◌∙◌, Bool, true, false, not, ◌&&◌, ◌||◌, cond, List, [], ◌∷◌, filter, IfSome, Option, Some, Ordering, Less, Equal, Greater, nat_cmp, ℕ, list_any, AllByRecursion, match_ordering, Config, Family, Prefix, and_both, and_first, and_second, false_of_not, or_second, same_tests, any_filter, any_on, each, each_both, each_weaker, filter_none, filter_on, each_mapped, equal_of_is_eq, Ruled, IsRule, destination_prefix, rule_cmp, first_equal, same_rules, preferred, IsSwapOf, Route, Swap, validity, FlowRoute, Kept, IsRight, AreRight, IsMarked, is_related_kept, routes_of, HaveRules, MendsKept, AdmitsElsewhere, Covers, Noted, StaysNoted, is_noted, touched_by, Held, admitted, beats, is_key, is_most_preferred, is_of_family, is_valid, key_cmp, put_route, same_rule, without_route, AgreeOff, each-filtered, each-put_route, unrelated}, Chosen.{held_of}}
 use Rattle.fs_flows.proofs.Noting.{filter_both, joined, spares}
 
 filter_swap : {X : Type 0} (p q : X → Bool) (xs : List X) → filter p (filter q xs) ≡ filter q (filter p xs)
@@ -89,6 +89,15 @@ module _ (touched : Ruled → Bool) where
       (elsewhere config unicast (routes_of ks) (without_route rule peer (routes_of ks)) all (each-filtered HasRule HasRule (λ r. not (is_key rule peer r)) (λ r s _. s) (routes_of ks) all) (taken_spared rule peer h t (routes_of ks) all))) where
         all : AllByRecursion HasRule (routes_of ks)
         all = each_mapped (λ k. k.route) HasRule ks k
+
+-- a swap that was told
+pub swap_told : (peer : ℕ) (p : Prefix) (unicast other : List Route) {told : Option Swap} {swap : Swap} → IfSome told (λ s. IsSwapOf peer p s unicast other) → told ≡ Some swap → IsSwapOf peer p swap unicast other
+swap_told peer p unicast other h e = subst (λ m. IfSome m (λ s. IsSwapOf peer p s unicast other)) e h
+
+-- what is mended at its prefix is so at this one
+pub mends_at : {peer : ℕ} {p : Prefix} {swap : Swap} {config : Config} {unicast other : List Route} {ks ms : List Kept} {noted more : Noted} {before after : ℕ} → IsSwapOf peer p swap unicast other
+    → MendsKept swap.prefix other config ks ms noted more before after → MendsKept p other config ks ms noted more before after
+mends_at {config = config} {other = other} {ks} {ms} {noted} {more} {before} {after} s m = subst (λ q. MendsKept q other config ks ms noted more before after) s.at_prefix m
 
 -- where each related route that isn't noted has the validity that it had, the same rules are admitted but for the noted
 pub related_elsewhere : (noted : Noted) (p : Prefix) (config : Config) (unicast other : List Route) (ks ms : List Kept) (old : Held) → held_of config unicast (routes_of ks) ≡ old → AgreeOff p unicast other → AreRight unicast config ks

@@ -1,5 +1,5 @@
 -- The prefixes at which peers gave unicast routes, and the routes that are taken away along them.
-use Rattle.fs_rules.proofs.{Words.{ℕ, ◌≡◌, ◌≤◌, ◌+◌, refl, sym, ap, subst, ◌∙◌, Bool, true, false, true≢false, not, ◌||◌, ◌==◌, nat_lt, cond, List, [], ◌∷◌, length, Some, is_some, Ordering, Less, Equal, Greater, is_eq, nat_cmp, arith, IsTotalOrder, IsStrictlySortedBy, keys_of, lookup, remove_entry, ordering_then, nat_tests, sorted_head, sorted_tail, Config, Path, Prefix, prefix_cmp, each_weaker, each_both, each_of_map, each_insert, each_remove, filter_all, same_from_cmp, equal_of_is_eq, is_eq_of_first, Place, Route, place_cmp, put_path, has_path, place_total, place, Counts, count_of, may_hold, StaysHeld, AreHeld, AreAmong, IsKept, routes_of, Kept, Held, without_peer_unicast, related_count, remove_nothing}, Chosen.{with_unicast}, Counting.{counted_as, fresh_put}, Losing.{is_place, peers_equal, Hit, hit_at, IsLosing, losing_more}}
+use Rattle.fs_rules.proofs.{Words.{ℕ, ◌≡◌, ◌≤◌, ◌+◌, refl, sym, ap, subst, ◌∙◌, Bool, true, false, true≢false, not, ◌||◌, ◌==◌, cond, List, [], ◌∷◌, length, Some, is_some, Ordering, Less, Equal, Greater, is_eq, nat_cmp, arith, IsTotalOrder, IsStrictlySortedBy, keys_of, lookup, remove_entry, ordering_then, nat_tests, sorted_head, sorted_tail, Config, Path, Prefix, prefix_cmp, each_weaker, each_both, each_of_map, each_insert, each_remove, filter_all, same_from_cmp, equal_of_is_eq, is_eq_of_first, Place, Route, place_cmp, put_path, has_path, place_total, place, Counts, count_of, may_hold, StaysHeld, AreHeld, AreAmong, IsKept, routes_of, Kept, Held, without_peer_unicast, related_count, remove_nothing}, Chosen.{with_unicast}, Counting.{counted_as}, Losing.{is_place, peers_equal, Hit, hit_at, IsLosing, losing_more}}
 use Rattle.std.proofs.lemmas.Bool.{eqb-true}
 use Rattle.fs_flows.specs.Listed.{is_among}
 
@@ -32,13 +32,13 @@ held_there counts peer prefix (r ∷ rs) h there = at (is_place prefix peer r.0)
   at false t k ih = ih k
 
 -- so is a new one
-pub held_put : (old new : Counts) (peer : ℕ) (prefix : Prefix) (path : Path) (unicast unicast' : List Route) (more : Bool) → IsStrictlySortedBy place_cmp (keys_of unicast) → StaysHeld old new
-    → (more ≡ true → may_hold new peer prefix ≡ true) → more ≡ nat_lt (length unicast) (length unicast') → unicast' ≡ put_path peer prefix path unicast → AreHeld old unicast → AreHeld new unicast'
-held_put old new peer prefix path unicast unicast' more sorted stays listed fresh e h = subst (AreHeld new) (sym e)
+pub held_put : (old new : Counts) (peer : ℕ) (prefix : Prefix) (path : Path) (unicast unicast' : List Route) (more : Bool) → StaysHeld old new
+    → (more ≡ true → may_hold new peer prefix ≡ true) → more ≡ not (has_path peer prefix unicast) → unicast' ≡ put_path peer prefix path unicast → AreHeld old unicast → AreHeld new unicast'
+held_put old new peer prefix path unicast unicast' more stays listed fresh e h = subst (AreHeld new) (sym e)
     (each_insert place_cmp (λ q. may_hold new q.peer q.prefix ≡ true) (place prefix peer) path (at (has_path peer prefix unicast) refl) unicast (held_still old new unicast stays h)) where
       at : (b : Bool) → has_path peer prefix unicast ≡ b → may_hold new peer prefix ≡ true
       at true t = stays peer prefix (held_there old peer prefix unicast h t)
-      at false t = listed (fresh ∙ fresh_put peer prefix path unicast unicast' sorted e ∙ ap not t)
+      at false t = listed (fresh ∙ ap not t)
 
 -- Where a peer holds none, those of the others stay listed.
 abbrev StaysBut : ℕ → Counts → Counts → Type 0

@@ -132,15 +132,14 @@ impl<'a> Table<'a> {
         ensures steps { steps.new ≤ steps.old + related_count prefix self.old.flows }
         ensures idle { self.new ≡ self.old → steps.new ≡ steps.old }
     {
-        let held = self.unicast.len();
         self.counts.reserve(peer)?;
-        if !self.unicast.put_telling(peer, prefix, path)? {
+        let Some(swap) = self.unicast.put_telling(peer, prefix, path)? else {
             return Ok(());
-        }
-        let is_new = held < self.unicast.len();
+        };
+        let is_new = swap.old.is_none();
         self.counts.raise_at(peer, &prefix, is_new);
         let flows = &mut self.flows;
-        flows.mend(&prefix, &self.unicast, self.config, changes, steps);
+        flows.mend(&swap, &self.unicast, self.config, changes, steps);
         Ok(())
     }
 
@@ -199,12 +198,12 @@ impl<'a> Table<'a> {
         ensures steps { steps.new ≤ steps.old + related_count prefix.now self.old.flows }
         ensures idle { self.new ≡ self.old → steps.new ≡ steps.old }
     {
-        if !self.unicast.remove(peer, prefix) {
+        let Some(removed) = self.unicast.remove_telling(peer, prefix) else {
             return false;
-        }
+        };
         self.counts.lower(peer, true);
         let flows = &mut self.flows;
-        flows.mend(prefix, &self.unicast, self.config, changes, steps);
+        flows.mend(&removed, &self.unicast, self.config, changes, steps);
         true
     }
 

@@ -243,9 +243,9 @@ put_back (r ∷ held) z path same = at (place_cmp z r.0) refl same (put_back hel
   at Greater l k ih = ih (rest_is (insert_entry place_cmp held z path) held k)
 
 -- so another one, or one at a free place, changes the routes
-pub put_changes : (held made : List Route) (z : Place) (path : Path) (next : Option Route) → next ≡ find (is_at_or_after z) held → made ≡ insert_entry place_cmp held z path
-    → (stands_at z next ≡ false) ⊎ (option_map (λ r. r.1) next ≡ Some path → ⊥) → (true ≡ false) ↔ made ≡ held
-put_changes held made z path next found is other = ((λ e. absurd (true≢false e)), (λ same. absurd (at other (put_back held z path (sym is ∙ same))))) where
+pub put_changes : (old : Option Path) (held made : List Route) (z : Place) (path : Path) (next : Option Route) → next ≡ find (is_at_or_after z) held → made ≡ insert_entry place_cmp held z path
+    → (stands_at z next ≡ false) ⊎ (option_map (λ r. r.1) next ≡ Some path → ⊥) → (Some old ≡ None) ↔ made ≡ held
+put_changes old held made z path next found is other = ((λ e. cc), (λ same. absurd (at other (put_back held z path (sym is ∙ same))))) where
   at : (stands_at z next ≡ false) ⊎ (option_map (λ r. r.1) next ≡ Some path → ⊥)
       → (stands_at z (find (is_at_or_after z) held) ≡ true) × (option_map (λ r. r.1) (find (is_at_or_after z) held) ≡ Some path) → ⊥
   at (inl free) back = true≢false (sym back.0 ∙ ap (stands_at z) (sym found) ∙ free)

@@ -4,7 +4,7 @@ use Rattle.fs_unicast.proofs.{Words.{ℕ, ◌≡◌, ◌≤◌, refl, sym, ap, s
 abbrev pub place : Prefix → ℕ → Place
 place p n = record { prefix = p; peer = n }
 
-from_same : (o : Ordering) (n : ℕ) → is_eq o ≡ true → (is_le (ordering_then o (nat_cmp 0 n)) && true) ≡ true
+pub from_same : (o : Ordering) (n : ℕ) → is_eq o ≡ true → (is_le (ordering_then o (nat_cmp 0 n)) && true) ≡ true
 from_same Less n h = refl
 from_same Equal n h = grind (arith, nat_tests)
 from_same Greater n h = absurd (true≢false (sym h))

@@ -1,7 +1,7 @@
 -- The best route at a prefix, the best match of a prefix, and the routes under it, over one list of held routes.
 use Rattle.std.specs.{Prelude.{ℕ, ◌≡◌, Bool, not, ◌&&◌, ◌||◌, ◌==◌, true, false, Option, Some, None, List, [], ◌∷◌, filter, map, nat_le, find, option_map}, List.{AllByRecursion, list_any, list_all}, Ordering.{is_eq, is_le}, declared.ops.Bound.{Bound, TheVariants.{Included, Unbounded}}}
 use Rattle.fs_base.specs.{Prefix.{covers, prefix_cmp}, declared.{prefix.Prefix.{Prefix}, path.Path.{Path}}}
-use Rattle.fs_unicast.specs.{Neighbour.{neighbour_as}, Unicast.{Route}, Preference.{best_of}, declared.unicast.Place.{Place}}
+use Rattle.fs_unicast.specs.{Neighbour.{neighbour_as}, Unicast.{Route}, Preference.{best_of}, declared.unicast.{Place.{Place}, Swap.{Swap}}}
 
 abbrev pub candidate : Route → ℕ × Path
 candidate r = (r.0.peer, r.1)
@@ -31,6 +31,14 @@ pub record AreCoversOver (held : List Route) (d low : Prefix) : Type 0 where
 abbrev pub IsFront : Prefix → List Route → Type 0
 IsFront p [] = Unit {0}
 IsFront p (r ∷ rs) = (is_same_prefix p r.0.prefix ≡ false → filter (λ s. is_same_prefix p s.0.prefix) rs ≡ []) × IsFront p rs
+
+-- at p, and not the peer's
+abbrev pub is_beside : Prefix → ℕ → Place → Bool
+is_beside p peer q = is_same_prefix p q.prefix && not (q.peer == peer)
+
+-- the route that the swap's peer had
+abbrev pub old_route : Swap → Option (ℕ × Path)
+old_route swap = option_map (λ path. (swap.peer, path)) swap.old
 
 -- the neighbouring AS of a route, if there is one
 abbrev pub neighbour_of : ℕ → Option (ℕ × Path) → Option ℕ

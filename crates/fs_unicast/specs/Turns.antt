@@ -1,5 +1,5 @@
 -- Turns: places that part the routes of other neighbouring ASes.
-use Rattle.std.specs.{Prelude.{ℕ, ◌≡◌, ◌==◌, Bool, not, ◌&&◌, ◌||◌, true, false, Option, Some, None, List, [], ◌∷◌, if◌then◌else◌}, Borrow.{Bor}, BTreeMap.{is_at}, List.{AllByRecursion, list_any, list_all}, Option.{option_eq}, Ordering.{is_eq, is_le, is_lt}, Set.{remove_key}}
+use Rattle.std.specs.{Prelude.{ℕ, ◌≡◌, ◌==◌, Bool, not, ◌&&◌, ◌||◌, true, false, Option, Some, None, List, [], ◌∷◌, if◌then◌else◌}, Borrow.{Bor}, BTreeMap.{is_at}, List.{AllByRecursion, list_any, list_all, Sorted.{IsStrictlySortedBy}}, Map.{keys_of}, Option.{option_eq}, Ordering.{is_eq, is_le, is_lt}, Set.{remove_key}}
 use Rattle.fs_base.specs.declared.path.Path.{Path}
 use Rattle.fs_unicast.specs.{declared.unicast.Place.{Place}, Neighbour.{neighbour}, Unicast.{Route, place_cmp}}
 
@@ -84,6 +84,11 @@ IsPartedBefore turns held y asn = AllByRecursion (IsPartedTo turns y asn) held
 -- between two routes of other neighbouring AS lies a turn
 abbrev pub IsParted : List Place → List Route → Type 0
 IsParted turns held = AllByRecursion (λ r. IsPartedAfter turns held r.0 (neighbour_of r)) held
+
+-- the routes are in the order of their places, with turns among them
+pub record AreKept (turns : List Place) (held : List Route) : Type 0 where
+  pub parted : IsParted turns held
+  pub ordered : IsStrictlySortedBy place_cmp (keys_of held)
 
 -- what was parted still is
 abbrev pub StaysParted : List Place → List Place → Type 0

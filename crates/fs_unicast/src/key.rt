@@ -1,7 +1,7 @@
 //! Prefixes as keys of ordered maps.
 
-ghost use Rattle.std.specs.Prelude.{◌≡◌};
-ghost use Rattle.fs_base.specs.Prefix.{last_address};
+ghost use Rattle.std.specs.{Prelude.{◌≡◌}, Ordering.{is_eq}};
+ghost use Rattle.fs_base.specs.Prefix.{last_address, prefix_cmp};
 ghost use Rattle.fs_unicast.specs.Key.{high_of, low_of};
 
 use fs_base::{Family, Prefix};
@@ -68,6 +68,17 @@ impl PrefixKey {
         Prefix::of_bits(self.family(), self.last(), self.length)
     }
 
+    /// Whether the other is a key of the same prefix. What mostly differs is compared first.
+    #[inline]
+    pub fn is(&self, other: &PrefixKey) -> bool
+        ensures { result ≡ is_eq (prefix_cmp self.now other.now) }
+    {
+        self.high == other.high
+            && self.low == other.low
+            && self.length == other.length
+            && self.afi == other.afi
+    }
+
     fn family(&self) -> Family
         ensures { result ≡ self.now.family }
     {
@@ -111,7 +122,7 @@ impl PartialEq for PrefixKey {
     ghost laws = { partial_equiv_from_equiv (eq_by_cmp_equiv prefix_total) };
 
     fn eq(&self, other: &PrefixKey) -> bool {
-        self.cmp(other).is_eq()
+        self.is(other)
     }
 }
 

@@ -16,4 +16,4 @@ pub use laws::best_is_preferred;
 pub use neighbour::{first_as, neighbour_as};
 pub use preference::Held;
 pub use shared::SharedPath;
-pub use unicast::{Place, Unicast};
+pub use unicast::{Place, Swap, Unicast};

@@ -1,7 +1,7 @@
 //! The routes in the order of their places, and the turns among them.
 
-ghost use Rattle.std.specs.{Prelude.{◌≡◌, ◌↔◌, [], false, IfOk, OnOk, OnErr, is_some, ◌&&◌}, BTreeMap.{insert_entry, is_at}, List.{list_any}, Map.{remove_entry, lookup}};
-ghost use Rattle.fs_unicast.specs.{Search.{is_other}, Unicast.{place_cmp}, Turns.{is_within, IsParted}};
+ghost use Rattle.std.specs.{Prelude.{◌≡◌, ◌↔◌, [], Some, None, IfOk, IfSome, OnOk, OnErr, ◌&&◌}, BTreeMap.{insert_entry, is_at}, List.{list_any, Sorted.{IsStrictlySortedBy}}, Map.{remove_entry, lookup, keys_of}};
+ghost use Rattle.fs_unicast.specs.{Search.{is_other}, Unicast.{IsSwap, place_cmp, swap_at}, Turns.{is_within, IsParted}};
 
 use crate::shared::{SharedPath, has_path, share_beside};
 use crate::turns;
@@ -25,13 +25,13 @@ pub struct Routes {
 impl Model for Routes {
     ghost use Rattle.std.specs.Prelude.{List};
     ghost use Rattle.fs_base.specs.declared.path.Path.{Path};
-    ghost use Rattle.fs_unicast.specs.{declared.unicast.Place.{Place}, Turns.{IsParted}};
+    ghost use Rattle.fs_unicast.specs.{declared.unicast.Place.{Place}, Turns.{AreKept}};
 
     ghost Value = { List (Place × Path) };
 
     ghost view = { λ a. a.paths.entries };
 
-    ghost invariant = { λ a. IsParted a.turns.keys a.paths.entries };
+    ghost invariant = { λ a. AreKept a.turns.keys a.paths.entries };
 }
 
 impl Routes {
@@ -57,15 +57,20 @@ impl Routes {
         &self.paths
     }
 
-    /// Keeps the path at the place, instead of one that is there, and tells whether that changes anything: not where
-    /// this very path is there. Where memory is refused nothing changes.
-    pub fn put(&mut self, place: Place, path: SharedPath) -> Result<bool, Memory>
+    /// Keeps the path at the place, instead of one that is there, and tells what was there, if that changes anything: not
+    /// where this very path is there. Where memory is refused nothing changes.
+    pub fn put(
+        &mut self,
+        place: Place,
+        path: SharedPath,
+    ) -> Result<Option<Option<SharedPath>>, Memory>
         ensures ok { OnOk result (self.new ≡ insert_entry place_cmp self.old place path) }
-        ensures told { IfOk result (λ changed. (changed ≡ false) ↔ self.new ≡ self.old) }
+        ensures told { IfOk result (λ told. (told ≡ None) ↔ self.new ≡ self.old) }
+        ensures swap { IfOk result (λ told. IfSome told (λ old. IsSwap (swap_at place old) self.old self.new)) }
         ensures err { OnErr result (self.new ≡ self.old) }
     {
         match keep(&mut self.paths, &mut self.turns, place, path) {
-            Ok(changed) => Ok(changed),
+            Ok(told) => Ok(told),
             Err(refused) => {
                 turns::tidy(&self.paths, &mut self.turns, &place);
                 Err(refused)
@@ -73,16 +78,15 @@ impl Routes {
         }
     }
 
-    /// Takes the route at the place away, and tells whether there was one.
-    pub fn remove(&mut self, place: &Place) -> bool
+    /// Takes the route at the place away, if there is one, and gives its path.
+    pub fn remove(&mut self, place: &Place) -> Option<SharedPath>
         ensures removed { self.new ≡ remove_entry (is_at (place_cmp place.now)) self.old }
-        ensures held { result ≡ is_some (lookup (is_at (place_cmp place.now)) self.old) }
+        ensures held { result ≡ lookup (is_at (place_cmp place.now)) self.old }
+        ensures swap { IfSome result (λ path. IsSwap (swap_at place.now (Some path)) self.old self.new) }
     {
-        let Some(gone) = self.paths.remove(place) else {
-            return false;
-        };
+        let gone = self.paths.remove(place)?;
         turns::close_gap(&self.paths, &mut self.turns, place, &gone);
-        true
+        Some(gone)
     }
 
     /// Whether a route from `low` on and before `high` has another neighbouring AS than `asn`; of None, whether
@@ -94,37 +98,40 @@ impl Routes {
     }
 }
 
-/// Keeps the path at the place, with turns beside it, and tells whether that changes anything. Turns that were put
-/// before memory is refused stay.
+/// Keeps the path at the place, with turns beside it, and tells what was there, if that changes anything. Turns that were
+/// put before memory is refused stay.
 fn keep(
     paths: &mut BTreeMap<Place, SharedPath>,
     turns: &mut BTreeSet<Place>,
     place: Place,
     path: SharedPath,
-) -> Result<bool, Memory>
+) -> Result<Option<Option<SharedPath>>, Memory>
     requires { IsParted turns.old.keys paths.old.entries }
     ensures ok { OnOk result (paths.new.entries ≡ insert_entry place_cmp paths.old.entries place path) }
-    ensures told { IfOk result (λ changed. (changed ≡ false) ↔ paths.new.entries ≡ paths.old.entries) }
+    ensures told { IfOk result (λ told. (told ≡ None) ↔ paths.new.entries ≡ paths.old.entries) }
+    ensures swap { IfOk result
+        (λ told. IfSome told (λ old. IsSwap (swap_at place old) paths.old.entries paths.new.entries)) }
     ensures err { OnErr result (paths.new.entries ≡ paths.old.entries) }
     ensures parted { IsParted turns.new.keys paths.new.entries }
+    ensures ordered { IsStrictlySortedBy place_cmp (keys_of paths.new.entries) }
 {
     let asn = path.neighbour();
     let next = turns::first_from(paths, &place);
     let taken = turns::stands_at(next, &place);
     if taken && has_path(next, &path) {
-        return Ok(false);
+        return Ok(None);
     }
     if taken && turns::is_alike(next, asn) {
-        paths.insert(place, path)?;
-        return Ok(true);
+        let old = paths.insert(place, path)?;
+        return Ok(Some(old));
     }
     let after = turns::first_behind(paths, &place, next);
     let before = turns::last_before(paths, &place);
     let shared = share_beside(path, before, after)?;
     let idle = turns::part(paths, turns, &place, before, next, after, asn)?;
-    paths.insert(place, shared)?;
+    let old = paths.insert(place, shared)?;
     if idle {
         turns::tidy(paths, turns, &place);
     }
-    Ok(true)
+    Ok(Some(old))
 }

@@ -1,7 +1,7 @@
 //! Look-ups in the ordered map of routes.
 
-ghost use Rattle.std.specs.{Prelude.{◌≡◌, true, IfSome, filter, fold, map, option_map}, Option.{option_copied}, List.Sorted.{IsStrictlySortedBy}, Map.{keys_of}};
-ghost use Rattle.fs_unicast.specs.{Search.{AreCoversOver, IsFront, candidate, is_same_prefix, is_strictly_under, is_other_route, best_at, best_match_of, neighbour_of, others_under, held_by, start_of}, Preference.{better, peer_path}, Unicast.{place_cmp}};
+ghost use Rattle.std.specs.{Prelude.{◌≡◌, true, List, IfSome, filter, fold, map, option_map}, Option.{option_copied}, List.Sorted.{IsStrictlySortedBy}, Map.{keys_of}};
+ghost use Rattle.fs_unicast.specs.{Search.{AreCoversOver, IsFront, candidate, is_same_prefix, is_beside, is_strictly_under, is_other_route, best_at, best_match_of, neighbour_of, others_under, held_by, start_of, old_route}, Preference.{better, best_of, peer_path}, Unicast.{Route, IsSwap, place_cmp, path_at}};
 ghost use Rattle.fs_base.specs.Search.{IsFirstFrom};
 
 use crate::key::PrefixKey;
@@ -9,11 +9,27 @@ use crate::neighbour::{is_other, neighbour_as};
 use crate::preference::Held;
 use crate::routes::Routes;
 use crate::shared::SharedPath;
-use crate::unicast::Place;
-use fs_base::Prefix;
+use crate::unicast::{Place, Swap};
+use fs_base::{Path, Prefix};
 use std::collections::BTreeMap;
 use std::collections::btree_map::Range;
 use std::ops::Bound;
+
+/// The path of the peer's route at the prefix, if it holds one.
+pub fn path_at<'a>(
+    routes: &'a BTreeMap<Place, SharedPath>,
+    peer: u16,
+    prefix: &Prefix,
+) -> Option<&'a Path>
+    ensures { option_copied result ≡ path_at peer prefix.now routes.now.entries }
+{
+    let place = Place {
+        prefix: PrefixKey::of(prefix),
+        peer,
+    };
+    let path = routes.get(&place)?;
+    Some(path.path())
+}
 
 /// The most preferred route at the prefix.
 pub fn best_at<'a>(routes: &'a BTreeMap<Place, SharedPath>, prefix: &Prefix) -> Option<Held<'a>>
@@ -51,6 +67,68 @@ fn best_among<'a>(
     best
 }
 
+/// The most preferred route at the swap's prefix before the swap, after which these are the routes, and now.
+pub fn best_before_and_now<'a>(
+    routes: &'a BTreeMap<Place, SharedPath>,
+    swap: &'a Swap,
+) -> (Option<Held<'a>>, Option<Held<'a>>)
+    ensures before { (earlier : List Route) → IsSwap swap.now earlier routes.now.entries
+        → option_map peer_path result.0 ≡ best_at earlier swap.now.prefix }
+    ensures now { option_map peer_path result.1 ≡ best_at routes.now.entries swap.now.prefix }
+{
+    let key = PrefixKey::of(&swap.prefix);
+    let low = Place {
+        prefix: key,
+        peer: 0,
+    };
+    best_of_both(&key, swap.peer, old_route(swap), routes.range(low..))
+}
+
+/// The route that the swap's peer had.
+fn old_route(swap: &Swap) -> Option<Held<'_>>
+    ensures { option_map peer_path result ≡ old_route swap.now }
+{
+    match &swap.old {
+        Some(path) => Some(Held {
+            peer: swap.peer,
+            path: path.path(),
+        }),
+        None => None,
+    }
+}
+
+/// Of those routes at the prefix that stand in front: the most preferred of `old` and of the other peers' routes, and
+/// that of all of them.
+fn best_of_both<'a>(
+    prefix: &PrefixKey,
+    peer: u16,
+    old: Option<Held<'a>>,
+    routes: Range<'a, Place, SharedPath>,
+) -> (Option<Held<'a>>, Option<Held<'a>>)
+    requires { IsFront prefix.now routes }
+    ensures before { option_map peer_path result.0 ≡ fold better (option_map peer_path old.entry)
+        (map candidate (filter (λ r. is_beside prefix.now peer r.0) routes.entry)) }
+    ensures now { option_map peer_path result.1 ≡ best_of
+        (map candidate (filter (λ r. is_same_prefix prefix.now r.0.prefix) routes.entry)) }
+{
+    let mut before = old;
+    let mut now = None;
+    for (place, path) in routes {
+        if !is_same_prefix(prefix, &place.prefix) {
+            return (before, now);
+        }
+        let route = Held {
+            peer: place.peer,
+            path: path.path(),
+        };
+        now = Some(better(now, route));
+        if place.peer != peer {
+            before = Some(better(before, route));
+        }
+    }
+    (before, now)
+}
+
 /// The first prefix in order, from `low` on, that has a route, and the most preferred route there.
 fn best_from<'a>(
     routes: &'a BTreeMap<Place, SharedPath>,
@@ -76,7 +154,7 @@ fn best_from<'a>(
 fn is_same_prefix(one: &PrefixKey, other: &PrefixKey) -> bool
     ensures { result ≡ is_same_prefix one.now other.now }
 {
-    one.cmp(other).is_eq()
+    one.is(other)
 }
 
 fn better<'a>(best: Option<Held<'a>>, route: Held<'a>) -> Held<'a>

@@ -1,7 +1,7 @@
 //! The table of unicast routes.
 
-ghost use Rattle.std.specs.{Prelude.{◌≡◌, ◌↔◌, [], false, IfOk, OnOk, OnErr, option_map, length, ◌+◌}, List.Sorted.{IsStrictlySortedBy}, Map.{keys_of}, Option.{option_copied}};
-ghost use Rattle.fs_unicast.specs.{Unicast.{place_cmp, put_path, take_path, has_path}, Search.{best_at, best_match_of, neighbour_of, others_under, held_by}, Preference.{peer_path}};
+ghost use Rattle.std.specs.{Prelude.{◌≡◌, ◌↔◌, [], None, List, IfOk, IfSome, OnOk, OnErr, is_some, option_map, length, ◌+◌}, List.Sorted.{IsStrictlySortedBy}, Map.{keys_of}, Option.{option_copied}};
+ghost use Rattle.fs_unicast.specs.{Unicast.{Route, IsSwap, IsSwapOf, place_cmp, put_path, take_path, path_at, has_path}, Search.{best_at, best_match_of, neighbour_of, others_under, held_by}, Preference.{peer_path}};
 
 use crate::key::PrefixKey;
 use crate::preference::Held;
@@ -20,8 +20,16 @@ pub struct Place {
     pub peer: u16,
 }
 
-/// The unicast routes of both families that peers hold, at most one of a peer at a prefix. Each call that gives a route,
-/// `best`, `best_match` or `best_and_others`, counts one step.
+/// A change of one route: of which peer at which prefix, and the path that it had, if it was there.
+#[derive(Drop)]
+pub struct Swap {
+    pub peer: u16,
+    pub prefix: Prefix,
+    pub old: Option<SharedPath>,
+}
+
+/// The unicast routes of both families that peers hold, at most one of a peer at a prefix. Each call that gives a path or
+/// a route, `path_at`, `best`, `best_match`, `best_and_others` or `best_before_and_now`, counts one step.
 #[derive(Drop)]
 pub struct Unicast {
     routes: Routes,
@@ -60,24 +68,28 @@ impl Unicast {
         Ok(())
     }
 
-    /// As [`put`](Unicast::put), and tells whether that changes anything: not where the peer holds a route with this
-    /// very path at the prefix. Many routes may be given one shared path.
+    /// As [`put`](Unicast::put), and tells what that changes: nothing where the peer holds a route with this very path at
+    /// the prefix. Many routes may be given one shared path.
     pub fn put_telling(
         &mut self,
         peer: u16,
         prefix: Prefix,
         path: SharedPath,
-    ) -> Result<bool, Memory>
+    ) -> Result<Option<Swap>, Memory>
         ensures ok { OnOk result (self.new ≡ put_path peer prefix path self.old) }
-        ensures told { IfOk result (λ changed. (changed ≡ false) ↔ self.new ≡ self.old) }
+        ensures told { IfOk result (λ told. (told ≡ None) ↔ self.new ≡ self.old) }
+        ensures swap { IfOk result
+            (λ told. IfSome told (λ swap. IsSwapOf peer prefix swap self.old self.new)) }
         ensures err { OnErr result (self.new ≡ self.old) }
     {
         let place = Place {
             prefix: PrefixKey::of(&prefix),
             peer,
         };
-        let changed = self.routes.put(place, path)?;
-        Ok(changed)
+        let Some(old) = self.routes.put(place, path)? else {
+            return Ok(None);
+        };
+        Ok(Some(Swap { peer, prefix, old }))
     }
 
     /// Takes the peer's route at the prefix away, and tells whether there was one.
@@ -85,11 +97,25 @@ impl Unicast {
         ensures removed { self.new ≡ take_path peer prefix.now self.old }
         ensures held { result ≡ has_path peer prefix.now self.old }
     {
+        self.remove_telling(peer, prefix).is_some()
+    }
+
+    /// As [`remove`](Unicast::remove), and tells what that changes: nothing where there is no route.
+    pub fn remove_telling(&mut self, peer: u16, prefix: &Prefix) -> Option<Swap>
+        ensures removed { self.new ≡ take_path peer prefix.now self.old }
+        ensures held { is_some result ≡ has_path peer prefix.now self.old }
+        ensures swap { IfSome result (λ swap. IsSwapOf peer prefix.now swap self.old self.new) }
+    {
         let place = Place {
             prefix: PrefixKey::of(prefix),
             peer,
         };
-        self.routes.remove(&place)
+        let gone = self.routes.remove(&place)?;
+        Some(Swap {
+            peer,
+            prefix: *prefix,
+            old: Some(gone),
+        })
     }
 
     /// How many routes there are. They are in the order of their places.
@@ -98,6 +124,35 @@ impl Unicast {
         ensures ordered { IsStrictlySortedBy place_cmp (keys_of self.now) }
     {
         self.routes.paths().len()
+    }
+
+    /// The path of the peer's route at the prefix, if it holds one. One step.
+    pub fn path_at<'a, L: Ledger>(
+        &'a self,
+        peer: u16,
+        prefix: &Prefix,
+        steps: &mut Steps<L>,
+    ) -> Option<&'a Path>
+        ensures path { option_copied result ≡ path_at peer prefix.now self.now }
+        ensures step { steps.new ≡ steps.old + 1 }
+    {
+        steps.take(); // at one place
+        search::path_at(self.routes.paths(), peer, prefix)
+    }
+
+    /// The most preferred route at the swap's prefix before the swap, after which these are the routes, and now. One step.
+    pub fn best_before_and_now<'a, L: Ledger>(
+        &'a self,
+        swap: &'a Swap,
+        steps: &mut Steps<L>,
+    ) -> (Option<Held<'a>>, Option<Held<'a>>)
+        ensures before { (earlier : List Route) → IsSwap swap.now earlier self.now
+            → option_map peer_path result.0 ≡ best_at earlier swap.now.prefix }
+        ensures now { option_map peer_path result.1 ≡ best_at self.now swap.now.prefix }
+        ensures step { steps.new ≡ steps.old + 1 }
+    {
+        steps.take(); // at one prefix
+        search::best_before_and_now(self.routes.paths(), swap)
     }
 
     /// The most preferred route at the prefix. One step.

@@ -1,1 +1,3 @@
+mod Words
 pub mod Local
+pub mod Swapped

@@ -1,11 +1,7 @@
 -- The validity of a flow route reads only the unicast routes that its destination is related to.
-use Rattle.std.{proofs.Common.{ℕ, ◌≡◌, refl, sym, ap, ◌∙◌, Bool, true, false, true≢false, not, ◌&&◌, ◌||◌, cond, List, [], ◌∷◌, filter, map, Option, Some, None, nat_le}, specs.List.{list_any, list_all}}
-use Rattle.fs_base.{specs.{Prefix.{covers}, declared.{prefix.Prefix.{Prefix}, config.Config.{Config}}}, proofs.{Bools.{and_first, or_first, or_second}, Lists.{filter_filtered}}}
-use Rattle.fs_unicast.specs.{Unicast.{Route}, Preference.{best_of}, Search.{best_match_of, is_longest, others_under, is_other, is_strictly_under, is_same_prefix, candidate}}
-use Rattle.fs_validate.specs.{declared.{route.FlowRoute.{FlowRoute}, validity.Validity.TheVariants.{Valid, MoreSpecific, LeftAs, Originator}}, Validity.{validity, validity_to, validity_at, neighbour_of_best, has_originator, has_leftmost}, Laws.{is_related, related, AgreeAt, AgreeFor}}
-use Rattle.fs_nlri.specs.Rule.{destination_prefix}
+use Rattle.fs_validate.proofs.Words.{ℕ, ◌≡◌, refl, sym, ap, ◌∙◌, Bool, true, false, true≢false, not, ◌&&◌, ◌||◌, cond, List, [], ◌∷◌, filter, map, Option, Some, None, nat_le, list_any, list_all, covers, Prefix, Config, and_first, false_from, or_first, or_second, Route, best_of, best_match_of, is_longest, others_under, is_other, is_strictly_under, is_same_prefix, candidate, FlowRoute, Valid, MoreSpecific, LeftAs, Originator, validity, validity_to, validity_at, neighbour_of_best, has_originator, has_leftmost, is_related, related, AgreeAt, AgreeFor, destination_prefix}
 
-any_within : {X : Type 0} (p q : X → Bool) → ((x : X) → p x ≡ true → q x ≡ true) → (xs : List X) → list_any p (filter q xs) ≡ list_any p xs
+pub any_within : {X : Type 0} (p q : X → Bool) → ((x : X) → p x ≡ true → q x ≡ true) → (xs : List X) → list_any p (filter q xs) ≡ list_any p xs
 any_within p q h [] = refl
 any_within {X} p q h (x ∷ xs) = at (q x) refl (any_within p q h xs) where
   drop : (b : Bool) → (b ≡ true → q x ≡ true) → q x ≡ false → (c : Bool) → c ≡ (b || c)
@@ -28,34 +24,54 @@ all_within {X} p q h (x ∷ xs) = at (q x) refl (all_within p q h xs) where
   at true e ih = ap (λ c. p x && c) ih
   at false e ih = ih ∙ drop (p x) (h x e) (list_all p xs)
 
-neither : (a b : Bool) → (a || b) ≡ false → a ≡ false
-neither true b h = absurd (true≢false h)
-neither false b h = refl
-
-longer_passes : (a b : Bool) → a ≡ false → (not a || b) ≡ true
-longer_passes true b h = absurd (true≢false h)
-longer_passes false b h = refl
-
 same_filter : {X : Type 0} (p q : X → Bool) → ((x : X) → p x ≡ q x) → (xs : List X) → filter p xs ≡ filter q xs
 same_filter p q h [] = refl
 same_filter p q h (x ∷ xs) = let e : p x ≡ q x = h x in let k : filter p xs ≡ filter q xs = same_filter p q h xs in cc
 
--- the best match of d is that of the related routes
+filter_then : {X : Type 0} (p q : X → Bool) (xs : List X) → filter p (filter q xs) ≡ filter (λ x. q x && p x) xs
+filter_then p q [] = refl
+filter_then {X} p q (x ∷ xs) = at (q x) (filter_then p q xs) where
+  at : (b : Bool) → filter p (filter q xs) ≡ filter (λ y. q y && p y) xs → filter p (cond b (x ∷ filter q xs) (filter q xs)) ≡ cond (b && p x) (x ∷ filter (λ y. q y && p y) xs) (filter (λ y. q y && p y) xs)
+  at true ih = ap (λ ys. cond (p x) (x ∷ ys) ys) ih
+  at false ih = ih
+
+-- s's prefix is no longer than r's, if it covers d
+abbrev pub no_longer : Prefix → Route → Route → Bool
+no_longer d r s = not (covers s.0.prefix d) || nat_le s.0.prefix.length r.0.prefix.length
+
+-- The best match of d is that of the routes whose prefixes pass a test, where each route that it may be passes, and none
+-- that doesn't pass is longer than one that does.
+pub best_match_among : (held : List Route) (d : Prefix) (test : Prefix → Bool) → ((r : Route) → is_longest held d r ≡ true → test r.0.prefix ≡ true)
+    → ((r s : Route) → test r.0.prefix ≡ true → test s.0.prefix ≡ false → no_longer d r s ≡ true) → best_match_of (filter (λ r. test r.0.prefix) held) d ≡ best_match_of held d
+best_match_among held d test passes shorter = ap (λ rs. best_of (map candidate rs))
+    (filter_then (is_longest kept d) among held ∙ same_filter (λ r. among r && is_longest kept d r) (is_longest held d) (λ r. at r (among r) refl) held) where
+      among : Route → Bool
+      among r = test r.0.prefix
+
+      kept : List Route
+      kept = filter among held
+
+      at : (r : Route) (b : Bool) → among r ≡ b → (b && is_longest kept d r) ≡ is_longest held d r
+      at r true e = ap (λ b. covers r.0.prefix d && b) (all_within (no_longer d r) among (λ s f. shorter r s e f) held)
+      at r false e = sym (false_from (is_longest held d r) (λ yes. true≢false (sym (passes r yes) ∙ e)))
+
+-- so of those that pass a test which each cover of d passes
+pub best_match_covers : (held : List Route) (d : Prefix) (test : Prefix → Bool) → ((q : Prefix) → covers q d ≡ true → test q ≡ true) → best_match_of (filter (λ r. test r.0.prefix) held) d ≡ best_match_of held d
+best_match_covers held d test h = best_match_among held d test (λ r k. h r.0.prefix (and_first (covers r.0.prefix d) (list_all (no_longer d r) held) k))
+    (λ r s _ f. or_first (not (covers s.0.prefix d)) (nat_le s.0.prefix.length r.0.prefix.length) (ap not (false_from (covers s.0.prefix d) (λ c. true≢false (sym (h s.0.prefix c) ∙ f)))))
+
+-- whether another neighbouring AS is strictly under d is told by the routes that pass a test which each prefix there passes
+pub others_among : (held : List Route) (d : Prefix) (local_as : ℕ) (asn : Option ℕ) (test : Prefix → Bool) → ((q : Prefix) → is_strictly_under d q ≡ true → test q ≡ true)
+    → others_under (filter (λ r. test r.0.prefix) held) d local_as asn ≡ others_under held d local_as asn
+others_among held d local_as asn test h = any_within (λ r. is_strictly_under d r.0.prefix && is_other local_as asn r.1) (λ r. test r.0.prefix)
+    (λ r k. h r.0.prefix (and_first (is_strictly_under d r.0.prefix) (is_other local_as asn r.1) k)) held
+
+-- both are those of the related routes
 pub best_match_within : (held : List Route) (d : Prefix) → best_match_of (related d held) d ≡ best_match_of held d
-best_match_within held d = ap (λ rs. best_of (map candidate rs)) (same_filter (is_longest (related d held) d) (is_longest held d) same (related d held) ∙ filter_filtered (is_longest held d) (λ r. is_related d r.0.prefix) there held) where
-  not_longer : Route → Route → Bool
-  not_longer r s = not (covers s.0.prefix d) || nat_le s.0.prefix.length r.0.prefix.length
-
-  same : (r : Route) → is_longest (related d held) d r ≡ is_longest held d r
-  same r = ap (λ b. covers r.0.prefix d && b) (all_within (λ s. not (covers s.0.prefix d) || nat_le s.0.prefix.length r.0.prefix.length) (λ s. is_related d s.0.prefix) (λ s h. longer_passes (covers s.0.prefix d) (nat_le s.0.prefix.length r.0.prefix.length) (neither (covers s.0.prefix d) (covers d s.0.prefix) h)) held)
-
-  there : (r : Route) → is_longest held d r ≡ true → is_related d r.0.prefix ≡ true
-  there r h = or_first (covers r.0.prefix d) (covers d r.0.prefix) (and_first (covers r.0.prefix d) (list_all (λ s. not (covers s.0.prefix d) || nat_le s.0.prefix.length r.0.prefix.length) held) h)
+best_match_within held d = best_match_covers held d (is_related d) (λ q h. or_first (covers q d) (covers d q) h)
 
 pub others_within : (held : List Route) (d : Prefix) (local_as : ℕ) (asn : Option ℕ) → others_under (related d held) d local_as asn ≡ others_under held d local_as asn
-others_within held d local_as asn = any_within (λ r. is_strictly_under d r.0.prefix && is_other local_as asn r.1) (λ r. is_related d r.0.prefix) there held where
-  there : (r : Route) → (is_strictly_under d r.0.prefix && is_other local_as asn r.1) ≡ true → is_related d r.0.prefix ≡ true
-  there r h = or_second (covers r.0.prefix d) (covers d r.0.prefix) (and_first (covers d r.0.prefix) (not (is_same_prefix d r.0.prefix)) (and_first (is_strictly_under d r.0.prefix) (is_other local_as asn r.1) h))
+others_within held d local_as asn = others_among held d local_as asn (is_related d) (λ q h. or_second (covers q d) (covers d q) (and_first (covers d q) (not (is_same_prefix d q)) h))
 
 pub validity_within : (held : List Route) (config : Config) (route : FlowRoute) (d : Prefix) → validity_to (related d held) config route (Some d) ≡ validity_to held config route (Some d)
 validity_within held config route d = let e : best_match_of (related d held) d ≡ best_match_of held d = best_match_within held d in

@@ -5,9 +5,11 @@ mod basis;
 mod laws;
 mod originator;
 mod route;
+mod swap;
 mod validity;
 
 pub use basis::{Basis, basis_of, judged};
 pub use laws::agree;
 pub use route::{FlowRoute, destination};
+pub use swap::stays;
 pub use validity::{Validity, valid, validity_of};
