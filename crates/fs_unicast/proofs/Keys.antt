@@ -1,6 +1,6 @@
 -- The last address of a prefix and its length tell the prefix.
-use Rattle.fs_unicast.proofs.Words.{ℕ, ◌≡◌, ◌+◌, ◌-◌, ◌*◌, ◌/◌, ◌%◌, ◌^◌, ◌<◌, ◌≤◌, refl, sym, ap, subst, ◌∙◌, min, arith, Prefix, width_of, afi_of, cleared, prefix_of, last_address, same_prefix, IsKey, family_of, joined, high_of, low_of, last_of, least}
-use Rattle.std.proofs.lemmas.Nat.{pow_pos, shr_split}
+use Rattle.fs_unicast.proofs.Words.{ℕ, ◌≡◌, ◌+◌, ◌-◌, ◌*◌, ◌^◌, ◌<◌, ◌≤◌, refl, sym, ap, subst, ◌∙◌, min, arith, nat_tests, Prefix, width_of, cleared, prefix_of, last_address, same_prefix, IsKey, family_of, high_of, low_of, bit_of, last_of, least, shown}
+use Rattle.std.proofs.lemmas.Nat.{pow_pos}
 use Rattle.fs_base.{specs.declared.prefix.Family.{Family, TheVariants.{V4, V6}}, proofs.Blocks.{IsBlock, block_of, block_meeting}}
 
 -- the last address of a block is a block by itself
@@ -27,30 +27,29 @@ key_again p = same_prefix (prefix_of p.family (last_address p) p.length) p refl
       short : min p.length (width_of p.family) ≡ p.length
       short = least p.short
 
--- a number is its halves
-halves : (x : ℕ) → joined (x / 2 ^ 64) (x % 2 ^ 64) ≡ x
-halves x = shr_split x 64
+-- the last address lies within the width
+last_within : (p : Prefix) → last_address p < 2 ^ width_of p.family
+last_within p = let block = block_of (width_of p.family) p.length p.bits p.short p.clear in
+    let some : 0 < 2 ^ (width_of p.family - p.length) = pow_pos (width_of p.family - p.length) in omega (arith, block.within, some)
 
 -- an address is read again
-last_again : (f : Family) (x : ℕ) → last_of f (high_of f x) (low_of f x) ≡ x
+last_again : (f : Family) (x : ℕ) → last_of f (high_of f x) (low_of f x) (bit_of f x) ≡ x
 last_again V4 x = refl
-last_again V6 x = halves x
+last_again V6 x = omega arith
 
-family_again : (f : Family) → family_of (afi_of f) ≡ f
-family_again V4 = refl
-family_again V6 = refl
+family_again : (f : Family) (x : ℕ) → x < 2 ^ width_of f → family_of (high_of f x) ≡ f
+family_again V4 x h = grind (arith, nat_tests)
+family_again V6 x h = grind (arith, nat_tests)
 
 -- what a key of a prefix shows
-pub shown_again : (p : Prefix) → prefix_of (family_of (afi_of p.family)) (last_of (family_of (afi_of p.family)) (high_of p.family (last_address p)) (low_of p.family (last_address p))) p.length ≡ p
-shown_again p = ap (λ f. prefix_of f (last_of f (high_of p.family (last_address p)) (low_of p.family (last_address p))) p.length) (family_again p.family)
+pub shown_again : (p : Prefix) → shown (high_of p.family (last_address p)) (low_of p.family (last_address p)) (bit_of p.family (last_address p)) p.length ≡ p
+shown_again p = ap (λ f. prefix_of f (last_of f (high_of p.family (last_address p)) (low_of p.family (last_address p)) (bit_of p.family (last_address p))) p.length) (family_again p.family (last_address p) (last_within p))
     ∙ ap (λ x. prefix_of p.family x p.length) (last_again p.family (last_address p)) ∙ key_again p
 
-pub key_is : (p : Prefix) → IsKey (afi_of p.family) (high_of p.family (last_address p)) (low_of p.family (last_address p)) p.length
+pub key_is : (p : Prefix) → IsKey (high_of p.family (last_address p)) (low_of p.family (last_address p)) (bit_of p.family (last_address p)) p.length
 key_is p = record {
-  known = ap afi_of (family_again p.family);
-  short = subst (λ f. p.length ≤ width_of f) (sym (family_again p.family)) p.short;
-  high_again = ap (λ f. high_of f (last_address (prefix_of (family_of (afi_of p.family)) (last_of (family_of (afi_of p.family)) (high_of p.family (last_address p)) (low_of p.family (last_address p))) p.length))) (family_again p.family)
-      ∙ ap (λ q. high_of p.family (last_address q)) (shown_again p);
-  low_again = ap (λ f. low_of f (last_address (prefix_of (family_of (afi_of p.family)) (last_of (family_of (afi_of p.family)) (high_of p.family (last_address p)) (low_of p.family (last_address p))) p.length))) (family_again p.family)
-      ∙ ap (λ q. low_of p.family (last_address q)) (shown_again p);
+  short = subst (λ f. p.length ≤ width_of f) (sym (family_again p.family (last_address p) (last_within p))) p.short;
+  high_again = ap (λ q. high_of q.family (last_address q)) (shown_again p);
+  low_again = ap (λ q. low_of q.family (last_address q)) (shown_again p);
+  bit_again = ap (λ q. bit_of q.family (last_address q)) (shown_again p);
 }

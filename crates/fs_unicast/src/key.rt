@@ -2,47 +2,51 @@
 
 ghost use Rattle.std.specs.{Prelude.{◌≡◌}, Ordering.{is_eq}};
 ghost use Rattle.fs_base.specs.Prefix.{last_address, prefix_cmp};
-ghost use Rattle.fs_unicast.specs.Key.{high_of, low_of};
+ghost use Rattle.fs_unicast.specs.Key.{high_of, low_of, bit_of};
 
 use fs_base::{Family, Prefix};
 use std::cmp::Ordering;
 use std::marker::Model;
 
 /// How many numbers of 64 bits there are.
-const HALF: u128 = 1 << 64;
+const WORDS: u128 = 1 << 64;
+
+/// The first number of a key is below this in IPv4, and not in IPv6.
+const TOP: u64 = 1 << 63;
 
 /// A prefix as a key: what prefixes are ordered by stands in it as numbers that are compared one after the other, and
-/// isn't reckoned at each comparison. First the number of the family; then the last address, an IPv4 address in `high`,
-/// one of IPv6 in halves; then the length. A key takes 24 octets.
+/// isn't reckoned at each comparison. First the family and the last address: an IPv4 address in `high`, which is below
+/// 2^63; of an IPv6 address 2^63 and its top 63 bits in `high`, the next 64 in `low`, its last in `bit`. Then the
+/// length. The first number mostly decides. A key takes 24 octets.
 #[derive(Clone, Copy)]
 pub struct PrefixKey {
     high: u64,
     low: u64,
-    afi: u8,
+    bit: u8,
     length: u8,
 }
 
 impl Model for PrefixKey {
-    ghost use Rattle.fs_base.specs.{Bits.{afi_of}, Prefix.{prefix_of, last_address}, declared.prefix.Prefix.{Prefix}};
-    ghost use Rattle.fs_unicast.specs.Key.{IsKey, family_of, last_of, high_of, low_of, least};
+    ghost use Rattle.fs_base.specs.{Prefix.{last_address}, declared.prefix.Prefix.{Prefix}};
+    ghost use Rattle.fs_unicast.specs.Key.{IsKey, shown, high_of, low_of, bit_of, least};
 
     ghost Value = { Prefix };
 
-    ghost view = { λ a. prefix_of (family_of a.afi) (last_of (family_of a.afi) a.high a.low) a.length };
+    ghost view = { λ a. shown a.high a.low a.bit a.length };
 
-    ghost invariant = { λ a. IsKey a.afi a.high a.low a.length };
+    ghost invariant = { λ a. IsKey a.high a.low a.bit a.length };
 
     ghost inverse = { λ p. record {
       high = high_of p.family (last_address p);
       low = low_of p.family (last_address p);
-      afi = afi_of p.family;
+      bit = bit_of p.family (last_address p);
       length = p.length;
     } };
 
     ghost inverse_ok = { λ a h i. record {
       high = h.high_again i;
       low = h.low_again i;
-      afi = h.known i;
+      bit = h.bit_again i;
       length = least h.short i;
     } };
 }
@@ -52,11 +56,11 @@ impl PrefixKey {
     pub fn of(prefix: &Prefix) -> PrefixKey
         ensures { result ≡ prefix.now }
     {
-        let (high, low) = halves(prefix);
+        let (high, low, bit) = numbers(prefix);
         PrefixKey {
             high,
             low,
-            afi: prefix.family.afi() as u8,
+            bit,
             length: prefix.length,
         }
     }
@@ -76,13 +80,13 @@ impl PrefixKey {
         self.high == other.high
             && self.low == other.low
             && self.length == other.length
-            && self.afi == other.afi
+            && self.bit == other.bit
     }
 
     fn family(&self) -> Family
         ensures { result ≡ self.now.family }
     {
-        if self.afi == 1 {
+        if self.high < TOP {
             Family::V4
         } else {
             Family::V6
@@ -93,23 +97,28 @@ impl PrefixKey {
     fn last(&self) -> u128
         ensures { result ≡ last_address self.now }
     {
-        if self.afi == 1 {
+        if self.high < TOP {
             self.high as u128
         } else {
-            self.high as u128 * HALF + self.low as u128
+            ((self.high - TOP) as u128 * WORDS + self.low as u128) * 2 + self.bit as u128
         }
     }
 }
 
-/// The last address, as a key has it.
-fn halves(prefix: &Prefix) -> (u64, u64)
+/// The last address with the family, as a key has it.
+fn numbers(prefix: &Prefix) -> (u64, u64, u8)
     ensures high { result.0 ≡ high_of prefix.now.family (last_address prefix.now) }
     ensures low { result.1 ≡ low_of prefix.now.family (last_address prefix.now) }
+    ensures bit { result.2 ≡ bit_of prefix.now.family (last_address prefix.now) }
 {
     let last = prefix.last();
     match prefix.family {
-        Family::V4 => (last as u64, 0),
-        Family::V6 => ((last / HALF) as u64, (last % HALF) as u64),
+        Family::V4 => (last as u64, 0, 0),
+        Family::V6 => (
+            TOP + (last / 2 / WORDS) as u64,
+            (last / 2 % WORDS) as u64,
+            (last % 2) as u8,
+        ),
     }
 }
 
@@ -159,9 +168,9 @@ impl Ord for PrefixKey {
     ghost matches_eq = { λ _ _. refl };
 
     fn cmp(&self, other: &PrefixKey) -> Ordering {
-        match self.afi.cmp(&other.afi) {
-            Ordering::Equal => match self.high.cmp(&other.high) {
-                Ordering::Equal => match self.low.cmp(&other.low) {
+        match self.high.cmp(&other.high) {
+            Ordering::Equal => match self.low.cmp(&other.low) {
+                Ordering::Equal => match self.bit.cmp(&other.bit) {
                     Ordering::Equal => other.length.cmp(&self.length),
                     unlike => unlike,
                 },
