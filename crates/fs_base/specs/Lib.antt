@@ -10,6 +10,15 @@ pub use Rattle.fs_outside.specs.Outside
 pub use Rattle.fs_outside.specs.Files
 pub use Rattle.fs_outside.specs.Sink
 pub use Rattle.fs_outside.specs.Wire
+pub use Rattle.fs_outside.specs.Tallies
+pub use Rattle.fs_outside.specs.MemoryFiles
+pub use Rattle.fs_outside.specs.MemorySinks
+pub use Rattle.fs_outside.specs.MemoryWires
+pub use Rattle.fs_outside.specs.Moments
+pub use Rattle.fs_outside.specs.Gate
+pub use Rattle.fs_outside.specs.Scripts
+pub use Rattle.fs_outside.specs.MemoryGates
+pub use Rattle.fs_outside.specs.Real
 pub mod Happened
 pub mod Back
 pub mod Counted

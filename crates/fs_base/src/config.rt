@@ -4,13 +4,7 @@ ghost use Rattle.std.specs.{Prelude.{◌≡◌, ◌==◌}, Option.{option_copied
 ghost use Rattle.fs_base.specs.Config.{peer_of};
 
 use crate::items::Items;
-
-/// An address in host order: of IPv4 32 bits, of IPv6 128.
-#[derive(Clone, Copy, Debug, PartialEq, Eq, Drop)]
-pub enum Address {
-    V4(u32),
-    V6(u128),
-}
+pub use fs_outside::Address;
 
 /// A BGP speaker that the configuration names: its number, which tells it apart on a tape, its address,
 /// its AS, and how many routes it may hold at most (prefixes and rules of both families together), where

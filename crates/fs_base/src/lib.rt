@@ -3,7 +3,7 @@
 
 mod back;
 mod bits;
-mod config;
+pub mod config;
 mod counted;
 mod filling;
 mod items;
@@ -20,8 +20,9 @@ pub use config::{Address, Config, Peer, Peers};
 pub use counted::{Counted, Stop};
 pub use filling::fill;
 pub use fs_outside::{
-    CalmFiles, CalmSink, CalmWire, Clock, Failed, Files, MemClock, MemFiles, MemSink, MemWire,
-    Memory, Opening, RealClock, RealFiles, RealOut, RealWire, Sink, StillClock, Wire,
+    CalmFiles, CalmGate, CalmSink, CalmWire, Came, Clock, Cue, Event, Failed, Files, Found, Gate,
+    Held, MemClock, MemFiles, MemGate, MemSink, MemWire, Memory, Opening, Reading, RealClock,
+    RealFiles, RealGate, RealOut, RealWire, Sink, StillClock, Wire,
 };
 pub use items::Items;
 pub use laws::precedence;

@@ -1,3 +1,4 @@
 pub mod MemoryFiles
 pub mod Telling
 pub mod Answering
+pub mod Scripting

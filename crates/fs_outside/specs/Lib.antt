@@ -9,4 +9,9 @@ pub mod MemorySinks
 pub mod Cabled
 pub mod MemoryWires
 pub mod Moments
+pub mod Gate
+pub mod Heard
+pub mod Turning
+pub mod Scripts
+pub mod MemoryGates
 pub mod Real

@@ -1,5 +1,5 @@
 -- What wires in memory show.
-use Rattle.std.specs.Prelude.{ℕ, List, [], Option, Some, None, Bool, false, ◌+◌, ◌||◌, ◌==◌, nat_lt, min, length, if◌then◌else◌}
+use Rattle.std.specs.Prelude.{ℕ, List, [], Option, Some, None, Bool, false, ◌+◌, ◌||◌, ◌==◌, not, nat_lt, min, length, if◌then◌else◌}
 use Rattle.fs_outside.specs.{Tallies.{Tallied, fails, tallied}, Wire.{WireEnd, WireEnds, end_at}, Cabled.{end_of}, declared.{cable.Cable.{Cable}, memory_wires.{MemWire.{MemWire}, CalmWire.{CalmWire}}}}
 
 abbrev pub ends_of : Cable → WireEnds
@@ -46,3 +46,8 @@ calm_wire_ends wire = if wire.tells then Some (ends_of wire.cable) else None
 
 abbrev pub calm_wire_room : CalmWire → ℕ
 calm_wire_room wire = room_of wire.cable
+
+-- whether the wire tells after a write: it told, and the room wasn't passed
+abbrev pub calm_wire_tells : ℕ → Option WireEnds → ℕ → List ℕ → Bool
+calm_wire_tells room told place piece =
+    elim told [ None ↦ false | Some ends ↦ not (passes room ends place (length piece)) ]

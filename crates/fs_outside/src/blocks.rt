@@ -43,6 +43,12 @@ impl<F: Read + Drop> Blocks<F> {
         true
     }
 
+    /// What the block still holds.
+    #[inline(always)]
+    pub fn at_hand(&self) -> &[u8] {
+        &self.block[self.from..self.to]
+    }
+
     /// Reads octets into the front of `into`: what the block still holds, else of the next one, and past all blocks
     /// where `into` is as large as one.
     #[inline(never)]

@@ -133,6 +133,21 @@ impl CalmFiles {
         };
         count
     }
+
+    /// What a slot has left.
+    fn rest(&self, slot: u8) -> &[u8]
+        requires { slot ≤ 2 }
+        ensures { result.now ≡ (calm_files_shown self.now).left slot }
+    {
+        let Slot { place, taken } = self.slots[slot as usize];
+        let Some(place) = place else {
+            return &[];
+        };
+        match self.files.get(place) {
+            Some(file) if taken < file.content.len() => &file.content[taken..],
+            _ => &[],
+        }
+    }
 }
 
 impl Files for CalmFiles {
@@ -152,5 +167,9 @@ impl Files for CalmFiles {
 
     fn read(&mut self, slot: u8, into: &mut [u8]) -> Result<usize, Failed> {
         Ok(self.read_most(slot, usize::MAX, into))
+    }
+
+    fn at_hand(&self, slot: u8) -> &[u8] {
+        self.rest(slot)
     }
 }

@@ -54,4 +54,13 @@ pub trait Files {
         ensures left { IsTrue tells → ReadTakes (left self.old slot) (left self.new slot) result into.new }
         ensures opened { opened self.new ≡ opened self.old }
         ensures others { OnlySlot tells left holds slot self.old self.new };
+
+    /// What `slot` gives without a call to the outside: octets that `read` would give next, or none where that isn't
+    /// known. No clause says which: it decides only when lines leave.
+    #[inline(always)]
+    fn at_hand(&self, slot: u8) -> &[u8]
+        requires { slot ≤ 2 }
+    {
+        &[]
+    }
 }

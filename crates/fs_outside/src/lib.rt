@@ -1,12 +1,18 @@
 //! The traits by which the program meets the outside, and what implements them: in memory, and as the system has it.
 #![tactic(auto)]
 
+mod address;
 mod blocks;
 mod cable;
 mod calm_files;
+mod calm_gate;
 mod clock;
 mod clocks;
 mod files;
+mod gate;
+mod line;
+mod lines;
+mod mem_gate;
 mod memory;
 mod memory_files;
 mod memory_sinks;
@@ -14,22 +20,34 @@ mod memory_wires;
 mod openings;
 mod real;
 mod real_clock;
+mod real_gate;
 mod real_wire;
+mod remaining;
+mod rereading;
+mod script;
 mod sink;
 mod tally;
 mod text;
+mod turns;
+mod waiting;
 mod wire;
 
+pub use address::Address;
 pub use calm_files::CalmFiles;
+pub use calm_gate::CalmGate;
 pub use clock::Clock;
 pub use clocks::{MemClock, StillClock};
 pub use files::{Failed, Files};
+pub use gate::{Came, Event, Found, Gate, Reading};
+pub use mem_gate::MemGate;
 pub use memory::Memory;
 pub use memory_files::MemFiles;
 pub use memory_sinks::{CalmSink, MemSink};
 pub use memory_wires::{CalmWire, MemWire};
 pub use real::{RealFiles, RealOut};
 pub use real_clock::RealClock;
+pub use real_gate::RealGate;
 pub use real_wire::RealWire;
+pub use script::{Cue, Held};
 pub use sink::Sink;
 pub use wire::{Opening, Wire};

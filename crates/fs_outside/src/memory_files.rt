@@ -8,7 +8,8 @@ use crate::{CalmFiles, Failed, Files, Memory};
 use std::alloc::Global;
 
 /// Files in memory. Calls of `open_file` and `read` are counted together from 1, and those that a list names fail. They
-/// tell their openings as `CalmFiles` does.
+/// tell their openings as `CalmFiles` does. Nothing of them is at hand, so that each read is one of the outside; of
+/// `CalmFiles` all is that a slot has left.
 #[derive(Drop)]
 pub struct MemFiles {
     files: CalmFiles,

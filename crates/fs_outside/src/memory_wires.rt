@@ -179,29 +179,59 @@ impl CalmWire {
 }
 
 impl Wire for CalmWire {
-    ghost use Rattle.fs_outside.specs.MemoryWires.{calm_wire_ends};
+    ghost use Rattle.std.specs.Prelude.{IfSome, is_some};
+    ghost use Rattle.fs_outside.specs.{MemoryWires.{calm_wire_ends, calm_wire_room, calm_wire_tells}, Outside.{HasCause}, Wire.{Told, opened}};
 
     ghost tells = { calm_wire_ends };
 
     ghost faults = { λ wire. 0 };
 
-    fn open_end(&mut self, how: Opening<'_>) -> Result<(), Failed> {
+    fn open_end(&mut self, how: Opening<'_>) -> Result<(), Failed>
+        ensures cause { HasCause 0 0 result }
+        ensures opened { Told (EndOpens how.entry result) (calm_wire_ends self.old) (calm_wire_ends self.new) }
+        ensures all { calm_wire_ends self.new ≡ option_map (opened how.entry) (calm_wire_ends self.old) }
+        ensures room { calm_wire_room self.new ≡ calm_wire_room self.old }
+    {
         self.cable.open(how);
         Ok(())
     }
 
-    fn read(&mut self, end: u8, into: &mut [u8]) -> Result<usize, Failed> {
+    fn read(&mut self, end: u8, into: &mut [u8]) -> Result<usize, Failed>
+        requires { end ≤ 1 }
+        ensures bound { ReadsAtMost result into.new }
+        ensures cause { HasCause 0 0 result }
+        ensures reads { Told (EndReads end result into.new) (calm_wire_ends self.old) (calm_wire_ends self.new) }
+        ensures count { IfSome (calm_wire_ends self.old)
+            (λ ends. IfOk result (λ n. n ≡ min (length (end_at end ends).left) (length into.new))) }
+        ensures room { calm_wire_room self.new ≡ calm_wire_room self.old }
+        ensures tells { is_some (calm_wire_ends self.new) ≡ is_some (calm_wire_ends self.old) }
+    {
         Ok(self.cable.read(end, usize::MAX, into))
     }
 
-    fn write(&mut self, end: u8, piece: &[u8]) -> Result<usize, Failed> {
+    fn write(&mut self, end: u8, piece: &[u8]) -> Result<usize, Failed>
+        requires { end ≤ 1 }
+        ensures cause { HasCause 0 0 result }
+        ensures bound { IfOk result (λ n. n ≤ length piece.now) }
+        ensures taken { 0 < length piece.now → IfOk result (λ n. 0 < n) }
+        ensures writes { Told (EndWrites end result piece.now) (calm_wire_ends self.old) (calm_wire_ends self.new) }
+        ensures whole { IfOk result (λ n. n ≡ length piece.now) }
+        ensures room { calm_wire_room self.new ≡ calm_wire_room self.old }
+        ensures tells { is_some (calm_wire_ends self.new)
+            ≡ calm_wire_tells (calm_wire_room self.old) (calm_wire_ends self.old) end piece.now }
+    {
         if !self.tells || !self.cable.write(end, piece) {
             self.tells = false;
         }
         Ok(piece.len())
     }
 
-    fn close(&mut self, _end: u8) -> Result<(), Failed> {
+    fn close(&mut self, _end: u8) -> Result<(), Failed>
+        ensures cause { HasCause 0 0 result }
+        ensures closes { Told EndCloses (calm_wire_ends self.old) (calm_wire_ends self.new) }
+        ensures stays { calm_wire_ends self.new ≡ calm_wire_ends self.old }
+        ensures room { calm_wire_room self.new ≡ calm_wire_room self.old }
+    {
         Ok(())
     }
 }

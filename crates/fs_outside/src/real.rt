@@ -56,6 +56,17 @@ impl<F: Read + Drop> Slots<F> {
             Err(Failed) => Err(fault(&mut self.faults)),
         }
     }
+
+    /// What the block of a slot still holds.
+    #[inline(always)]
+    fn at_hand(&self, slot: u8) -> &[u8]
+        requires { slot ≤ 2 }
+    {
+        match &self.readers[slot as usize] {
+            Some(reader) => reader.at_hand(),
+            None => &[],
+        }
+    }
 }
 
 /// The files of the system. Memory refused for a slot's block counts as a fault.
@@ -107,6 +118,11 @@ impl<'a, R: rt::Files> Files for RealFiles<'a, R> {
     #[inline(always)]
     fn read(&mut self, slot: u8, into: &mut [u8]) -> Result<usize, Failed> {
         self.slots.read(slot, into)
+    }
+
+    #[inline(always)]
+    fn at_hand(&self, slot: u8) -> &[u8] {
+        self.slots.at_hand(slot)
     }
 }
 

@@ -5,7 +5,7 @@ ghost use Rattle.fs_input.specs.{Opening.{Opens}, NextRecord.{GivesNext}};
 ghost use Rattle.fs_pcap.specs.{Head.{longest_record}, Capture.{Grows, Times, heading_of, packet_from}};
 
 use crate::fault::{CaptureFault, CaptureReason};
-use crate::head::Context;
+use crate::head::{Context, HEAD_SIZE};
 use crate::header::{HEADER_SIZE, Heading, read_header};
 use fs_base::{Counted, Files, Link, fill};
 use fs_input::{Ended, next_record, opened};
@@ -110,6 +110,18 @@ impl Capture {
         ensures { result ≡ self.now.heading.link }
     {
         self.heading.link
+    }
+
+    /// Whether `next` answers without a call to the outside: the next record stands whole in what the slot gives at
+    /// once. No clause says when: it decides only when lines leave.
+    #[inline(always)]
+    pub fn is_at_hand<F: Files>(&self, files: &F) -> bool {
+        let octets = files.at_hand(self.counted.slot);
+        if octets.len() < HEAD_SIZE {
+            return false;
+        }
+        let size = self.heading.order.read_u32(&octets[8..]) as usize;
+        size <= octets.len() - HEAD_SIZE
     }
 
     /// Reads the next record. Its octets stand at the front of `into`. `None`: the capture ended behind its last

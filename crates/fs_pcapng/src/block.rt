@@ -12,6 +12,7 @@ use crate::packets::{take_described, take_enhanced, take_simple};
 use crate::section::Section;
 use byteorder::{BigEndian, ByteOrder};
 use fs_base::{Counted, Files};
+use fs_pcap::Endian;
 
 /// The type of a section header, the same in either order: a pcapng capture's first four octets.
 pub const SECTION_HEADER: u32 = 0x0a0d_0d0a;
@@ -52,6 +53,18 @@ impl Kind {
             Kind::Simple => 16,
             Kind::Other => 12,
         }
+    }
+}
+
+/// Whether these octets begin with a whole block that gives a packet.
+#[inline(always)]
+pub(crate) fn is_whole_packet(order: Endian, octets: &[u8]) -> bool {
+    if octets.len() < 8 {
+        return false;
+    }
+    match kind_of(order.read_u32(octets)) {
+        Kind::Enhanced | Kind::Simple => order.read_u32(&octets[4..]) as usize <= octets.len(),
+        Kind::Described | Kind::Other => false,
     }
 }
 

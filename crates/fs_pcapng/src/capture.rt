@@ -5,7 +5,7 @@ ghost use Rattle.fs_pcap.specs.Head.{longest_record};
 ghost use Rattle.fs_input.specs.{NextRecord.{GivesNext}, declared.fault.Fault.TheVariants.{Read}, Reads.{ScansAgain, whole}, Scan.{field}, Opening.{Begins}};
 ghost use Rattle.fs_pcapng.specs.{Block.{block_in}, Pcapng.{Grows, nothing, packet_from, pcapng_of}, declared.fault.NgReason.TheVariants.{Cut}};
 
-use crate::block::SECTION_HEADER;
+use crate::block::{SECTION_HEADER, is_whole_packet};
 use crate::caught::NgCaught;
 use crate::fault::{Got, NgFault, NgReason};
 use crate::header::take_header;
@@ -89,6 +89,17 @@ impl Ng {
         ensures { result ≡ self.now.link }
     {
         self.link
+    }
+
+    /// Whether `next` answers without a call to the outside: the next block gives a packet, and stands whole in what
+    /// the slot gives at once. No clause says when: it decides only when lines leave.
+    #[inline(always)]
+    pub fn is_at_hand<F: Files>(&self, files: &F) -> bool {
+        let octets = files.at_hand(self.counted.slot);
+        match self.section.order() {
+            Some(order) => is_whole_packet(order, octets),
+            None => false,
+        }
     }
 
     /// Reads up to the next packet. Its octets stand at the front of `into`. `None`: the capture ended behind a block.
