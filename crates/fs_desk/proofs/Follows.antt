@@ -1,5 +1,5 @@
 -- A session that is fed octet by octet and the session of all octets that the peer sent.
-use Rattle.fs_desk.proofs.{Words.{◌≡◌, ℕ, List, [], ◌∷◌, ◌++◌, length, drop, Option, Some, None, true, refl, ap, sym, ◌∙◌, append_assoc, append-nil, subst, arith, drop_all, Config, Peer, pending, Update, Closed, Phase, Step, waits, takes, stops, fresh, at_start, Last, still, closed, with_update, session_from, Live, live, step_of, Does, step_with, bounded, bounded_from, first_over, is_over, routes_left, too_many, with_updates, Follows, IsOver, AreWithin, session_takes, session_stops, session_waits}, Bounding.{next_passes, over_stays, bounded_within, bounded_over}}
+use Rattle.fs_desk.proofs.{Words.{◌≡◌, ℕ, List, [], ◌∷◌, ◌++◌, length, drop, Option, Some, None, true, refl, ap, sym, ◌∙◌, append_assoc, append-nil, subst, arith, drop_all, Config, Peer, pending, Update, Closed, Phase, Step, waits, takes, stops, fresh, at_start, Last, still, closed, with_update, session_from, Live, live, step_of, Does, step_with, bounded, bounded_from, first_over, is_over, routes_left, too_many, with_updates, Follows, IsOver, AreWithin, completed, session_takes, session_stops, session_waits}, Bounding.{next_passes, over_stays, bounded_within, bounded_over}}
 
 -- an update that a call answered, as a list
 abbrev as_list : Option Update → List Update
@@ -13,11 +13,6 @@ follows_none config peer = record { alive = refl; config_is = refl; peer_is = re
 -- which gave no update
 pub within_none : (peer : Peer) → AreWithin peer []
 within_none peer = record { small = refl; prefixes = tt }
-
-one_more : (updates : List Update) (update : Option Update) (rest : List Update × Last)
-    → with_updates updates (with_update update rest) ≡ with_updates (updates ++ as_list update) rest
-one_more updates None rest = ap (λ (u : List Update). (u ++ rest.0, rest.1)) (sym (append-nil updates))
-one_more updates (Some update) rest = ap (λ (u : List Update). (u, rest.1)) (sym (append_assoc updates (update ∷ []) rest.0))
 
 -- all octets that are sent next are the rest
 pub follows_piece : (config : Config) (peer : Peer) (octets piece : List ℕ) (session : Live) (updates : List Update)
@@ -38,44 +33,70 @@ nothing_waits config peer now = refl
 pub all_gone : (octets : List ℕ) (count : ℕ) → count ≡ length octets → drop count octets ≡ []
 all_gone octets count h = drop_all count octets (omega (arith, h))
 
+as_updates : (update : Option Update) (rest : List Update × Last) → with_update update rest ≡ with_updates (as_list update) rest
+as_updates None rest = refl
+as_updates (Some update) rest = refl
+
+updates_twice : (first second : List Update) (rest : List Update × Last) → with_updates first (with_updates second rest) ≡ with_updates (first ++ second) rest
+updates_twice first second rest = ap (λ (u : List Update). (u, rest.1)) (sym (append_assoc first second rest.0))
+
+module _ (config : Config) (peer : Peer) (rest : List ℕ) (old new : Live) (count : ℕ) (update : Option Update) where
+  -- what one step makes of all octets to come
+  fed_goes : (step : Step) → step_of config peer old.phase (pending old.framing ++ rest) ≡ step → Does step old new rest count update
+      → (more : List ℕ)
+      → session_from config peer old.phase (pending old.framing ++ (rest ++ more))
+      ≡ with_updates (as_list update) (session_from config peer new.phase (pending new.framing ++ (drop count rest ++ more)))
+  fed_goes waits h did more =
+      ap (session_from config peer old.phase) (sym (append_assoc (pending old.framing) rest more))
+      ∙ ap (λ (z : List ℕ). session_from config peer old.phase (z ++ more)) (sym did.1)
+      ∙ ap (λ (s : Phase). session_from config peer s (pending new.framing ++ more)) (sym did.2)
+      ∙ ap (λ (z : List ℕ). session_from config peer new.phase (pending new.framing ++ (z ++ more))) (sym (all_gone rest count did.0))
+      ∙ ap (λ (o : Option Update). with_updates (as_list o) (session_from config peer new.phase (pending new.framing ++ (drop count rest ++ more)))) (sym did.3)
+  fed_goes (takes next taken behind) h did more =
+      ap (session_from config peer old.phase) (sym (append_assoc (pending old.framing) rest more))
+      ∙ session_takes config peer old.phase next taken (pending old.framing ++ rest) behind more h
+      ∙ as_updates taken (session_from config peer next (behind ++ more))
+      ∙ ap (λ (o : Option Update). with_updates (as_list o) (session_from config peer next (behind ++ more))) (sym did.4)
+      ∙ ap (λ (s : Phase). with_updates (as_list update) (session_from config peer s (behind ++ more))) (sym did.3)
+      ∙ ap (λ (z : List ℕ). with_updates (as_list update) (session_from config peer new.phase (z ++ more))) did.1
+      ∙ ap (λ (z : List ℕ). with_updates (as_list update) (session_from config peer new.phase (z ++ (drop count rest ++ more)))) (sym did.2)
+  fed_goes (stops why) h did more = absurd did
+
+-- the updates that an open session is to take of a piece are the one that a call took, and those of the rest
+pub completed_fed : (old new : Live) (piece : List ℕ) (count : ℕ) (update : Option Update) → new.config ≡ old.config → new.peer ≡ old.peer
+    → Does (step_with old piece) old new piece count update → completed old piece ≡ as_list update ++ completed new (drop count piece)
+completed_fed old new piece count update c p did =
+    ap (λ (z : List ℕ). (session_from old.config old.peer old.phase (pending old.framing ++ z)).0) (sym (append-nil piece))
+    ∙ ap (λ (r : List Update × Last). r.0) (fed_goes old.config old.peer piece old new count update (step_with old piece) refl did [])
+    ∙ ap (λ (z : List ℕ). as_list update ++ (session_from old.config old.peer new.phase (pending new.framing ++ z)).0) (append-nil (drop count piece))
+    ∙ ap (λ (o : Config). as_list update ++ (session_from o old.peer new.phase (pending new.framing ++ drop count piece)).0) (sym c)
+    ∙ ap (λ (q : Peer). as_list update ++ (session_from new.config q new.phase (pending new.framing ++ drop count piece)).0) (sym p)
+
 module _ (config : Config) (peer : Peer) (octets rest : List ℕ) (old new : Live) (updates : List Update) (count : ℕ) (update : Option Update) where
+  -- in the octets in hand no message stands whole
+  still_waits : (step : Step) → step_of config peer old.phase (pending old.framing ++ rest) ≡ step → Does step old new rest count update
+      → step_of config peer new.phase (pending new.framing) ≡ waits
+  still_waits waits h did =
+      ap (λ (z : List ℕ). step_of config peer new.phase z) did.1
+      ∙ ap (λ (s : Phase). step_of config peer s (pending old.framing ++ rest)) did.2
+      ∙ h
+  still_waits (takes next taken behind) h did = ap (λ (z : List ℕ). step_of config peer new.phase z) did.2
+  still_waits (stops why) h did = absurd did
+
   -- what one step makes of the record
   by_step : Follows config peer octets rest old updates → new.closed ≡ None → new.config ≡ config → new.peer ≡ peer
       → (step : Step) → step_of config peer old.phase (pending old.framing ++ rest) ≡ step → Does step old new rest count update
       → Follows config peer octets (drop count rest) new (updates ++ as_list update)
-  by_step f alive c p waits h did = record {
+  by_step f alive c p step h did = record {
     alive = alive;
     config_is = c;
     peer_is = p;
-    waiting =
-        ap (λ (z : List ℕ). step_of config peer new.phase z) did.1
-        ∙ ap (λ (s : Phase). step_of config peer s (pending old.framing ++ rest)) did.2
-        ∙ h;
+    waiting = still_waits step h did;
     goes = λ more.
         f.goes more
-        ∙ ap (λ (z : List ℕ). with_updates updates (session_from config peer old.phase z)) (sym (append_assoc (pending old.framing) rest more))
-        ∙ ap (λ (z : List ℕ). with_updates updates (session_from config peer old.phase (z ++ more))) (sym did.1)
-        ∙ ap (λ (s : Phase). with_updates updates (session_from config peer s (pending new.framing ++ more))) (sym did.2)
-        ∙ ap (λ (z : List ℕ). with_updates updates (session_from config peer new.phase (pending new.framing ++ (z ++ more)))) (sym (all_gone rest count did.0))
-        ∙ ap (λ (u : List Update). with_updates u (session_from config peer new.phase (pending new.framing ++ (drop count rest ++ more)))) (sym (append-nil updates))
-        ∙ ap (λ (o : Option Update). with_updates (updates ++ as_list o) (session_from config peer new.phase (pending new.framing ++ (drop count rest ++ more)))) (sym did.3);
+        ∙ ap (with_updates updates) (fed_goes config peer rest old new count update step h did more)
+        ∙ updates_twice updates (as_list update) (session_from config peer new.phase (pending new.framing ++ (drop count rest ++ more)));
   }
-  by_step f alive c p (takes next taken behind) h did = record {
-    alive = alive;
-    config_is = c;
-    peer_is = p;
-    waiting = ap (λ (z : List ℕ). step_of config peer new.phase z) did.2;
-    goes = λ more.
-        f.goes more
-        ∙ ap (λ (z : List ℕ). with_updates updates (session_from config peer old.phase z)) (sym (append_assoc (pending old.framing) rest more))
-        ∙ ap (λ (r : List Update × Last). with_updates updates r) (session_takes config peer old.phase next taken (pending old.framing ++ rest) behind more h)
-        ∙ one_more updates taken (session_from config peer next (behind ++ more))
-        ∙ ap (λ (o : Option Update). with_updates (updates ++ as_list o) (session_from config peer next (behind ++ more))) (sym did.4)
-        ∙ ap (λ (s : Phase). with_updates (updates ++ as_list update) (session_from config peer s (behind ++ more))) (sym did.3)
-        ∙ ap (λ (z : List ℕ). with_updates (updates ++ as_list update) (session_from config peer new.phase (z ++ more))) did.1
-        ∙ ap (λ (z : List ℕ). with_updates (updates ++ as_list update) (session_from config peer new.phase (z ++ (drop count rest ++ more)))) (sym did.2);
-  }
-  by_step f alive c p (stops why) h did = absurd did
 
   -- what a call took is gone from the rest
   pub follows_fed : Follows config peer octets rest old updates → new.closed ≡ None → new.config ≡ old.config → new.peer ≡ old.peer

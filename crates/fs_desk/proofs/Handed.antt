@@ -1,13 +1,13 @@
 -- What a piece makes of the session that a desk keeps of a peer.
-use Rattle.fs_desk.proofs.{Words.{◌≡◌, ◌==◌, ℕ, List, [], ◌∷◌, ◌++◌, Option, Some, None, ap, sym, ◌∙◌, subst, append-nil, nat_cmp, set_value, is_at, peer_of, Config, Peer, eq_itself, if_true, pending, Noted, Held, Closed, Times, Handed, Point, handed, hand, runs_by, waits, Live, step_of, receiver, at_moment, runs_waits, Item, received, Desked, HandsPeer, IsHanded, PeerIs, Played, session_at, life, Comes, IsFed, PieceComes, TakesPiece, comes_to, point_of}, Coming.{at_greatest}, Played.{desk_fed, desk_of, session_value}}
+use Rattle.fs_desk.proofs.{Words.{◌≡◌, ◌==◌, ℕ, Bool, true, false, List, [], ◌∷◌, ◌++◌, Option, Some, None, ap, sym, ◌∙◌, subst, append-nil, nat_cmp, set_value, is_at, peer_of, Config, Peer, eq_itself, if_true, pending, Noted, Held, Closed, Fault, Times, Handed, Point, handed, hand, runs_by, waits, Live, step_of, receiver, at_moment, runs_waits, Item, received, Desked, HandsPeer, IsHanded, PeerIs, PlayedBut, StandsAs, expired_after, session_at, life, Comes, IsFed, PieceComes, TakesPiece, comes_to, point_of}, Coming.{at_greatest}, Played.{StaysClosed, desk_fed, desk_of, session_value}}
 
 -- in the octets that wait of an open session no message stands whole
 abbrev Waits : Live → Type 0
 Waits session = step_of session.config session.peer session.phase (pending session.framing) ≡ waits
 
-open_waits : (config : Config) (items : List Item) (n : ℕ) (session : Live) (desk : Desked) → session_at n desk.sessions ≡ Some session → session.closed ≡ None → Played config items desk → Waits session
-open_waits config items n session desk there alive p =
-    by (peer_of n config.peers) (life n items) (subst (λ (x : Option Live). PeerIs config (peer_of n config.peers) (life n items) x n desk.held) there (p.each n))
+open_waits : {expired : ℕ → Bool} (config : Config) (items : List Item) (n : ℕ) (session : Live) (desk : Desked) → session_at n desk.sessions ≡ Some session → session.closed ≡ None → PlayedBut expired config items desk → Waits session
+open_waits {expired} config items n session desk there alive p =
+    by_expired (expired n) (subst (λ (x : Option Live). StandsAs (expired n) config (peer_of n config.peers) (life n items) x n desk.held) there (p.each n))
   where
     by : (q : Option Peer) (l : Option (List ℕ)) → PeerIs config q l (Some session) n desk.held → Waits session
     by None None k = absurd k
@@ -18,6 +18,13 @@ open_waits config items n session desk there alive p =
         ap (λ (c : Config). step_of c session.peer session.phase (pending session.framing)) fed.0.config_is
         ∙ ap (λ (q : Peer). step_of config q session.phase (pending session.framing)) fed.0.peer_is
         ∙ fed.0.waiting
+
+    never : Some (Fault 4 0) ≡ None → ⊥
+    never e = cc
+
+    by_expired : (b : Bool) → StandsAs b config (peer_of n config.peers) (life n items) (Some session) n desk.held → Waits session
+    by_expired true k = absurd (never (sym k.0 ∙ alive))
+    by_expired false k = by (peer_of n config.peers) (life n items) k
 
 -- an open session with no octets that follow stands there
 stands_there : (session : Live) → session.closed ≡ None → Waits session → comes_to session [] ≡ handed (point_of session) [] []
@@ -51,16 +58,16 @@ one_session : (found session : Live) (o : Option Live) → o ≡ Some found → 
 one_session found session o e f = ap (λ (x : Option Live). elim x [ None ↦ found | Some l ↦ l ]) (sym e ∙ f)
 
 pub desk_handed : (noted noted' : Noted) (n : ℕ) (piece replies replies' : List ℕ) (session session' : Live) (own : Config) (table table' : Held) (sessions sessions' : List (ℕ × Live)) (old : Desked)
-    → old ≡ desk_of own table noted sessions → session_at n sessions ≡ Some session → TakesPiece n session session' table table' piece replies replies' → PieceComes session session' piece replies replies'
+    → old ≡ desk_of own table noted sessions → session_at n sessions ≡ Some session → TakesPiece n session session' table table' piece replies replies' → StaysClosed session session' table table' replies replies' → PieceComes session session' piece replies replies'
     → sessions' ≡ set_value (is_at (nat_cmp n)) sessions session' → HandsPeer n old (desk_of own table' noted' sessions') piece replies replies'
-desk_handed noted noted' n piece replies replies' session session' own table table' sessions sessions' old e there takes comes s config items found found' p here here' alive =
+desk_handed noted noted' n piece replies replies' session session' own table table' sessions sessions' old e there takes stays comes s expired config items found found' p here here' alive =
     let first : found ≡ session = one_session found session (session_at n sessions) (ap (λ (d : Desked). session_at n d.sessions) (sym e) ∙ here) there in
     let now_there : session_at n sessions' ≡ Some session' = session_value n n session session' sessions sessions' there s ∙ if_true (n == n) _ _ (eq_itself n) in
     let last : found' ≡ session' = one_session found' session' (session_at n sessions') here' now_there in
     let after : session'.closed ≡ None = ap (λ (l : Live). l.closed) (sym last) ∙ alive in
     let both = comes after in
-    let whole : Played config (items ++ received n piece ∷ []) (desk_of own table' noted' sessions') =
-    desk_fed {noted = noted} {noted' = noted'} config items n piece replies replies' session session' own table table' sessions sessions' old e there takes s p in
+    let whole : PlayedBut (expired_after (received n piece) expired) config (items ++ received n piece ∷ []) (desk_of own table' noted' sessions') =
+    desk_fed {noted = noted} {noted' = noted'} config items n piece replies replies' session session' own table table' sessions sessions' old e there takes stays s p in
     subst (λ (l : Live). IsHanded l found' piece replies replies') (sym first)
     (subst (λ (l : Live). IsHanded session l piece replies replies') (sym last)
     (is_handed session session' piece replies replies' both.0 both.1 after (open_waits config (items ++ received n piece ∷ []) n session' (desk_of own table' noted' sessions') now_there after whole)))
@@ -68,7 +75,7 @@ desk_handed noted noted' n piece replies replies' session session' own table tab
 -- a peer that is down has no session
 pub desk_unhanded : (noted noted' : Noted) (n : ℕ) (piece replies : List ℕ) (own : Config) (table table' : Held) (sessions sessions' : List (ℕ × Live)) (old : Desked) → old ≡ desk_of own table noted sessions → session_at n sessions ≡ None
     → HandsPeer n old (desk_of own table' noted' sessions') piece replies replies
-desk_unhanded noted noted' n piece replies own table table' sessions sessions' old e none config items found found' p here here' alive =
+desk_unhanded noted noted' n piece replies own table table' sessions sessions' old e none expired config items found found' p here here' alive =
     absurd (never (sym (ap (λ (d : Desked). session_at n d.sessions) (sym e) ∙ here) ∙ none))
   where
     never : Some found ≡ None → ⊥

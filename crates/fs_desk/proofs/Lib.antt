@@ -5,6 +5,7 @@ mod Coming
 mod CountedKeys
 mod Follows
 mod Handed
+mod Idle
 mod KeyedLists
 mod KeyedSame
 mod Keys

@@ -1,5 +1,5 @@
 -- The desk behind one more item of the tape.
-use Rattle.fs_desk.proofs.{Words.{◌≡◌, ◌==◌, ℕ, List, [], ◌∷◌, ◌++◌, Bool, true, false, cond, Option, Some, None, if◌then◌else◌, option_map, refl, ap, sym, ◌∙◌, subst, append-nil, arith, unwrap_or, IsSome, nat_tests, nat_cmp, is_eq, IsTotalOrder, nat_cmp_total, eq_by_cmp_equiv, IsStrictlySortedBy, remove_entry, set_value, keys_of, insert_entry, is_at, lookup-remove_entry, lookup-set_value, keys-set_value, IsDistinct-from_sorted, peer_of, Config, Peer, eq_itself, equal_of_eq, equal_of_is_eq, is_eq_of_nats, if_true, if_false, Noted, Held, fresh, Live, live, begins, Item, came_up, received, was_lost, bounds_life, begins_life, sent_in, life, Changes, nothing, IsListed, bounded_replies_from, IsLeft, Spares, IsUp, TakesPiece, Desked, session_at, PeerIs, Played, Replied, lookup-insert_entry, sorted-insert_entry, sorted-remove_entry}, Life.{life-bound, life-more}, Follows.{follows_none, within_none}, Replying.{replied_none}, Updates.{left_nothing, left_spared, spares_others}}
+use Rattle.fs_desk.proofs.{Words.{◌≡◌, ◌==◌, ℕ, List, [], ◌∷◌, ◌++◌, Bool, true, false, not, ◌&&◌, cond, Option, Some, None, if◌then◌else◌, option_map, refl, ap, sym, ◌∙◌, subst, append-nil, arith, unwrap_or, IsSome, nat_tests, nat_cmp, is_eq, IsTotalOrder, nat_cmp_total, eq_by_cmp_equiv, IsStrictlySortedBy, remove_entry, set_value, keys_of, insert_entry, is_at, lookup-remove_entry, lookup-set_value, keys-set_value, IsDistinct-from_sorted, peer_of, Config, Peer, eq_itself, equal_of_eq, equal_of_is_eq, is_eq_of_nats, if_true, if_false, Noted, Held, Closed, fresh, Live, live, begins, Item, came_up, received, was_lost, bounds_life, begins_life, sent_in, life, Changes, nothing, IsListed, bounded_replies_from, IsLeft, Spares, IsUp, TakesPiece, Desked, session_at, PeerIs, StandsAs, HasExpired, PlayedBut, Played, Replied, RepliedBy, expired_after, lookup-insert_entry, sorted-insert_entry, sorted-remove_entry}, Life.{life-bound, life-more}, Follows.{follows_none, within_none}, Replying.{replied_none}, Updates.{left_nothing, left_spared, spares_none, spares_others}}
 
 same_swapped : (m n : ℕ) (b : Bool) → (m == n) ≡ b → (n == m) ≡ b
 same_swapped m n b h = grind (arith, nat_tests, h)
@@ -33,6 +33,29 @@ peer_spared config peer l l' s s' n m old new e f spares apart p =
     at None (Some x) (Some y) k = absurd k
     at (Some q) (Some x) (Some y) k = record { updates = k.updates; fed = k.fed; replied = k.replied; left = left_spared n m k.updates old new spares apart k.left }
 
+-- likewise where its session has expired
+pub stands_spared : (config : Config) (peer : Option Peer) (b b' : Bool) (l l' : Option (List ℕ)) (s s' : Option Live) (n m : ℕ) (old new : Held)
+    → b' ≡ b → l' ≡ l → s' ≡ s → Spares n old new → (m == n) ≡ false → StandsAs b config peer l s m old → StandsAs b' config peer l' s' m new
+stands_spared config peer b b' l l' s s' n m old new a e f spares apart p =
+    subst (λ (x : Bool). StandsAs x config peer l' s' m new) (sym a) (by b p)
+  where
+    expired : (o : Option Live) → HasExpired o m old → HasExpired o m new
+    expired None k = absurd k
+    expired (Some session) k = (k.0, left_spared n m [] old new spares apart k.1)
+
+    by : (x : Bool) → StandsAs x config peer l s m old → StandsAs x config peer l' s' m new
+    by true k = subst (λ (o : Option Live). HasExpired o m new) (sym f) (expired s k)
+    by false k = peer_spared config peer l l' s s' n m old new e f spares apart k
+
+-- an item of another peer leaves a session expired or not, and one that bounds the peer's life doesn't
+stays_expired : (b bounds : Bool) → bounds ≡ false → (b && not bounds) ≡ b
+stays_expired true bounds e = ap not e
+stays_expired false bounds e = refl
+
+none_expired : (b bounds : Bool) → bounds ≡ true → (b && not bounds) ≡ false
+none_expired true bounds e = ap not e
+none_expired false bounds e = refl
+
 -- an item of another peer doesn't touch a life
 life_other : (m : ℕ) (items : List Item) (item : Item) → bounds_life m item ≡ false → begins_life m item ≡ false → sent_in m item ≡ [] → life m (items ++ item ∷ []) ≡ life m items
 life_other m items item t u s =
@@ -58,20 +81,22 @@ up_life : (n : ℕ) (items : List Item) → life n (items ++ came_up n ∷ []) �
 up_life n items = life-bound n items (came_up n) (eq_itself n) ∙ ap (λ (b : Bool). if b then Some [] else None) (eq_itself n)
 
 -- the peer was lost
-pub played_lost : (config : Config) (items : List Item) (n : ℕ) (old new : Desked)
+pub played_lost : {expired : ℕ → Bool} (config : Config) (items : List Item) (n : ℕ) (old new : Desked)
     → Changes n nothing nothing old.held new.held → new.config ≡ old.config → new.sessions ≡ remove_entry (is_at (nat_cmp n)) old.sessions
-    → Played config items old → Played config (items ++ was_lost n ∷ []) new
-played_lost config items n old new t c s p = record {
+    → PlayedBut expired config items old → PlayedBut (expired_after (was_lost n) expired) config (items ++ was_lost n ∷ []) new
+played_lost {expired} config items n old new t c s p = record {
   config_is = c ∙ p.config_is;
   held_is = t.config_is ∙ p.held_is;
   listed = t.listed p.listed;
   sessions = subst (λ (z : List (ℕ × Live)). IsStrictlySortedBy nat_cmp (keys_of z)) (sym s) (sorted-remove_entry nat_cmp nat_cmp_total (is_at (nat_cmp n)) old.sessions p.sessions);
-  each = each_peer (λ m. PeerIs config (peer_of m config.peers) (life m (items ++ was_lost n ∷ [])) (session_at m new.sessions) m new.held) n
+  each = each_peer (λ m. StandsAs (expired_after (was_lost n) expired m) config (peer_of m config.peers) (life m (items ++ was_lost n ∷ [])) (session_at m new.sessions) m new.held) n
+      (subst (λ (b : Bool). StandsAs b config (peer_of n config.peers) (life n (items ++ was_lost n ∷ [])) (session_at n new.sessions) n new.held) (sym (none_expired (expired n) (n == n) (eq_itself n)))
       (subst (λ (x : Option (List ℕ)). PeerIs config (peer_of n config.peers) x (session_at n new.sessions) n new.held) (sym (lost_life n items))
       (subst (λ (x : Option Live). PeerIs config (peer_of n config.peers) None x n new.held)
       (sym (ap (session_at n) s ∙ session_gone n n old.sessions p.sessions ∙ if_true (n == n) _ _ (eq_itself n)))
-      (left_nothing n old.held new.held t p.listed)))
-      (λ m e. peer_spared config (peer_of m config.peers) (life m items) (life m (items ++ was_lost n ∷ [])) (session_at m old.sessions) (session_at m new.sessions) n m old.held new.held
+      (left_nothing n old.held new.held t p.listed))))
+      (λ m e. stands_spared config (peer_of m config.peers) (expired m) (expired_after (was_lost n) expired m) (life m items) (life m (items ++ was_lost n ∷ [])) (session_at m old.sessions) (session_at m new.sessions) n m old.held new.held
+      (stays_expired (expired m) (n == m) (same_swapped m n false e))
       (life_other m items (was_lost n) (same_swapped m n false e) refl refl)
       (ap (session_at m) s ∙ session_gone m n old.sessions p.sessions ∙ if_false (m == n) _ _ e)
       (spares_others n nothing nothing old.held new.held t p.listed) e (p.each m));
@@ -83,83 +108,123 @@ left_down config peer None n held k = k
 left_down config None (Some s) n held k = absurd k
 left_down config (Some peer) (Some s) n held k = absurd k
 
-pub played_up : (config : Config) (items : List Item) (n : ℕ) (peer : Peer) (session : Live) (mid new : Desked)
+pub played_up : (expired : ℕ → Bool) (config : Config) (items : List Item) (n : ℕ) (peer : Peer) (session : Live) (mid new : Desked)
     → peer_of n config.peers ≡ Some peer → session ≡ live config peer fresh
     → new.config ≡ mid.config → new.held ≡ mid.held → new.sessions ≡ insert_entry nat_cmp mid.sessions n session
-    → Played config (items ++ was_lost n ∷ []) mid → Played config (items ++ came_up n ∷ []) new
-played_up config items n peer session mid new q v c h s p = record {
+    → PlayedBut (expired_after (was_lost n) expired) config (items ++ was_lost n ∷ []) mid → PlayedBut (expired_after (came_up n) expired) config (items ++ came_up n ∷ []) new
+played_up expired config items n peer session mid new q v c h s p = record {
   config_is = c ∙ p.config_is;
   held_is = ap (λ (z : Held). z.config) h ∙ p.held_is;
   listed = subst (λ (z : Held). IsListed z) (sym h) p.listed;
   sessions = subst (λ (z : List (ℕ × Live)). IsStrictlySortedBy nat_cmp (keys_of z)) (sym s) (sorted-insert_entry nat_cmp nat_cmp_total n session mid.sessions p.sessions);
-  each = each_peer (λ m. PeerIs config (peer_of m config.peers) (life m (items ++ came_up n ∷ [])) (session_at m new.sessions) m new.held) n at
-      (λ m e. subst (λ (z : Held). PeerIs config (peer_of m config.peers) (life m (items ++ came_up n ∷ [])) (session_at m new.sessions) m z) (sym h)
-      (subst (λ (x : Option Live). PeerIs config (peer_of m config.peers) (life m (items ++ came_up n ∷ [])) x m mid.held)
+  each = each_peer (λ m. StandsAs (expired_after (came_up n) expired m) config (peer_of m config.peers) (life m (items ++ came_up n ∷ [])) (session_at m new.sessions) m new.held) n at
+      (λ m e. subst (λ (z : Held). StandsAs (expired_after (came_up n) expired m) config (peer_of m config.peers) (life m (items ++ came_up n ∷ [])) (session_at m new.sessions) m z) (sym h)
+      (subst (λ (x : Option Live). StandsAs (expired_after (came_up n) expired m) config (peer_of m config.peers) (life m (items ++ came_up n ∷ [])) x m mid.held)
       (sym (ap (session_at m) s ∙ session_put m n session mid.sessions ∙ if_false (m == n) _ _ e))
-      (subst (λ (x : Option (List ℕ)). PeerIs config (peer_of m config.peers) x (session_at m mid.sessions) m mid.held)
+      (subst (λ (x : Option (List ℕ)). StandsAs (expired_after (came_up n) expired m) config (peer_of m config.peers) x (session_at m mid.sessions) m mid.held)
       (life_other m items (was_lost n) (same_swapped m n false e) refl refl ∙ sym (life_other m items (came_up n) (same_swapped m n false e) (same_swapped m n false e) refl))
       (p.each m))));
 }
   where
+    over : (expired n && not (n == n)) ≡ false
+    over = none_expired (expired n) (n == n) (eq_itself n)
+
     down : IsLeft n [] mid.held
     down = left_down config (peer_of n config.peers) (session_at n mid.sessions) n mid.held
-        (subst (λ (x : Option (List ℕ)). PeerIs config (peer_of n config.peers) x (session_at n mid.sessions) n mid.held) (lost_life n items) (p.each n))
+        (subst (λ (x : Option (List ℕ)). PeerIs config (peer_of n config.peers) x (session_at n mid.sessions) n mid.held) (lost_life n items)
+        (subst (λ (b : Bool). StandsAs b config (peer_of n config.peers) (life n (items ++ was_lost n ∷ [])) (session_at n mid.sessions) n mid.held) over (p.each n)))
 
     first : IsUp config peer n [] session mid.held
     first = subst (λ (z : Live). IsUp config peer n [] z mid.held) (sym v) (record { updates = []; fed = (follows_none config peer, within_none peer); replied = replied_none config peer; left = down })
 
-    at : PeerIs config (peer_of n config.peers) (life n (items ++ came_up n ∷ [])) (session_at n new.sessions) n new.held
+    at : StandsAs (expired_after (came_up n) expired n) config (peer_of n config.peers) (life n (items ++ came_up n ∷ [])) (session_at n new.sessions) n new.held
     at =
-        subst (λ (z : Held). PeerIs config (peer_of n config.peers) (life n (items ++ came_up n ∷ [])) (session_at n new.sessions) n z) (sym h)
+        subst (λ (b : Bool). StandsAs b config (peer_of n config.peers) (life n (items ++ came_up n ∷ [])) (session_at n new.sessions) n new.held) (sym over)
+        (subst (λ (z : Held). PeerIs config (peer_of n config.peers) (life n (items ++ came_up n ∷ [])) (session_at n new.sessions) n z) (sym h)
         (subst (λ (x : Option Live). PeerIs config (peer_of n config.peers) (life n (items ++ came_up n ∷ [])) x n mid.held)
         (sym (ap (session_at n) s ∙ session_put n n session mid.sessions ∙ if_true (n == n) _ _ (eq_itself n)))
         (subst (λ (x : Option (List ℕ)). PeerIs config (peer_of n config.peers) x (Some session) n mid.held) (sym (up_life n items))
-        (subst (λ (x : Option Peer). PeerIs config x (Some []) (Some session) n mid.held) (sym q) first)))
+        (subst (λ (x : Option Peer). PeerIs config x (Some []) (Some session) n mid.held) (sym q) first))))
 
 received_life : (n : ℕ) (items : List Item) (piece : List ℕ) → life n (items ++ received n piece ∷ []) ≡ option_map (λ octets. octets ++ piece) (life n items)
 received_life n items piece =
     life-more n items (received n piece) refl refl
     ∙ ap (λ (z : List ℕ). option_map (λ octets. octets ++ z) (life n items)) (if_true (n == n) piece [] (eq_itself n))
 
+-- a session that has closed takes nothing of a piece
+abbrev pub StaysClosed : Live → Live → Held → Held → (before now : List ℕ) → Type 0
+StaysClosed session session' table table' before now =
+    IsSome session.closed → (session' ≡ session) × ((table' ≡ table) × (now ≡ before))
+
+has_closed : (session : Live) (n : ℕ) (held : Held) (sessions : Option Live) → sessions ≡ Some session → HasExpired sessions n held → IsSome session.closed
+has_closed session n held sessions there k =
+    let own : HasExpired (Some session) n held = subst (λ (o : Option Live). HasExpired o n held) there k in
+    subst (λ (c : Option Closed). IsSome c) (sym own.0) refl
+
 -- the session of a peer that is up took a piece
-pub played_octets : (config : Config) (items : List Item) (n : ℕ) (piece before now : List ℕ) (session session' : Live) (old new : Desked)
-    → session_at n old.sessions ≡ Some session → TakesPiece n session session' old.held new.held piece before now
+pub played_octets : {expired : ℕ → Bool} (config : Config) (items : List Item) (n : ℕ) (piece before now : List ℕ) (session session' : Live) (old new : Desked)
+    → session_at n old.sessions ≡ Some session → TakesPiece n session session' old.held new.held piece before now → StaysClosed session session' old.held new.held before now
     → new.config ≡ old.config → ((m : ℕ) → session_at m new.sessions ≡ (if m == n then Some session' else session_at m old.sessions))
     → IsStrictlySortedBy nat_cmp (keys_of new.sessions)
-    → Played config items old → Played config (items ++ received n piece ∷ []) new
-played_octets config items n piece before now session session' old new there takes c s sorted p =
-    by (peer_of n config.peers) (life n items) refl refl (subst (λ (x : Option Live). PeerIs config (peer_of n config.peers) (life n items) x n old.held) there (p.each n))
+    → PlayedBut expired config items old → PlayedBut (expired_after (received n piece) expired) config (items ++ received n piece ∷ []) new
+played_octets {expired} config items n piece before now session session' old new there takes stays c s sorted p =
+    by_expired (expired n) refl
   where
-    by : (q : Option Peer) (l : Option (List ℕ)) → peer_of n config.peers ≡ q → life n items ≡ l → PeerIs config q l (Some session) n old.held
-        → Played config (items ++ received n piece ∷ []) new
-    by None None f g k = absurd k
-    by (Some peer) None f g k = absurd k
-    by None (Some octets) f g k = absurd k
-    by (Some peer) (Some octets) f g k =
+    behind : List Item
+    behind = items ++ received n piece ∷ []
+
+    from : (own : StandsAs (expired n) config (peer_of n config.peers) (life n behind) (session_at n new.sessions) n new.held) → Spares n old.held new.held
+        → PlayedBut (expired_after (received n piece) expired) config behind new
+    from own spares = record {
+      config_is = c ∙ p.config_is;
+      held_is = spares.config_is ∙ p.held_is;
+      listed = spares.listed;
+      sessions = sorted;
+      each = each_peer (λ m. StandsAs (expired_after (received n piece) expired m) config (peer_of m config.peers) (life m behind) (session_at m new.sessions) m new.held) n
+          (subst (λ (b : Bool). StandsAs b config (peer_of n config.peers) (life n behind) (session_at n new.sessions) n new.held) (sym (stays_expired (expired n) false refl)) own)
+          (λ m e. stands_spared config (peer_of m config.peers) (expired m) (expired_after (received n piece) expired m) (life m items) (life m behind) (session_at m old.sessions) (session_at m new.sessions) n m old.held new.held
+          (stays_expired (expired m) false refl)
+          (life_other m items (received n piece) refl refl (if_false (n == m) piece [] (same_swapped m n false e)))
+          (s m ∙ if_false (m == n) _ _ e) spares e (p.each m));
+    }
+
+    by : expired n ≡ false → (q : Option Peer) (l : Option (List ℕ)) → peer_of n config.peers ≡ q → life n items ≡ l → PeerIs config q l (Some session) n old.held
+        → PlayedBut (expired_after (received n piece) expired) config behind new
+    by x None None f g k = absurd k
+    by x (Some peer) None f g k = absurd k
+    by x None (Some octets) f g k = absurd k
+    by x (Some peer) (Some octets) f g k =
         let took = takes config peer octets p.listed k in
-        let at : PeerIs config (peer_of n config.peers) (life n (items ++ received n piece ∷ [])) (session_at n new.sessions) n new.held =
-        subst (λ (x : Option Live). PeerIs config (peer_of n config.peers) (life n (items ++ received n piece ∷ [])) x n new.held)
+        from
+        (subst (λ (b : Bool). StandsAs b config (peer_of n config.peers) (life n behind) (session_at n new.sessions) n new.held) (sym x)
+        (subst (λ (o : Option Live). PeerIs config (peer_of n config.peers) (life n behind) o n new.held)
         (sym (s n ∙ if_true (n == n) _ _ (eq_itself n)))
-        (subst (λ (x : Option (List ℕ)). PeerIs config (peer_of n config.peers) x (Some session') n new.held)
+        (subst (λ (o : Option (List ℕ)). PeerIs config (peer_of n config.peers) o (Some session') n new.held)
         (sym (received_life n items piece ∙ ap (option_map (λ z. z ++ piece)) g))
-        (subst (λ (x : Option Peer). PeerIs config x (Some (octets ++ piece)) (Some session') n new.held) (sym f) took.0)) in
-        record {
-          config_is = c ∙ p.config_is;
-          held_is = took.1.0.config_is ∙ p.held_is;
-          listed = took.1.0.listed;
-          sessions = sorted;
-          each = each_peer (λ m. PeerIs config (peer_of m config.peers) (life m (items ++ received n piece ∷ [])) (session_at m new.sessions) m new.held) n at
-              (λ m e. peer_spared config (peer_of m config.peers) (life m items) (life m (items ++ received n piece ∷ [])) (session_at m old.sessions) (session_at m new.sessions) n m old.held new.held
-              (life_other m items (received n piece) refl refl (if_false (n == m) piece [] (same_swapped m n false e)))
-              (s m ∙ if_false (m == n) _ _ e) took.1.0 e (p.each m));
-        }
+        (subst (λ (o : Option Peer). PeerIs config o (Some (octets ++ piece)) (Some session') n new.held) (sym f) took.0))))
+        took.1.0
+
+    by_expired : (b : Bool) → expired n ≡ b → PlayedBut (expired_after (received n piece) expired) config behind new
+    by_expired false x =
+        by x (peer_of n config.peers) (life n items) refl refl
+        (subst (λ (o : Option Live). PeerIs config (peer_of n config.peers) (life n items) o n old.held) there
+        (subst (λ (b : Bool). StandsAs b config (peer_of n config.peers) (life n items) (session_at n old.sessions) n old.held) x (p.each n)))
+    by_expired true x =
+        let own : HasExpired (session_at n old.sessions) n old.held =
+        subst (λ (b : Bool). StandsAs b config (peer_of n config.peers) (life n items) (session_at n old.sessions) n old.held) x (p.each n) in
+        let same = stays (has_closed session n old.held (session_at n old.sessions) there own) in
+        from
+        (subst (λ (b : Bool). StandsAs b config (peer_of n config.peers) (life n behind) (session_at n new.sessions) n new.held) (sym x)
+        (subst (λ (h : Held). HasExpired (session_at n new.sessions) n h) (sym same.1.0)
+        (subst (λ (o : Option Live). HasExpired o n old.held)
+        (there ∙ ap Some (sym same.0) ∙ sym (s n ∙ if_true (n == n) _ _ (eq_itself n))) own)))
+        (subst (λ (h : Held). Spares n old.held h) (sym same.1.0) (spares_none n old.held p.listed))
 
 -- the session of a peer that is up replied to a piece
-pub played_replied : (config : Config) (items : List Item) (n : ℕ) (piece before now : List ℕ) (session session' : Live) (desk : Desked) (table' : Held)
-    → session_at n desk.sessions ≡ Some session → TakesPiece n session session' desk.held table' piece before now → Played config items desk
-    → Replied config n (life n items) piece before now
-played_replied config items n piece before now session session' desk table' there takes p =
-    by (peer_of n config.peers) (life n items) refl (subst (λ (x : Option Live). PeerIs config (peer_of n config.peers) (life n items) x n desk.held) there (p.each n))
+pub played_replied : {expired : ℕ → Bool} (config : Config) (items : List Item) (n : ℕ) (piece before now : List ℕ) (session session' : Live) (desk : Desked) (table' : Held)
+    → session_at n desk.sessions ≡ Some session → TakesPiece n session session' desk.held table' piece before now → StaysClosed session session' desk.held table' before now
+    → PlayedBut expired config items desk → RepliedBy (expired n) config n (life n items) piece before now
+played_replied {expired} config items n piece before now session session' desk table' there takes stays p = by_expired (expired n) (p.each n)
   where
     of : List ℕ → Option Peer → List ℕ
     of octets q = elim q [ None ↦ [] | Some peer ↦ bounded_replies_from config peer octets ]
@@ -172,40 +237,50 @@ played_replied config items n piece before now session session' desk table' ther
         let r = (takes config peer octets p.listed k).1.1 in
         (r.0, r.1, ap (of (octets ++ piece)) f ∙ r.2 ∙ ap (λ (z : List ℕ). z ++ r.0) (sym (ap (of octets) f)))
 
+    by_expired : (b : Bool) → StandsAs b config (peer_of n config.peers) (life n items) (session_at n desk.sessions) n desk.held → RepliedBy b config n (life n items) piece before now
+    by_expired true k = (stays (has_closed session n desk.held (session_at n desk.sessions) there k)).1.1
+    by_expired false k = by (peer_of n config.peers) (life n items) refl (subst (λ (x : Option Live). PeerIs config (peer_of n config.peers) (life n items) x n desk.held) there k)
+
 no_life : (config : Config) (peer : Option Peer) (l : Option (List ℕ)) (n : ℕ) (held : Held) → PeerIs config peer l None n held → l ≡ None
 no_life config peer None n held k = refl
 no_life config None (Some octets) n held k = absurd k
 no_life config (Some peer) (Some octets) n held k = absurd k
 
+no_session : (config : Config) (peer : Option Peer) (b : Bool) (l : Option (List ℕ)) (n : ℕ) (held : Held) → StandsAs b config peer l None n held → l ≡ None
+no_session config peer true l n held k = absurd k
+no_session config peer false l n held k = no_life config peer l n held k
+
+is_down : {expired : ℕ → Bool} (config : Config) (items : List Item) (n : ℕ) (desk : Desked) → session_at n desk.sessions ≡ None → PlayedBut expired config items desk → life n items ≡ None
+is_down {expired} config items n desk none p =
+    no_session config (peer_of n config.peers) (expired n) (life n items) n desk.held
+    (subst (λ (x : Option Live). StandsAs (expired n) config (peer_of n config.peers) (life n items) x n desk.held) none (p.each n))
+
 -- the octets of a peer that is down are skipped
-pub played_skipped : (config : Config) (items : List Item) (n : ℕ) (piece : List ℕ) (desk : Desked)
-    → session_at n desk.sessions ≡ None → Played config items desk → Played config (items ++ received n piece ∷ []) desk
-played_skipped config items n piece desk none p = record {
+pub played_skipped : {expired : ℕ → Bool} (config : Config) (items : List Item) (n : ℕ) (piece : List ℕ) (desk : Desked)
+    → session_at n desk.sessions ≡ None → PlayedBut expired config items desk → PlayedBut (expired_after (received n piece) expired) config (items ++ received n piece ∷ []) desk
+played_skipped {expired} config items n piece desk none p = record {
   config_is = p.config_is;
   held_is = p.held_is;
   listed = p.listed;
   sessions = p.sessions;
-  each = λ m. subst (λ (x : Option (List ℕ)). PeerIs config (peer_of m config.peers) x (session_at m desk.sessions) m desk.held) (sym (skipped m)) (p.each m);
+  each = λ m. subst (λ (b : Bool). StandsAs b config (peer_of m config.peers) (life m (items ++ received n piece ∷ [])) (session_at m desk.sessions) m desk.held) (sym (stays_expired (expired m) false refl))
+      (subst (λ (x : Option (List ℕ)). StandsAs (expired m) config (peer_of m config.peers) x (session_at m desk.sessions) m desk.held) (sym (skipped m)) (p.each m));
 }
   where
-    down : life n items ≡ None
-    down = no_life config (peer_of n config.peers) (life n items) n desk.held
-        (subst (λ (x : Option Live). PeerIs config (peer_of n config.peers) (life n items) x n desk.held) none (p.each n))
-
     own : life n (items ++ received n piece ∷ []) ≡ life n items
-    own = received_life n items piece ∙ ap (option_map (λ z. z ++ piece)) down ∙ sym down
+    own = received_life n items piece ∙ ap (option_map (λ z. z ++ piece)) (is_down config items n desk none p) ∙ sym (is_down config items n desk none p)
 
     skipped : (m : ℕ) → life m (items ++ received n piece ∷ []) ≡ life m items
     skipped = each_peer (λ m. life m (items ++ received n piece ∷ []) ≡ life m items) n own (λ m e. life_other m items (received n piece) refl refl (if_false (n == m) piece [] (same_swapped m n false e)))
 
 -- and not answered
-pub played_silent : (config : Config) (items : List Item) (n : ℕ) (piece before : List ℕ) (desk : Desked)
-    → session_at n desk.sessions ≡ None → Played config items desk → Replied config n (life n items) piece before before
-played_silent config items n piece before desk none p =
-    subst (λ (l : Option (List ℕ)). Replied config n l piece before before)
-    (sym (no_life config (peer_of n config.peers) (life n items) n desk.held
-    (subst (λ (x : Option Live). PeerIs config (peer_of n config.peers) (life n items) x n desk.held) none (p.each n))))
-    refl
+pub played_silent : {expired : ℕ → Bool} (config : Config) (items : List Item) (n : ℕ) (piece before : List ℕ) (desk : Desked)
+    → session_at n desk.sessions ≡ None → PlayedBut expired config items desk → RepliedBy (expired n) config n (life n items) piece before before
+played_silent {expired} config items n piece before desk none p = by (expired n)
+  where
+    by : (b : Bool) → RepliedBy b config n (life n items) piece before before
+    by true = refl
+    by false = subst (λ (l : Option (List ℕ)). Replied config n l piece before before) (sym (is_down config items n desk none p)) refl
 
 -- before the first item
 pub played_none : (config : Config) (noted : Noted) (desk : Desked) → desk ≡ record { config = config; held = record { config = config; unicast = []; flows = [] }; changes = noted; sessions = [] } → Played config [] desk
@@ -222,29 +297,29 @@ played_none config noted desk e = subst (λ (d : Desked). Played config [] d) (s
     }
 
 -- of the desk's parts
-pub desk_lost : {noted noted' : Noted} (config : Config) (items : List Item) (n : ℕ) (own : Config) (table table' : Held) (sessions sessions' : List (ℕ × Live)) (old : Desked)
+pub desk_lost : {noted noted' : Noted} {expired : ℕ → Bool} (config : Config) (items : List Item) (n : ℕ) (own : Config) (table table' : Held) (sessions sessions' : List (ℕ × Live)) (old : Desked)
     → old ≡ record { config = own; held = table; changes = noted; sessions = sessions } → Changes n nothing nothing table table' → sessions' ≡ remove_entry (is_at (nat_cmp n)) sessions
-    → Played config items old → Played config (items ++ was_lost n ∷ []) (record { config = own; held = table'; changes = noted'; sessions = sessions' })
-desk_lost {noted} {noted'} config items n own table table' sessions sessions' old e t s p =
+    → PlayedBut expired config items old → PlayedBut (expired_after (was_lost n) expired) config (items ++ was_lost n ∷ []) (record { config = own; held = table'; changes = noted'; sessions = sessions' })
+desk_lost {noted} {noted'} {expired} config items n own table table' sessions sessions' old e t s p =
     played_lost config items n (record { config = own; held = table; changes = noted; sessions = sessions }) (record { config = own; held = table'; changes = noted'; sessions = sessions' }) t refl s
-    (subst (λ (d : Desked). Played config items d) e p)
+    (subst (λ (d : Desked). PlayedBut expired config items d) e p)
 
-pub desk_octets : {noted noted' : Noted} (config : Config) (items : List Item) (n : ℕ) (piece before now : List ℕ) (session session' : Live) (own : Config) (table table' : Held) (sessions sessions' : List (ℕ × Live)) (old : Desked)
+pub desk_octets : {noted noted' : Noted} {expired : ℕ → Bool} (config : Config) (items : List Item) (n : ℕ) (piece before now : List ℕ) (session session' : Live) (own : Config) (table table' : Held) (sessions sessions' : List (ℕ × Live)) (old : Desked)
     → old ≡ record { config = own; held = table; changes = noted; sessions = sessions }
-    → session_at n sessions ≡ Some session → TakesPiece n session session' table table' piece before now
+    → session_at n sessions ≡ Some session → TakesPiece n session session' table table' piece before now → StaysClosed session session' table table' before now
     → ((m : ℕ) → session_at m sessions' ≡ (if m == n then Some session' else session_at m sessions))
     → (IsStrictlySortedBy nat_cmp (keys_of sessions) → IsStrictlySortedBy nat_cmp (keys_of sessions'))
-    → Played config items old → Played config (items ++ received n piece ∷ []) (record { config = own; held = table'; changes = noted'; sessions = sessions' })
-desk_octets {noted} {noted'} config items n piece before now session session' own table table' sessions sessions' old e there takes s sorted p =
-    let q : Played config items (record { config = own; held = table; changes = noted; sessions = sessions }) = subst (λ (d : Desked). Played config items d) e p in
-    played_octets config items n piece before now session session' (record { config = own; held = table; changes = noted; sessions = sessions }) (record { config = own; held = table'; changes = noted'; sessions = sessions' }) there takes refl s (sorted q.sessions) q
+    → PlayedBut expired config items old → PlayedBut (expired_after (received n piece) expired) config (items ++ received n piece ∷ []) (record { config = own; held = table'; changes = noted'; sessions = sessions' })
+desk_octets {noted} {noted'} {expired} config items n piece before now session session' own table table' sessions sessions' old e there takes stays s sorted p =
+    let q : PlayedBut expired config items (record { config = own; held = table; changes = noted; sessions = sessions }) = subst (λ (d : Desked). PlayedBut expired config items d) e p in
+    played_octets config items n piece before now session session' (record { config = own; held = table; changes = noted; sessions = sessions }) (record { config = own; held = table'; changes = noted'; sessions = sessions' }) there takes stays refl s (sorted q.sessions) q
 
-pub desk_skipped : {noted : Noted} (config : Config) (items : List Item) (n : ℕ) (piece : List ℕ) (own : Config) (table : Held) (sessions sessions' : List (ℕ × Live)) (old : Desked)
+pub desk_skipped : {noted : Noted} {expired : ℕ → Bool} (config : Config) (items : List Item) (n : ℕ) (piece : List ℕ) (own : Config) (table : Held) (sessions sessions' : List (ℕ × Live)) (old : Desked)
     → old ≡ record { config = own; held = table; changes = noted; sessions = sessions } → session_at n sessions ≡ None → sessions' ≡ sessions
-    → Played config items old → Played config (items ++ received n piece ∷ []) (record { config = own; held = table; changes = noted; sessions = sessions' })
-desk_skipped {noted} config items n piece own table sessions sessions' old e none same p =
-    subst (λ (z : List (ℕ × Live)). Played config (items ++ received n piece ∷ []) (record { config = own; held = table; changes = noted; sessions = z })) (sym same)
-    (played_skipped config items n piece (record { config = own; held = table; changes = noted; sessions = sessions }) none (subst (λ (d : Desked). Played config items d) e p))
+    → PlayedBut expired config items old → PlayedBut (expired_after (received n piece) expired) config (items ++ received n piece ∷ []) (record { config = own; held = table; changes = noted; sessions = sessions' })
+desk_skipped {noted} {expired} config items n piece own table sessions sessions' old e none same p =
+    subst (λ (z : List (ℕ × Live)). PlayedBut (expired_after (received n piece) expired) config (items ++ received n piece ∷ []) (record { config = own; held = table; changes = noted; sessions = z })) (sym same)
+    (played_skipped config items n piece (record { config = own; held = table; changes = noted; sessions = sessions }) none (subst (λ (d : Desked). PlayedBut expired config items d) e p))
 
 pub played_new : {noted : Noted} (config : Config) (table : Held) (sessions : List (ℕ × Live)) → table ≡ record { config = config; unicast = []; flows = [] } → sessions ≡ []
     → Played config [] (record { config = config; held = table; changes = noted; sessions = sessions })
@@ -259,13 +334,13 @@ begun own None session h = absurd cc
 begun own (Some peer) session h = (peer, refl, ap (λ (s : Option Live). unwrap_or s session) (sym h))
 
 -- a new session of a lost peer is kept
-pub desk_up : {noted : Noted} (config : Config) (items : List Item) (n : ℕ) (session : Live) (own : Config) (table : Held) (sessions sessions' : List (ℕ × Live)) (mid : Desked)
+pub desk_up : {noted : Noted} (expired : ℕ → Bool) (config : Config) (items : List Item) (n : ℕ) (session : Live) (own : Config) (table : Held) (sessions sessions' : List (ℕ × Live)) (mid : Desked)
     → mid ≡ record { config = own; held = table; changes = noted; sessions = sessions } → begins own n ≡ Some session → sessions' ≡ insert_entry nat_cmp sessions n session
-    → Played config (items ++ was_lost n ∷ []) mid → Played config (items ++ came_up n ∷ []) (record { config = own; held = table; changes = noted; sessions = sessions' })
-desk_up {noted} config items n session own table sessions sessions' mid e b s p =
-    let q : Played config (items ++ was_lost n ∷ []) (record { config = own; held = table; changes = noted; sessions = sessions }) = subst (λ (d : Desked). Played config (items ++ was_lost n ∷ []) d) e p in
+    → PlayedBut (expired_after (was_lost n) expired) config (items ++ was_lost n ∷ []) mid → PlayedBut (expired_after (came_up n) expired) config (items ++ came_up n ∷ []) (record { config = own; held = table; changes = noted; sessions = sessions' })
+desk_up {noted} expired config items n session own table sessions sessions' mid e b s p =
+    let q : PlayedBut (expired_after (was_lost n) expired) config (items ++ was_lost n ∷ []) (record { config = own; held = table; changes = noted; sessions = sessions }) = subst (λ (d : Desked). PlayedBut (expired_after (was_lost n) expired) config (items ++ was_lost n ∷ []) d) e p in
     let found = begun own (peer_of n own.peers) session b in
-    played_up config items n found.0 session (record { config = own; held = table; changes = noted; sessions = sessions }) (record { config = own; held = table; changes = noted; sessions = sessions' })
+    played_up expired config items n found.0 session (record { config = own; held = table; changes = noted; sessions = sessions }) (record { config = own; held = table; changes = noted; sessions = sessions' })
     (ap (λ (c : Config). peer_of n c.peers) (sym q.config_is) ∙ found.1)
     (found.2 ∙ ap (λ (c : Config). live c found.0 fresh) q.config_is)
     refl refl s q
@@ -297,37 +372,38 @@ pub sorted_value : (n : ℕ) (session' : Live) (sessions sessions' : List (ℕ �
 sorted_value n session' sessions sessions' s sorted =
     subst (λ (ks : List ℕ). IsStrictlySortedBy nat_cmp ks) (sym (ap keys_of s ∙ keys-set_value (is_at (nat_cmp n)) sessions session')) sorted
 
-pub desk_fed : {noted noted' : Noted} (config : Config) (items : List Item) (n : ℕ) (piece before now : List ℕ) (session session' : Live) (own : Config) (table table' : Held) (sessions sessions' : List (ℕ × Live)) (old : Desked)
+pub desk_fed : {noted noted' : Noted} {expired : ℕ → Bool} (config : Config) (items : List Item) (n : ℕ) (piece before now : List ℕ) (session session' : Live) (own : Config) (table table' : Held) (sessions sessions' : List (ℕ × Live)) (old : Desked)
     → old ≡ record { config = own; held = table; changes = noted; sessions = sessions }
     → session_at n sessions ≡ Some session → TakesPiece n session session' table table' piece before now
+    → StaysClosed session session' table table' before now
     → sessions' ≡ set_value (is_at (nat_cmp n)) sessions session'
-    → Played config items old → Played config (items ++ received n piece ∷ []) (record { config = own; held = table'; changes = noted'; sessions = sessions' })
-desk_fed {noted} {noted'} config items n piece before now session session' own table table' sessions sessions' old e there takes s p =
-    desk_octets {noted = noted} {noted' = noted'} config items n piece before now session session' own table table' sessions sessions' old e there takes
+    → PlayedBut expired config items old → PlayedBut (expired_after (received n piece) expired) config (items ++ received n piece ∷ []) (record { config = own; held = table'; changes = noted'; sessions = sessions' })
+desk_fed {noted} {noted'} {expired} config items n piece before now session session' own table table' sessions sessions' old e there takes stays s p =
+    desk_octets {noted = noted} {noted' = noted'} config items n piece before now session session' own table table' sessions sessions' old e there takes stays
     (λ m. session_value m n session session' sessions sessions' there s)
     (sorted_value n session' sessions sessions' s)
     p
 
-pub desk_replied : {noted : Noted} (config : Config) (items : List Item) (n : ℕ) (piece before now : List ℕ) (session session' : Live) (own : Config) (table table' : Held) (sessions : List (ℕ × Live)) (old : Desked)
-    → old ≡ record { config = own; held = table; changes = noted; sessions = sessions } → session_at n sessions ≡ Some session → TakesPiece n session session' table table' piece before now
-    → Played config items old → Replied config n (life n items) piece before now
-desk_replied {noted} config items n piece before now session session' own table table' sessions old e there takes p =
-    played_replied config items n piece before now session session' (record { config = own; held = table; changes = noted; sessions = sessions }) table' there takes
-    (subst (λ (d : Desked). Played config items d) e p)
+pub desk_replied : {noted : Noted} {expired : ℕ → Bool} (config : Config) (items : List Item) (n : ℕ) (piece before now : List ℕ) (session session' : Live) (own : Config) (table table' : Held) (sessions : List (ℕ × Live)) (old : Desked)
+    → old ≡ record { config = own; held = table; changes = noted; sessions = sessions } → session_at n sessions ≡ Some session → TakesPiece n session session' table table' piece before now → StaysClosed session session' table table' before now
+    → PlayedBut expired config items old → RepliedBy (expired n) config n (life n items) piece before now
+desk_replied {noted} {expired} config items n piece before now session session' own table table' sessions old e there takes stays p =
+    played_replied config items n piece before now session session' (record { config = own; held = table; changes = noted; sessions = sessions }) table' there takes stays
+    (subst (λ (d : Desked). PlayedBut expired config items d) e p)
 
-pub desk_silent : {noted : Noted} (config : Config) (items : List Item) (n : ℕ) (piece before : List ℕ) (own : Config) (table : Held) (sessions : List (ℕ × Live)) (old : Desked)
+pub desk_silent : {noted : Noted} {expired : ℕ → Bool} (config : Config) (items : List Item) (n : ℕ) (piece before : List ℕ) (own : Config) (table : Held) (sessions : List (ℕ × Live)) (old : Desked)
     → old ≡ record { config = own; held = table; changes = noted; sessions = sessions } → session_at n sessions ≡ None
-    → Played config items old → Replied config n (life n items) piece before before
-desk_silent {noted} config items n piece before own table sessions old e none p =
+    → PlayedBut expired config items old → RepliedBy (expired n) config n (life n items) piece before before
+desk_silent {noted} {expired} config items n piece before own table sessions old e none p =
     played_silent config items n piece before (record { config = own; held = table; changes = noted; sessions = sessions }) none
-    (subst (λ (d : Desked). Played config items d) e p)
+    (subst (λ (d : Desked). PlayedBut expired config items d) e p)
 
 abbrev pub desk_of : Config → Held → Noted → List (ℕ × Live) → Desked
 desk_of own table noted sessions = record { config = own; held = table; changes = noted; sessions = sessions }
 
 -- the sessions stayed as they were
-pub desk_stays : {noted : Noted} (config : Config) (items : List Item) (own : Config) (table : Held) (sessions sessions' : List (ℕ × Live)) (old : Desked)
+pub desk_stays : {noted : Noted} {expired : ℕ → Bool} (config : Config) (items : List Item) (own : Config) (table : Held) (sessions sessions' : List (ℕ × Live)) (old : Desked)
     → old ≡ record { config = own; held = table; changes = noted; sessions = sessions } → sessions' ≡ sessions
-    → Played config items old → Played config items (record { config = own; held = table; changes = noted; sessions = sessions' })
-desk_stays {noted} config items own table sessions sessions' old e s p =
-    subst (λ (d : Desked). Played config items d) (e ∙ ap (λ (z : List (ℕ × Live)). desk_of own table noted z) (sym s)) p
+    → PlayedBut expired config items old → PlayedBut expired config items (record { config = own; held = table; changes = noted; sessions = sessions' })
+desk_stays {noted} {expired} config items own table sessions sessions' old e s p =
+    subst (λ (d : Desked). PlayedBut expired config items d) (e ∙ ap (λ (z : List (ℕ × Live)). desk_of own table noted z) (sym s)) p

@@ -1,5 +1,5 @@
 -- How it stands with a peer: the sessions that a desk keeps beside those of the tape's octets.
-use Rattle.fs_desk.proofs.{Words.{◌≡◌, ℕ, List, [], Option, Some, None, refl, ap, sym, ◌∙◌, peer_of, Config, Peer, Update, Held, Closed, Last, still, at_start, Item, life, Desked, session_at, PeerIs, Played, standing_of, standing_at_desk, bounded_from, bounded_session, IsFed, Down, Ended, standing_at, standing_by}, Follows.{follows_session, over_session}}
+use Rattle.fs_desk.proofs.{Words.{◌≡◌, ℕ, Bool, true, false, if◌then◌else◌, List, [], Option, Some, None, refl, ap, sym, ◌∙◌, peer_of, Config, Peer, Update, Held, Closed, Fault, Last, still, at_start, Item, life, Desked, session_at, PeerIs, PlayedBut, Played, StandsAs, standing_but, standing_of, standing_at_desk, bounded_from, bounded_session, IsFed, Down, Ended, standing_at, standing_by}, Follows.{follows_session, over_session}}
 use Rattle.fs_speaker.specs.{Session.{Live as Session}, declared.Standing.{Standing, TheVariants.{Live as LiveIn}}}
 
 -- what a session came to is what the desk keeps of it
@@ -27,10 +27,23 @@ peer_stands config number held None (Some octets) None is own = absurd is
 peer_stands config number held (Some peer) (Some octets) None is own = absurd is
 peer_stands config number held None (Some octets) (Some session) is own = absurd is
 
--- how it stands with a peer is what the items that were played make of it
-pub desk_stands : (config : Config) (items : List Item) (desk : Desked) (number : ℕ) → Played config items desk → standing_at_desk desk number ≡ standing_of config items number
-desk_stands config items desk number played =
-    peer_stands config number desk.held (peer_of number config.peers) (life number items) (session_at number desk.sessions) (played.each number) refl
+expired_stands : (config : Config) (items : List Item) (number : ℕ) (held : Held) (b : Bool) (session : Option Session)
+    → StandsAs b config (peer_of number config.peers) (life number items) session number held → standing_by session ≡ (if b then Ended (Fault 4 0) else standing_of config items number)
+expired_stands config items number held true None k = absurd k
+expired_stands config items number held true (Some session) k =
+    ap (λ (c : Option Closed). elim c [ Some why ↦ Ended why | None ↦ LiveIn session.phase.state ]) k.0
+expired_stands config items number held false session k =
+    peer_stands config number held (peer_of number config.peers) (life number items) session k refl
 
-pub standing_played : (config : Config) (items : List Item) (desk : Desked) (number : ℕ) (at : Standing) → at ≡ standing_at_desk desk number → Played config items desk → at ≡ standing_of config items number
-standing_played config items desk number at e played = e ∙ desk_stands config items desk number played
+-- how it stands with a peer is what the items that were played make of it, unless the clock has closed its session
+pub desk_stands_but : {expired : ℕ → Bool} (config : Config) (items : List Item) (desk : Desked) (number : ℕ) → PlayedBut expired config items desk
+    → standing_at_desk desk number ≡ standing_but expired config items number
+desk_stands_but {expired} config items desk number played =
+    expired_stands config items number desk.held (expired number) (session_at number desk.sessions) (played.each number)
+
+pub desk_stands : (config : Config) (items : List Item) (desk : Desked) (number : ℕ) → Played config items desk → standing_at_desk desk number ≡ standing_of config items number
+desk_stands config items desk number played = desk_stands_but config items desk number played
+
+pub standing_played : (expired : ℕ → Bool) (config : Config) (items : List Item) (desk : Desked) (number : ℕ) (at : Standing) → at ≡ standing_at_desk desk number
+    → PlayedBut expired config items desk → at ≡ standing_but expired config items number
+standing_played expired config items desk number at e played = e ∙ desk_stands_but config items desk number played

@@ -1,5 +1,5 @@
 -- The routes that a tape leaves held.
-use Rattle.std.specs.{Prelude.{◌≡◌, ℕ, List, [], find, map, Option, Some, None, option_map}, Ordering.{nat_cmp, ordering_then}, declared.cmp.Ordering.{Ordering}, List.Sorted.{IsStrictlySortedBy}, Map.{lookup, keys_of}, BTreeMap.{is_at}}
+use Rattle.std.specs.{Prelude.{◌≡◌, ℕ, List, [], find, map, Bool, false, if◌then◌else◌, Option, Some, None, option_map}, Ordering.{nat_cmp, ordering_then}, declared.cmp.Ordering.{Ordering}, List.Sorted.{IsStrictlySortedBy}, Map.{lookup, keys_of}, BTreeMap.{is_at}}
 use Rattle.fs_base.specs.declared.{config.Config.{Config}, path.Path.{Path}}
 use Rattle.fs_nlri.specs.Parts.{Ruled}
 use Rattle.fs_order.specs.Comparison.{rule_cmp}
@@ -20,6 +20,14 @@ counted (updates, closed why) = []
 abbrev pub updates_of : Config → List Item → ℕ → List Update
 updates_of config items number =
     elim (life number items) [ None ↦ [] | Some octets ↦ counted (bounded_session config number octets) ]
+
+-- of no peer
+abbrev pub nobody : ℕ → Bool
+nobody number = false
+
+-- but of the peers whose sessions the clock has closed none counts
+abbrev pub updates_but : (expired : ℕ → Bool) → Config → List Item → ℕ → List Update
+updates_but expired config items number = if expired number then [] else updates_of config items number
 
 -- a flow route is of a rule and a peer; by these it is listed
 abbrev pub FlowKey : Type 0
@@ -47,10 +55,15 @@ given_of r = (r.rule, r.path, r.actions)
 abbrev pub flow_at : Ruled → ℕ → List FlowRoute → Option Given
 flow_at rule peer flows = option_map given_of (find (is_key rule peer) flows)
 
--- Exactly these routes are held, each listed once: of each peer what the updates of its present life leave it holding.
-pub record Leaves (config : Config) (items : List Item) (held : Held) : Type 0 where
+-- Exactly these routes are held, each listed once: of each peer what the updates that count leave it holding.
+pub record LeavesBut (expired : ℕ → Bool) (config : Config) (items : List Item) (held : Held) : Type 0 where
   pub config_is : held.config ≡ config
   pub listed : IsListed held
   pub unicast : (place : Place)
-      → unicast_at place held.unicast ≡ unicast_left place.prefix (updates_of config items place.peer)
-  pub flows : (rule : Ruled) (peer : ℕ) → flow_at rule peer held.flows ≡ flow_left rule (updates_of config items peer)
+      → unicast_at place held.unicast ≡ unicast_left place.prefix (updates_but expired config items place.peer)
+  pub flows : (rule : Ruled) (peer : ℕ)
+      → flow_at rule peer held.flows ≡ flow_left rule (updates_but expired config items peer)
+
+-- so where the clock has closed no session
+abbrev pub Leaves : Config → List Item → Held → Type 0
+Leaves config items held = LeavesBut nobody config items held

@@ -1,6 +1,7 @@
 pub mod Apply
 pub mod Desk
 pub mod HoldTimer
+pub mod Idle
 pub mod Laws
 pub mod Leaves
 pub mod Life

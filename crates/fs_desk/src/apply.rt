@@ -1,9 +1,9 @@
 //! What an update of a peer does to the table.
 
-ghost use Rattle.std.specs.{Prelude.{◌≡◌, ◌++◌, None, map, OnOk, if◌then◌else◌}, List.{AllByRecursion}};
+ghost use Rattle.std.specs.{Prelude.{◌≡◌, ◌++◌, [], None, map, OnOk, if◌then◌else◌}, List.{AllByRecursion}};
 ghost use Rattle.fs_nlri.specs.Rule.{shown};
 ghost use Rattle.fs_attrs.specs.{Lists.{IsPrefix}, Update.{unicast_in, flows_in, gives_prefixes}};
-ghost use Rattle.fs_desk.specs.{Apply.{Applies, Announces, Changes, Withdraws, same, taken_of, given_at, rules_taken, rules_given}, Watched.{Tells}};
+ghost use Rattle.fs_desk.specs.{Apply.{Applies, Announces, Changes, Withdraws, same, taken_of, given_at, rules_taken, rules_given}, Idle.{IsIdle}, Watched.{Tells}};
 
 use crate::watched::WatchedTable;
 use fs_actions::Actions;
@@ -25,6 +25,7 @@ pub fn apply<L: Ledger>(
     ensures applied { OnOk result (Applies peer update table.old.held table.new.held) }
     ensures prefixes { OnOk result (AllByRecursion IsPrefix (gives_prefixes update)) }
     ensures told { OnOk result (Tells table.old table.new) }
+    ensures idle { IsIdle update → OnOk result (table.new ≡ table.old) }
 {
     withdraw(table, peer, update.classic_out, update.unreach, steps);
     let Some(path) = path_given(update.path, update.as_withdraw) else {
@@ -56,6 +57,7 @@ fn withdraw<L: Ledger>(
         table.old.held table.new.held }
     ensures prefixes { AllByRecursion IsPrefix (prefixes ++ unicast_in routes) }
     ensures told { Tells table.old table.new }
+    ensures idle { prefixes ++ unicast_in routes ≡ [] → flows_in routes ≡ [] → table.new ≡ table.old }
 {
     withdraw_prefixes(table, peer, &prefixes, steps);
     withdraw_routes(table, peer, routes, steps);
@@ -70,6 +72,7 @@ fn withdraw_routes<L: Ledger>(
     ensures changes { Withdraws peer (unicast_in routes) (flows_in routes) table.old.held table.new.held }
     ensures prefixes { AllByRecursion IsPrefix (unicast_in routes) }
     ensures told { Tells table.old table.new }
+    ensures idle { unicast_in routes ≡ [] → flows_in routes ≡ [] → table.new ≡ table.old }
 {
     match routes {
         Some(Routes::Unicast(_, prefixes)) => withdraw_prefixes(table, peer, &prefixes, steps),
@@ -98,6 +101,7 @@ fn give<L: Ledger>(
         given.path given.actions table.old.held table.new.held) }
     ensures prefixes { OnOk result (AllByRecursion IsPrefix (prefixes ++ unicast_in routes)) }
     ensures told { OnOk result (Tells table.old table.new) }
+    ensures idle { prefixes ++ unicast_in routes ≡ [] → flows_in routes ≡ [] → OnOk result (table.new ≡ table.old) }
 {
     let Some(routes) = routes else {
         return give_prefixes(table, peer, &prefixes, given.path, steps);
@@ -118,6 +122,7 @@ fn withdraw_prefixes<L: Ledger>(
     ensures changes { Changes peer (taken_of prefixes.now) same table.old.held table.new.held }
     ensures prefixes { AllByRecursion IsPrefix prefixes.now }
     ensures told { Tells table.old table.new }
+    ensures idle { prefixes.now ≡ [] → table.new ≡ table.old }
 {
     withdraw_each(table, peer, prefixes.as_slice(), steps);
 }
@@ -130,6 +135,7 @@ fn withdraw_each<L: Ledger>(
 )
     ensures changes { Changes peer (taken_of (map shown prefixes.now)) same table.old.held table.new.held }
     ensures told { Tells table.old table.new }
+    ensures idle { map shown prefixes.now ≡ [] → table.new ≡ table.old }
 {
     for prefix in prefixes {
         table.withdraw_unicast(peer, prefix, steps);
@@ -147,6 +153,7 @@ fn give_prefixes<L: Ledger>(
     ensures changes { OnOk result (Changes peer (given_at prefixes.now path) same table.old.held table.new.held) }
     ensures prefixes { OnOk result (AllByRecursion IsPrefix prefixes.now) }
     ensures told { OnOk result (Tells table.old table.new) }
+    ensures idle { prefixes.now ≡ [] → OnOk result (table.new ≡ table.old) }
 {
     let shared = table.share(path)?;
     give_each(table, peer, prefixes.as_slice(), &shared, steps)
@@ -163,6 +170,7 @@ fn give_copies_of_path<L: Ledger>(
     ensures changes { OnOk result (Changes peer (given_at prefixes.now path.now) same table.old.held table.new.held) }
     ensures prefixes { OnOk result (AllByRecursion IsPrefix prefixes.now) }
     ensures told { OnOk result (Tells table.old table.new) }
+    ensures idle { prefixes.now ≡ [] → OnOk result (table.new ≡ table.old) }
 {
     if prefixes.as_slice().is_empty() {
         return Ok(());
@@ -180,6 +188,7 @@ fn give_each<L: Ledger>(
     ensures changes { OnOk result
         (Changes peer (given_at (map shown prefixes.now) path.now) same table.old.held table.new.held) }
     ensures told { OnOk result (Tells table.old table.new) }
+    ensures idle { map shown prefixes.now ≡ [] → OnOk result (table.new ≡ table.old) }
 {
     for prefix in prefixes {
         table.put_unicast(peer, *prefix, path.share()?, steps)?;
@@ -195,6 +204,7 @@ fn withdraw_rules<L: Ledger>(
 )
     ensures changes { Changes peer same (rules_taken rules) table.old.held table.new.held }
     ensures told { Tells table.old table.new }
+    ensures idle { rules ≡ [] → table.new ≡ table.old }
 {
     for rule in rules.into_vec() {
         table.withdraw_flow(peer, &Ranked { rule }, steps);
@@ -212,6 +222,7 @@ fn give_rules<L: Ledger>(
     ensures changes { OnOk result
         (Changes peer same (rules_given rules given.path given.actions) table.old.held table.new.held) }
     ensures told { OnOk result (Tells table.old table.new) }
+    ensures idle { rules ≡ [] → OnOk result (table.new ≡ table.old) }
 {
     let mut front = rules.into_vec();
     let last = front.pop();
@@ -233,6 +244,7 @@ fn give_copies<L: Ledger>(
     ensures changes { OnOk result (Changes peer same (rules_given rules.items given.now.path given.now.actions)
         table.old.held table.new.held) }
     ensures told { OnOk result (Tells table.old table.new) }
+    ensures idle { rules.items ≡ [] → OnOk result (table.new ≡ table.old) }
 {
     for rule in rules {
         table.put_flow(peer, rule, given.path.copy()?, given.actions.copy()?, steps)?;

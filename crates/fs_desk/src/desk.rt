@@ -1,6 +1,6 @@
 //! The sessions with all configured peers, and the table of the routes that they hold.
 
-ghost use Rattle.std.specs.Prelude.{◌≡◌, ◌<◌, false, List, [], IsSome, IsOk, IfOk, OnOk, OnErr, Some};
+ghost use Rattle.std.specs.Prelude.{◌≡◌, ◌<◌, ℕ, Bool, false, List, [], IsSome, IsOk, IfOk, OnOk, OnErr, Some};
 
 use crate::hold_timer::tick_session;
 use crate::receive::receive;
@@ -38,7 +38,7 @@ impl<'a> Model for Desk<'a> {
 impl<'a> Desk<'a> {
     ghost use Rattle.fs_base.specs.{declared.config.Config.{Config}, Config.{peer_of}};
     ghost use Rattle.fs_tape.specs.Tape.{Item, came_up, received, was_lost};
-    ghost use Rattle.fs_desk.specs.{Desk.{ExpiresSo, HandsPeer, Notes, Played, Plays, RepliesBehind, StaysPlayed, TicksPeer, session_at, standing_at_desk, standing_of}, Leaves.{Leaves}};
+    ghost use Rattle.fs_desk.specs.{Desk.{ExpiresPlayed, ExpiresSo, HandsPeer, IdlesOctets, IdlesTick, Notes, Played, PlayedBut, Plays, RepliesBehind, StaysPlayed, TicksPeer, session_at, standing_at_desk, standing_but}, Leaves.{LeavesBut}};
     ghost use Rattle.fs_rules.specs.Table.{held_count};
     ghost use Rattle.fs_speaker.specs.Session.{begins};
 
@@ -86,8 +86,9 @@ impl<'a> Desk<'a> {
     /// update leaves the peer holding more routes than it may, the peer holds nothing any more and its session closes
     /// (RFC 4486, section 4). The replies of its session are appended to `replies`: to its OPEN the local OPEN and a
     /// KEEPALIVE, to a fault or such an update a NOTIFICATION (RFC 4271 section 6). The octets are heard at the
-    /// greatest moment of the session so far: that of the last [`tick`](Desk::tick). After `Memory` `replies` is as
-    /// before.
+    /// greatest moment of the session so far: that of the last [`tick`](Desk::tick). Messages that announce and
+    /// withdraw nothing note no change, unless the session closes and the peer held a route. After `Memory` `replies`
+    /// is as before.
     pub fn octets(&mut self, peer: u16, piece: &[u8], replies: &mut Vec<u8>) -> Result<(), Memory>
         ensures played { OnOk result (Plays (received peer piece.now) self.old self.new) }
         ensures replied { OnOk result (RepliesBehind peer self.old piece.now replies.old.items replies.new.items) }
@@ -96,6 +97,7 @@ impl<'a> Desk<'a> {
         ensures err { OnErr result (replies.new.items ≡ replies.old.items) }
         ensures config { self.new.config ≡ self.old.config }
         ensures told { OnOk result (Notes self.old self.new) }
+        ensures idle { OnOk result (IdlesOctets peer piece.now self.old self.new) }
     {
         let start = replies.len();
         let Some(session) = self.sessions.get_mut(&peer) else {
@@ -115,14 +117,17 @@ impl<'a> Desk<'a> {
     /// the last message was taken, the session closes with 4/0, its NOTIFICATION is appended to `replies`, and the
     /// peer holds nothing any more (RFC 4271, section 6.5); else a KEEPALIVE is appended where a third of it has passed
     /// since the last one. Nothing is done for a peer that is down or whose session has closed, before its OPEN, nor
-    /// with a hold time of 0. After `Memory` `replies` is as before.
+    /// with a hold time of 0. All other peers go on. A change is noted only where a session closes and the peer held a
+    /// route. After `Memory` `replies` is as before.
     pub fn tick(&mut self, peer: u16, moment: u64, replies: &mut Vec<u8>) -> Result<(), Memory>
         ensures ticked { OnOk result (TicksPeer peer moment self.old self.new replies.old.items replies.new.items) }
         ensures played { OnOk result (StaysPlayed peer self.old self.new) }
         ensures expired { OnOk result (ExpiresSo peer self.old self.new) }
+        ensures others { OnOk result (ExpiresPlayed peer self.old self.new) }
         ensures err { OnErr result (replies.new.items ≡ replies.old.items) }
         ensures config { self.new.config ≡ self.old.config }
         ensures told { OnOk result (Notes self.old self.new) }
+        ensures idle { OnOk result (IdlesTick peer self.old self.new) }
     {
         let Some(session) = self.sessions.get_mut(&peer) else {
             return Ok(());
@@ -156,8 +161,8 @@ impl<'a> Desk<'a> {
     /// How it stands with a peer: it is down, or its session is open in a state, or its session has closed.
     pub fn state(&self, peer: u16) -> Standing
         ensures state { result ≡ standing_at_desk self.now peer }
-        ensures played { (config : Config) (items : List Item) → Played config items self.now
-            → result ≡ standing_of config items peer }
+        ensures played { (expired : ℕ → Bool) (config : Config) (items : List Item)
+            → PlayedBut expired config items self.now → result ≡ standing_but expired config items peer }
     {
         match self.sessions.get(&peer) {
             None => Standing::Down,
@@ -168,8 +173,8 @@ impl<'a> Desk<'a> {
     /// The table of the routes that peers hold.
     pub fn table(&self) -> &Table<'a>
         ensures table { result.now ≡ self.now.held }
-        ensures left { (config : Config) (items : List Item) → Played config items self.now
-            → Leaves config items result.now }
+        ensures left { (expired : ℕ → Bool) (config : Config) (items : List Item)
+            → PlayedBut expired config items self.now → LeavesBut expired config items result.now }
     {
         self.table.table()
     }

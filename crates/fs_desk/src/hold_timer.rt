@@ -1,7 +1,7 @@
 //! What the clock does to a peer's session, to the replies and to the table.
 
-ghost use Rattle.std.specs.Prelude.{◌≡◌, ◌<◌, OnOk, OnErr};
-ghost use Rattle.fs_desk.specs.{HoldTimer.{TicksSession}, Watched.{Tells}};
+ghost use Rattle.std.specs.Prelude.{◌≡◌, ◌<◌, IsSome, OnOk, OnErr};
+ghost use Rattle.fs_desk.specs.{HoldTimer.{TicksSession}, Idle.{KeepsAll}, Watched.{Tells}};
 
 use crate::receive::close;
 use crate::watched::WatchedTable;
@@ -28,6 +28,8 @@ pub(crate) fn tick_session<L: Ledger>(
         replies.old.items replies.new.items) }
     ensures told { OnOk result (Tells table.old table.new) }
     ensures err { OnErr result (replies.new.items ≡ replies.old.items) }
+    ensures idle { KeepsAll peer session.new table.old → table.new.changes ≡ table.old.changes }
+    ensures ended { IsSome session.old.closed → table.new ≡ table.old }
 {
     if session.closed().is_some() {
         return Ok(());

@@ -10,4 +10,4 @@ mod receive;
 mod watched;
 
 pub use desk::Desk;
-pub use laws::same_routes;
+pub use laws::{none_expired, same_desks, same_routes};

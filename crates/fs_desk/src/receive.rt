@@ -1,8 +1,8 @@
 //! What a piece of a peer's octets does to its session, to the replies and to the table.
 
-ghost use Rattle.std.specs.Prelude.{◌≡◌, ◌≤◌, ◌<◌, true, false, None, IfOk, IfSome, OnOk, OnErr, length};
-ghost use Rattle.fs_rules.specs.Table.{without_peer};
-ghost use Rattle.fs_desk.specs.{Receive.{ComesOpen, Extends, PieceComes, RepliesMessage, TakesMessage, TakesPiece, TakesUpdate, wants_memory}, Watched.{Tells}};
+ghost use Rattle.std.specs.Prelude.{◌≡◌, ◌≤◌, ◌<◌, true, false, None, IfOk, IfSome, IsSome, OnOk, OnErr, length};
+ghost use Rattle.fs_rules.specs.Table.{held_count, without_peer};
+ghost use Rattle.fs_desk.specs.{Idle.{IdlesMessage, IdlesPiece, IdlesUpdate}, Receive.{ComesOpen, Extends, PieceComes, RepliesMessage, TakesMessage, TakesPiece, TakesUpdate, wants_memory}, Watched.{Tells}};
 
 use crate::apply::apply;
 use crate::limit::is_over;
@@ -31,6 +31,10 @@ pub fn receive<L: Ledger>(
         (PieceComes session.old session.new piece.now replies.old.items replies.new.items) }
     ensures told { OnOk result (Tells table.old table.new) }
     ensures grows { Extends replies.old.items replies.new.items }
+    ensures idle { OnOk result (IdlesPiece peer session.old session.new table.old table.new piece.now) }
+    ensures closed { IsSome session.old.closed
+        → (session.new ≡ session.old) × (table.new ≡ table.old)
+        × (replies.new.items ≡ replies.old.items) }
 {
     if session.closed().is_some() {
         return Ok(());
@@ -63,6 +67,7 @@ fn take_message<L: Ledger>(
         (ComesOpen session.old session.new piece.now replies.old.items replies.new.items) }
     ensures told { OnOk result (Tells table.old table.new) }
     ensures grows { Extends replies.old.items replies.new.items }
+    ensures idle { IfOk result (IdlesMessage peer session.old session.new table.old table.new piece.now) }
 {
     if piece.is_empty() {
         return Ok(None);
@@ -99,6 +104,7 @@ fn take_update<L: Ledger>(
         replies.old.items replies.new.items) }
     ensures told { OnOk result (Tells table.old table.new) }
     ensures err { OnErr result (replies.new.items ≡ replies.old.items) }
+    ensures idle { IfOk result (IdlesUpdate peer update table.old table.new) }
 {
     apply(table, peer, update, steps)?;
     if !is_over(session.max_routes(), table.held_by(peer)) {
@@ -134,6 +140,7 @@ pub(crate) fn close<L: Ledger>(
     ensures err { OnErr result (wants_memory why ≡ true) }
     ensures told { OnOk result (Tells table.old table.new) }
     ensures lost { OnOk result (table.new.held ≡ without_peer peer table.old.held) }
+    ensures idle { held_count peer table.old.held ≡ 0 → table.new.changes ≡ table.old.changes }
 {
     if wants_memory(why) {
         return Err(Memory);

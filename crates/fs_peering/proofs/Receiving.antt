@@ -1,5 +1,5 @@
 -- A receiving end that hears a piece at a moment.
-use Rattle.fs_peering.proofs.{Words.{Closed, Config, Desked, Down, Ended, Expires, Fault, Handed, HandsPeer, Keeps, Machine, Peer, PeerIs, Played, Plays, Point, Quiet, Replied, RepliesBehind, StaysPlayed, Tick, TicksPeer, Times, at_moment, begins, fresh, hand, handed, live, notice_text, peer_of, pending, point, receiver, runs_by, session_at, standing_at_desk, tick_at, ticked, ticks, times, written_now, ◌≡◌, ◌==◌, ◌⊎◌, inl, inr, ℕ, ◌+◌, max, List, [], ◌∷◌, ◌++◌, length, Bool, true, false, if◌then◌else◌, Option, Some, None, Result, Ok, Err, OnOk, refl, ap, sym, ◌∙◌, subst, arith, append_assoc, append-nil, length-append, IsSome, option_map, moment_stays, ticked_by, standing_by, Standing, Hears, Pieces, octets_in, HasClosed, IsHearing, Receives, StandsBy, is_ended, tape_of, course_of, after, hears}, Courses.{course_more, octets_more}}
+use Rattle.fs_peering.proofs.{Words.{Closed, Config, Desked, Down, Ended, Expires, Fault, Handed, HandsPeer, Keeps, Machine, Peer, PeerIs, Played, Plays, Point, Quiet, Replied, RepliesBehind, StaysPlayed, Tick, TicksPeer, Times, at_moment, begins, fresh, hand, handed, live, notice_text, peer_of, pending, point, receiver, runs_by, session_at, standing_at_desk, tick_at, ticked, ticks, times, written_now, ◌≡◌, ◌==◌, ◌⊎◌, inl, inr, ℕ, ◌+◌, max, List, [], ◌∷◌, ◌++◌, length, Bool, true, false, if◌then◌else◌, Option, Some, None, Result, Ok, Err, OnOk, refl, ap, sym, ◌∙◌, subst, arith, append_assoc, append-nil, length-append, IsSome, option_map, moment_stays, nobody, ticked_by, standing_by, Standing, Hears, Pieces, octets_in, HasClosed, IsHearing, Receives, StandsBy, is_ended, tape_of, course_of, after, hears}, Courses.{course_more, octets_more}}
 use Rattle.std.proofs.lemmas.Bool.{true≢false as never}
 use Rattle.fs_base.proofs.NumberTests.{eq_itself}
 use Rattle.fs_speaker.specs.{Session.{Live}, declared.Standing.TheVariants.{Live as LiveIn}}
@@ -144,7 +144,7 @@ module _ (old new : Desked) (peer moment : ℕ) (whose : Peer) (heard : Pieces) 
   module _ (now : Live) (there : session_at peer new.sessions ≡ Some now) (stays : StaysPlayed peer old new) where
     still_played : standing_at_desk new peer ≡ LiveIn h.session.phase.state → Played old.config (tape_of peer (octets_in heard)) new
     still_played e =
-        stays (e ∙ sym (stands_open old peer h.session h.session_is h.alive)) old.config (tape_of peer (octets_in heard)) h.played
+        stays (e ∙ sym (stands_open old peer h.session h.session_is h.alive)) nobody old.config (tape_of peer (octets_in heard)) h.played
 
     woke : (later : Times) (tick : Tick) → now ≡ with_times later h.session → at_moment moment later ≡ later → tick_at h.session.phase.hold (at_moment moment h.session.times) ≡ tick
         → point (pending h.session.framing) h.session.phase later None ≡ (ticks tick (pending h.session.framing) h.session.phase (at_moment moment h.session.times)).point
@@ -231,7 +231,7 @@ module _ (old mid new : Desked) (peer moment : ℕ) (whose : Peer) (heard : Piec
   woken = ticked moment (course_of config whose heard).point
 
   played_all : Played config (tape_of peer (octets_in heard ++ piece)) new
-  played_all = retaped config peer (octets_in heard) piece new (plays config (tape_of peer (octets_in heard)) w.played)
+  played_all = retaped config peer (octets_in heard) piece new (plays nobody config (tape_of peer (octets_in heard)) w.played)
 
   config_is : new.config ≡ config
   config_is = config_new ∙ config_mid
@@ -283,7 +283,7 @@ module _ (old mid new : Desked) (peer moment : ℕ) (whose : Peer) (heard : Piec
   -- the session stays open
   stays_open : now_is.session.closed ≡ None → Answer
   stays_open alive =
-      let made = hands config (tape_of peer (octets_in heard)) w.session now_is.session w.played w.session_is now_is.session_is alive in
+      let made = hands nobody config (tape_of peer (octets_in heard)) w.session now_is.session w.played w.session_is now_is.session_is alive in
       let later : Handed = hand machine moment woken.point piece in
       let text : c ≡ b ++ later.text = made.grows ∙ ap (λ (m : Handed). b ++ m.text) handed_then in
       let step : course_of config whose all ≡ after (course_of config whose heard) (hears machine (moment, piece) (course_of config whose heard).point) = course_more machine heard (moment, piece) in
@@ -303,7 +303,7 @@ module _ (old mid new : Desked) (peer moment : ℕ) (whose : Peer) (heard : Piec
   closes_there : (why : Closed) → now_is.session.closed ≡ Some why → Answer
   closes_there why shut =
       let fed = subst (λ (x : Option Closed). IsFed config whose (octets_in heard ++ piece) now_is.session x now_is.up.updates) shut now_is.up.fed in
-      let replied = subst (λ (l : Option (List ℕ)). Replied config peer l piece b c) (life_tape peer (octets_in heard)) (replies config (tape_of peer (octets_in heard)) w.played) in
+      let replied = subst (λ (l : Option (List ℕ)). Replied config peer l piece b c) (life_tape peer (octets_in heard)) (replies nobody config (tape_of peer (octets_in heard)) w.played) in
       answer (woken.text ++ replied.0)
       (replied.1 ∙ ap (λ (z : List ℕ). z ++ replied.0) w.said_is ∙ append_assoc a woken.text replied.0)
       (subst (λ (at : Standing). StandsBy at new peer whose all (said ++ (woken.text ++ replied.0))) (sym (stands_ended new peer now_is.session why now_is.session_is shut))

@@ -16,7 +16,8 @@ use std::alloc::Global;
 ///
 /// `Memory` where the machine refused memory.
 pub fn desk_text(alloc: Global, desk: &Desk<'_>) -> Result<Vec<u8>, Memory>
-    ensures { IfOk result (λ text. Tells listing desk.now text.items) }
+    ensures text { IfOk result (λ text. text.items ≡ desk_text desk.now) }
+    ensures told { IfOk result (λ text. Tells listing desk.now text.items) }
 {
     let mut text = Vec::new(alloc);
     append_desk(desk, &mut text)?;

@@ -16,7 +16,8 @@ use std::alloc::Global;
 ///
 /// `Memory` where the machine refused memory.
 pub fn desk_words(alloc: Global, desk: &Desk<'_>) -> Result<Vec<u8>, Memory>
-    ensures { IfOk result (λ text. Tells worded desk.now text.items) }
+    ensures text { IfOk result (λ text. text.items ≡ words_of_held desk.now.held) }
+    ensures told { IfOk result (λ text. Tells worded desk.now text.items) }
 {
     let mut text = String::new(alloc);
     append_table(desk.table(), &mut text)?;

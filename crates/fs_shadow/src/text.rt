@@ -4,7 +4,7 @@ ghost use Rattle.std.specs.Prelude.{◌≡◌, ◌++◌, IfOk, List, OnOk, flat_
 ghost use Rattle.fs_base.specs.declared.config.Config.{Config};
 ghost use Rattle.fs_tape.specs.Tape.{Item};
 ghost use Rattle.fs_desk.specs.Desk.{Played};
-ghost use Rattle.fs_shadow.specs.Text.{covered_line, earlier_text, shadow_listing};
+ghost use Rattle.fs_shadow.specs.Text.{covered_line, earlier_text, held_lines, shadow_listing};
 
 use crate::reporting::report;
 use fs_base::{Family, Memory};
@@ -19,7 +19,8 @@ use std::alloc::Global;
 ///
 /// `Memory` where the machine refused memory.
 pub fn shadow_text(alloc: Global, desk: &Desk<'_>) -> Result<Vec<u8>, Memory>
-    ensures { IfOk result (λ text. (config : Config) (items : List Item) → Played config items desk.now
+    ensures text { IfOk result (λ text. text.items ≡ held_lines desk.now.held) }
+    ensures told { IfOk result (λ text. (config : Config) (items : List Item) → Played config items desk.now
         → text.items ≡ shadow_listing config items desk.now.held) }
 {
     let table = desk.table();

@@ -29,7 +29,9 @@ pub struct Swap {
 }
 
 /// The unicast routes of both families that peers hold, at most one of a peer at a prefix. Each call that gives a path or
-/// a route, `path_at`, `best`, `best_match`, `best_and_others` or `best_before_and_now`, counts one step.
+/// a route counts a step for each of them: `path_at`, `best`, `best_match` and `best_and_others` one step, and
+/// `best_before_and_now` two. Beside these, the [`Swap`] that `put_telling` and `remove_telling` answer has the path that
+/// went, which is looked up for no step.
 #[derive(Drop)]
 pub struct Unicast {
     routes: Routes,
@@ -140,7 +142,7 @@ impl Unicast {
         search::path_at(self.routes.paths(), peer, prefix)
     }
 
-    /// The most preferred route at the swap's prefix before the swap, after which these are the routes, and now. One step.
+    /// The most preferred route at the swap's prefix before the swap, after which these are the routes, and now. Two steps.
     pub fn best_before_and_now<'a, L: Ledger>(
         &'a self,
         swap: &'a Swap,
@@ -149,9 +151,10 @@ impl Unicast {
         ensures before { (earlier : List Route) → IsSwap swap.now earlier self.now
             → option_map peer_path result.0 ≡ best_at earlier swap.now.prefix }
         ensures now { option_map peer_path result.1 ≡ best_at self.now swap.now.prefix }
-        ensures step { steps.new ≡ steps.old + 1 }
+        ensures step { steps.new ≡ steps.old + 2 }
     {
-        steps.take(); // at one prefix
+        steps.take(); // before
+        steps.take(); // and now
         search::best_before_and_now(self.routes.paths(), swap)
     }
 

@@ -1,4 +1,4 @@
-use Rattle.fs_desk.proofs.{ChangesJoined.{on_ok, path_back, path_there, told_back, told_given}, Telling.{tells_then}}
+use Rattle.fs_desk.proofs.{Words.{◌∙◌}, Idle.{lists_nothing}, ChangesJoined.{on_ok, path_back, path_there, told_back, told_given}, Telling.{tells_then}}
 use Rattle.fs_desk.proofs.apply.apply.Goals as goal
 
 pub returns-in_default-clause-applied : goal.returns-in_default-clause-applied
@@ -18,3 +18,13 @@ returns-in_default-clause-told g c = tells_then c.args.table.now c.withdraw.new.
 
 pub returns-clause-told : goal.returns-clause-told
 returns-clause-told g c = on_ok c.give.result (tells_then c.args.table.now c.withdraw.new.table c.give.new.table c.withdraw.ensures.told) c.give.ensures.told
+
+pub returns-in_default-clause-idle : goal.returns-in_default-clause-idle
+returns-in_default-clause-idle g c = λ idle.
+    let none = lists_nothing c.args.update idle in
+    c.withdraw-in_default.ensures.idle none.into none.rules_into ∙ c.withdraw.ensures.idle none.out none.rules_out
+
+pub returns-clause-idle : goal.returns-clause-idle
+returns-clause-idle g c = λ idle.
+    let none = lists_nothing c.args.update idle in
+    on_ok c.give.result (λ same. same ∙ c.withdraw.ensures.idle none.out none.rules_out) (c.give.ensures.idle none.into none.rules_into)

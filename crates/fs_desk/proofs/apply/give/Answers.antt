@@ -1,4 +1,4 @@
-use Rattle.fs_desk.proofs.{Words.{◌++◌, Option, Some, ap, sym, ◌∙◌, subst, unicast_in, flows_in, Announces, same}, ChangesJoined.{on_ok, given_join}, Telling.{tells_then}}
+use Rattle.fs_desk.proofs.{Words.{◌++◌, Option, Some, ap, sym, ◌∙◌, subst, unicast_in, flows_in, Announces, same}, Idle.{both_none}, ChangesJoined.{on_ok, given_join}, Telling.{tells_then}}
 use Rattle.fs_attrs.specs.declared.update.Routes.{Routes}
 use Rattle.fs_desk.proofs.apply.give.Goals as goal
 
@@ -17,3 +17,9 @@ returns-in-Unicast-clause-told g c =
 pub returns-clause-told : goal.returns-clause-told
 returns-clause-told g c =
     on_ok c.give_rules.result (tells_then c.args.table.now c.give_copies_of_path.new.table c.give_rules.new.table c.in_ok-give_copies_of_path.ensures.told) c.give_rules.ensures.told
+
+pub returns-in-Unicast-clause-idle : goal.returns-in-Unicast-clause-idle
+returns-in-Unicast-clause-idle g c = λ none no_rule.
+    let each = both_none c.args.prefixes (unicast_in c.args.routes) none in
+    on_ok c.give_prefixes-in-Unicast.result (λ same. same ∙ c.in_ok-give_copies_of_path.ensures.idle each.0)
+    (c.give_prefixes-in-Unicast.ensures.idle (sym (ap unicast_in (c.in-Some.is ∙ ap Some c.in-Unicast.is)) ∙ each.1))

@@ -1,4 +1,4 @@
-use Rattle.fs_desk.proofs.{Words.{List, map, take, None, subst, sym, refl, shown, Shown, Changes, same, taken_of}, Telling.{tells_none, tells_then}, ChangesJoined.{changes_none, prefixes_more, shown_more}, TableChanges.{taken_to}}
+use Rattle.fs_desk.proofs.{Words.{List, map, take, None, subst, sym, refl, ◌∙◌, shown, Shown, Changes, same, taken_of}, Idle.{more_than_none}, Telling.{tells_none, tells_then}, ChangesJoined.{changes_none, prefixes_more, shown_more}, TableChanges.{taken_to}}
 use Rattle.fs_desk.proofs.apply.withdraw_each.Goals as goal
 
 pub loop-prefix-preserved : goal.loop-prefix-preserved
@@ -9,7 +9,10 @@ loop-prefix-preserved g c = record {
       (prefixes_more c.args.peer None (map shown (take c.loop-prefix.prefix-index c.args.prefixes.now)) (shown c.prefix-item.result) _ _ _ c.loop-prefix.invariant.changes
       (taken_to c.args.peer c.prefix-item.result c.loop-prefix.table.held c.withdraw_unicast.new.self.held _ refl c.withdraw_unicast.ensures.removed));
   told = tells_then c.args.table.now c.loop-prefix.table c.withdraw_unicast.new.self c.loop-prefix.invariant.told c.withdraw_unicast.ensures.told;
+  idle = λ none.
+      absurd (more_than_none (map shown (take c.loop-prefix.prefix-index c.args.prefixes.now)) (shown c.prefix-item.result)
+      (sym (shown_more c.args.prefixes.now c.loop-prefix.prefix-index c.prefix-item.result c.loop-prefix-test.true c.prefix-item.is) ∙ none));
 }
 
 pub loop-prefix-init : goal.loop-prefix-init
-loop-prefix-init g c = record { changes = changes_none c.args.peer c.args.table.now.held; told = tells_none c.args.table.now }
+loop-prefix-init g c = record { changes = changes_none c.args.peer c.args.table.now.held; told = tells_none c.args.table.now; idle = λ none. refl }

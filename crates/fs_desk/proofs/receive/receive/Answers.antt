@@ -1,4 +1,4 @@
-use Rattle.fs_desk.proofs.{Words.{◌++◌, List, ℕ, sym, subst, ap, ◌∙◌, is_some, take_rest, some_there, none_there, bounded_replies_from, Comes, IsReplyingMore, HasTaken}, Coming.{comes_all, comes_none, comes_shut, comes_then}, Pieces.{taken_none, taken_more_of, taken_all, up_ended}, Replies.{replying_none, replying_more, replying_all, replied_to, replied_ended, extends_none, extends_then}, Telling.{tells_none, tells_then}}
+use Rattle.fs_desk.proofs.{Words.{◌++◌, List, ℕ, refl, AreIdle, KeepsAll, Watched, sym, subst, ap, ◌∙◌, is_some, take_rest, some_there, none_there, bounded_replies_from, Comes, IsReplyingMore, HasTaken}, Coming.{comes_all, comes_none, comes_shut, comes_then}, Pieces.{taken_none, taken_more_of, taken_all, up_ended}, Replies.{replying_none, replying_more, replying_all, replied_to, replied_ended, extends_none, extends_then}, Telling.{tells_none, tells_then}}
 use Rattle.fs_desk.proofs.receive.receive.Goals as goal
 
 pub returns-then-is_some-clause-taken : goal.returns-then-is_some-clause-taken
@@ -18,6 +18,7 @@ messages-init g c = (
       ),
   none_there c.args.session.now.closed (ap is_some (sym c.closed.ensures) ∙ sym c.is_some.ensures ∙ c.if-is_some.false),
   comes_none c.args.session.now c.args.piece.now c.args.replies.now.items,
+  λ idle. (refl, idle),
 )
 
 pub messages-preserved : goal.messages-preserved
@@ -40,6 +41,10 @@ messages-preserved g c = (
       (sym (take_rest c.messages.rest.now c.in-Some.count))
       (comes_then c.args.session.now c.messages.session c.take_message.new.session c.args.piece.now c.messages.rest.now _ c.args.replies.now.items c.messages.replies.items c.take_message.new.replies.items
       c.messages.invariant.4 ((rw c.in-Some.is at c.in_ok-count.ensures.handed) c.messages.invariant.3).1),
+  λ idle.
+      let before = c.messages.invariant.5 idle in
+      let after = (rw c.in-Some.is at c.in_ok-count.ensures.idle) c.messages.invariant.3 before.1 in
+      (after.0 ∙ before.0, subst (AreIdle c.take_message.new.session) (sym (take_rest c.messages.rest.now c.in-Some.count)) after.1),
 )
 
 pub returns-clause-taken : goal.returns-clause-taken
@@ -78,3 +83,13 @@ returns-clause-handed g c = λ alive. (
   comes_all c.args.session.now c.messages.session c.take_message.new.session c.args.piece.now c.messages.rest.now c.args.replies.now.items c.messages.replies.items c.take_message.new.replies.items
       c.messages.invariant.4 ((rw c.in_default.is at c.in_ok-count.ensures.handed) c.messages.invariant.3) alive,
 )
+
+pub returns-then-is_some-clause-idle : goal.returns-then-is_some-clause-idle
+returns-then-is_some-clause-idle g c = λ alive idle keeps. refl
+
+pub returns-clause-idle : goal.returns-clause-idle
+returns-clause-idle g c = λ alive idle keeps.
+    let before = c.messages.invariant.5 idle in
+    (rw c.in_default.is at c.in_ok-count.ensures.idle) c.messages.invariant.3 before.1
+    (subst (KeepsAll c.args.peer c.take_message.new.session) (sym before.0) keeps)
+    ∙ ap (λ (w : Watched). w.changes) before.0

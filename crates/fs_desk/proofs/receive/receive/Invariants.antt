@@ -1,4 +1,4 @@
-use Rattle.fs_desk.proofs.Words.{◌≡◌, ℕ, List, ◌++◌, length, None, Config, Peer, IsListed, bounded_replies_from, IsUp, HasTaken, Extends, IsReplyingMore, Comes, Tells}
+use Rattle.fs_desk.proofs.Words.{◌≡◌, ℕ, List, ◌++◌, length, None, Config, Peer, IsListed, bounded_replies_from, IsUp, HasTaken, Extends, IsReplyingMore, Comes, AreIdle, Tells}
 use Rattle.fs_desk.proofs.receive.receive.Given as goal
 
 abbrev pub invariant-messages : goal.invariant-messages
@@ -10,6 +10,7 @@ invariant-messages g l =
     × IsReplyingMore config whose (octets ++ l.fn.piece) l.rest l.session (bounded_replies_from config whose octets) l.fn.replies.items l.replies.items)
     × (l.session.closed ≡ None)
     × Comes l.fn.session l.fn.piece l.session l.rest l.fn.replies.items l.replies.items
+    × (AreIdle l.fn.session l.fn.piece → (l.table ≡ l.fn.table) × AreIdle l.session l.rest)
 
 abbrev pub decreases-messages : goal.decreases-messages
 decreases-messages g l = length l.rest

@@ -1,4 +1,4 @@
-use Rattle.fs_desk.proofs.{Words.{Option, refl, subst, sym, ◌∙◌, Update, reply_at, Does, step_with, too_many}, Coming.{comes_applied, comes_fed, comes_nothing, comes_shut}, Pieces.{fed_none, fed_update, fed_ceased, fed_closed, found_does, not_memory}, Replies.{replies_taken, replies_update, replies_ceased, replies_closed, replies_nothing, extends_fed, extends_then}, TableChanges.{lost_to}}
+use Rattle.fs_desk.proofs.{Words.{Option, AreIdle, Live, drop, refl, subst, sym, ◌∙◌, Update, reply_at, Does, step_with, too_many}, Idle.{idle_none, idle_update, held_nothing}, Coming.{comes_applied, comes_fed, comes_nothing, comes_shut}, Pieces.{fed_none, fed_update, fed_ceased, fed_closed, found_does, not_memory}, Replies.{replies_taken, replies_update, replies_ceased, replies_closed, replies_nothing, extends_fed, extends_then}, TableChanges.{lost_to}}
 use Rattle.fs_desk.proofs.receive.take_message.Goals as goal
 
 pub returns-in-Ok-default-None-clause-taken : goal.returns-in-Ok-default-None-clause-taken
@@ -95,3 +95,33 @@ returns-in_ok-close-in-Err-clause-handed g c = λ h alive. comes_shut c.feed.new
 
 pub returns-then-is_empty-clause-handed : goal.returns-then-is_empty-clause-handed
 returns-then-is_empty-clause-handed g c = λ h. comes_nothing c.args.session.now c.args.piece.now c.args.replies.now.items (sym c.is_empty.ensures ∙ c.if-is_empty.true)
+
+pub returns-then-is_empty-clause-idle : goal.returns-then-is_empty-clause-idle
+returns-then-is_empty-clause-idle g c = λ alive idle keeps. refl
+
+pub returns-in-Ok-default-None-clause-idle : goal.returns-in-Ok-default-None-clause-idle
+returns-in-Ok-default-None-clause-idle g c = λ alive idle.
+    let fed = c.in-Ok-default-None in
+    let did = subst (λ (u : Option Update). Does (step_with c.args.session.now c.args.piece.now) c.args.session.now c.feed.new.self c.args.piece.now fed.count u) fed.field-0-1-is (fed.ensures.exact alive).0 in
+    (refl, idle_none c.args.session.now c.feed.new.self c.args.piece.now fed.count fed.ensures.same.0 fed.ensures.same.1 did idle)
+
+pub returns-else-not-is_open-clause-idle : goal.returns-else-not-is_open-clause-idle
+returns-else-not-is_open-clause-idle g c = λ alive idle.
+    let fed = c.in-Ok-default-Some in
+    let did = found_does c.args.session.now c.feed.new.self c.args.piece.now fed.count fed.field-0-1 fed.update fed.field-0-1-is fed.ensures.exact alive in
+    let both = idle_update c.args.session.now c.feed.new.self c.args.piece.now fed.count fed.update fed.ensures.same.0 fed.ensures.same.1 did.0 idle in (
+      (rw c.if-not-is_open.false at c.in_ok-is_open-in-Ok-default-Some.ensures.idle) both.0,
+      subst (λ (s : Live). AreIdle s (drop fed.count c.args.piece.now)) (sym (c.in_ok-is_open-in-Ok-default-Some.ensures.taken.stays c.if-not-is_open.false).0) both.1,
+    )
+
+pub returns-then-not-is_open-clause-idle : goal.returns-then-not-is_open-clause-idle
+returns-then-not-is_open-clause-idle g c = λ alive idle keeps.
+    let fed = c.in-Ok-default-Some in
+    let did = found_does c.args.session.now c.feed.new.self c.args.piece.now fed.count fed.field-0-1 fed.update fed.field-0-1-is fed.ensures.exact alive in
+    let both = idle_update c.args.session.now c.feed.new.self c.args.piece.now fed.count fed.update fed.ensures.same.0 fed.ensures.same.1 did.0 idle in
+    (rw c.if-not-is_open.true at c.in_ok-is_open-in-Ok-default-Some.ensures.idle) both.0
+    (held_nothing c.args.peer c.take_update.new.session c.args.table.now too_many (c.in_ok-is_open-in-Ok-default-Some.ensures.taken.ceases c.if-not-is_open.true).0 keeps)
+
+pub returns-in_ok-close-in-Err-clause-idle : goal.returns-in_ok-close-in-Err-clause-idle
+returns-in_ok-close-in-Err-clause-idle g c = λ alive idle keeps.
+    c.close.ensures.idle (held_nothing c.args.peer c.feed.new.self c.args.table.now c.in-Err.why c.in-Err.ensures.closed keeps)

@@ -6,17 +6,17 @@ on_err (Ok t) p = tt
 on_err (Err e) p = p
 
 pub returns-clause-played : goal.returns-clause-played
-returns-clause-played c = λ config items played.
-    desk_up config items c.args.peer c.in_ok-session.session c.self.inside.config.now c.self.inside.table.held c.self.inside.sessions.entries c.insert.new.self.entries c.lost.new.self
-    (sym c.self.view_is) c.in_ok-session.ensures c.in_ok-insert.ensures.entries (c.lost.ensures.played config items played)
+returns-clause-played c = λ expired config items played.
+    desk_up expired config items c.args.peer c.in_ok-session.session c.self.inside.config.now c.self.inside.table.held c.self.inside.sessions.entries c.insert.new.self.entries c.lost.new.self
+    (sym c.self.view_is) c.in_ok-session.ensures c.in_ok-insert.ensures.entries (c.lost.ensures.played expired config items played)
 
 -- a session that finds no room leaves the desk as the loss left it
 pub returns-in_err-insert-clause-lost : goal.returns-in_err-insert-clause-lost
 returns-in_err-insert-clause-lost c =
     on_err c.from_residual-in_err-insert.result
-    (λ config items played.
+    (λ expired config items played.
     desk_stays config _ c.self.inside.config.now c.self.inside.table.held c.self.inside.sessions.entries c.insert.new.self.entries c.lost.new.self
-    (sym c.self.view_is) c.in_err-insert.ensures.err (c.lost.ensures.played config items played))
+    (sym c.self.view_is) c.in_err-insert.ensures.err (c.lost.ensures.played expired config items played))
 
 pub returns-clause-begun : goal.returns-clause-begun
 returns-clause-begun c =
