@@ -55,6 +55,16 @@ impl Capture {
         open(is_section(front), counted, files)
     }
 
+    /// Whether `next` answers without a call to the outside: the next packet stands whole in what the slot gives at
+    /// once. No clause says when: it decides only when lines leave.
+    #[inline(always)]
+    pub fn is_at_hand<F: Files>(&self, files: &F) -> bool {
+        match &self.reader {
+            Reader::Records(capture) => capture.is_at_hand(files),
+            Reader::Blocks(capture) => capture.is_at_hand(files),
+        }
+    }
+
     /// Reads the next packet. Its octets stand at the front of `into`. `None`: the capture ended behind its last
     /// record or block. After that, and after any fault, each call answers the same again and reads nothing.
     ///

@@ -125,7 +125,15 @@ fn judge_packets<F: Files, S: Sink>(
         let rules = &following.rules;
         let mut walked = Vec::with_capacity(following.alloc, rules.most())?;
         let octets = &buffer[..caught.taken];
-        judge_packet(rules, caught.link, octets, &mut walked, lines, sink)?;
+        judge_packet(
+            capture.is_at_hand(files),
+            rules,
+            caught.link,
+            octets,
+            &mut walked,
+            lines,
+            sink,
+        )?;
     }
     Ok(())
 }
@@ -185,7 +193,15 @@ fn judge_on<F: Files, S: Sink>(
             return Ok(Some(caught));
         }
         let octets = &buffer[..caught.taken];
-        judge_packet(rules, caught.link, octets, &mut walked, lines, sink)?;
+        judge_packet(
+            capture.is_at_hand(files),
+            rules,
+            caught.link,
+            octets,
+            &mut walked,
+            lines,
+            sink,
+        )?;
     }
     Ok(None)
 }

@@ -1,5 +1,5 @@
 -- A player that holds one item ahead.
-use Rattle.cmd_stages.proofs.{Words.{◌≡◌, inl, inr, ◌≤◌, ◌<◌, ◌-◌, ℕ, suc, List, [], ◌∷◌, ◌++◌, Bool, true, false, Option, Some, None, refl, ap, sym, ◌∙◌, subst, append_assoc, append-nil, arith, filter, nat_le, if◌then◌else◌, IfSome, each_append, each_weaker, filter-append, filter_all, filter_none, OnlySlot, Rose, with_part, End, done, limited, bad, Config, IsItem, Item, TapeState, Timed, coming, item_from, items_to_come, timed, version_of, TapeReason, Version, One, Two, Desked, Played, Plays, Leaves, Covers, Noted, Refusal, Names, Stage, Found, Stopped, HasReason, Gives, HasVersion, HaveNoMoments, IsOpened, played_to, tape_stage, until, untimed, IsReady, IsUnplayed, PlayerState, Stands, due_item, items_ahead, to_play, rose_earlier}, Playing.{untimed_more}}
+use Rattle.cmd_stages.proofs.{Words.{◌≡◌, inl, inr, ◌≤◌, ◌<◌, ◌-◌, ℕ, suc, List, [], ◌∷◌, ◌++◌, Bool, true, false, Option, Some, None, refl, ap, sym, ◌∙◌, subst, append_assoc, append-nil, arith, filter, nat_le, if◌then◌else◌, IfSome, each_append, each_weaker, filter-append, filter_all, filter_none, OnlySlot, Rose, with_part, End, done, limited, bad, Config, IsItem, Item, TapeState, Timed, coming, item_from, items_to_come, timed, version_of, TapeReason, Version, One, Two, Desked, Played, Plays, Leaves, nobody, Covers, Noted, Refusal, Names, Stage, Found, Stopped, HasReason, Gives, HasVersion, HaveNoMoments, IsOpened, played_to, tape_stage, until, untimed, IsReady, IsUnplayed, PlayerState, Stands, due_item, items_ahead, to_play, rose_earlier}, Playing.{untimed_more}}
 use Rattle.std.{specs.{Prelude.{option_map, Result, Ok}, Option.{is_some}, List.{AllByRecursion}}, proofs.lemmas.Bool.{le-leb, leb-false, leb-true, lt-leb}}
 use Rattle.fs_tape.{specs.{Laws.{AreFrom}, declared.item.TapeItem.{TapeItem}}, proofs.Rising.{moments_rise}}
 use Rattle.fs_desk.proofs.Leaves.{played_leaves}
@@ -81,7 +81,7 @@ stands_step items t old new left left' item h m s plays same g v =
       early = each_append (λ (x : Timed). x.moment ≤ t) s.gone (first ∷ []) s.early (m, tt);
       played = subst (λ (c : Config). Played c (untimed (s.gone ++ first ∷ [])) new.desk) (sym same)
           (subst (λ (z : List Item). Played old.desk.config z new.desk) (sym (untimed_more s.gone (first ∷ [])))
-          (plays old.desk.config (untimed s.gone) s.played));
+          (plays nobody old.desk.config (untimed s.gone) s.played));
       version_is = if_then new.ahead (v ∙ if_ahead old.ahead item h s.version_is);
     }
 

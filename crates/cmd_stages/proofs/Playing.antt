@@ -44,7 +44,7 @@ pub all_played : (config : Config) (version : Version) (all : List Timed × End 
 all_played config version all old new p = subst (λ (e : End TapeReason). played_to (all.0, e) ≡ Found all.0) (sym p.done_is) refl
 
 -- what a tape of this content is to give, where it was opened so
-abbrev opened_to : Config → ℕ → List ℕ → Result Version (End TapeReason) → List Timed × End TapeReason
+abbrev pub opened_to : Config → ℕ → List ℕ → Result Version (End TapeReason) → List Timed × End TapeReason
 opened_to config limit octets opened =
     elim opened as (λ _. List Timed × End TapeReason) [
       | Ok version ↦ items_to_come config version limit 8 0 (drop 8 octets)

@@ -4,5 +4,6 @@ pub use Rattle.fs_base.{proofs.{Grew.{Grew-refl, part_none, part_whole}, Lists.{
 pub use Rattle.fs_input.specs.Records.{End, bad, done, limited}
 pub use Rattle.fs_tape.specs.{Header.{IsTimed, longest_payload}, Tape.{IsBegun, IsItem, Item, TapeState, Timed, coming, item_from, items_to_come, tape_of, timed, version_of}, declared.{fault.TapeReason.{TapeReason}, magic.Version.{Version, TheVariants.{One, Two}}}}
 pub use Rattle.fs_rules.specs.Changes.{Covers, Noted}
-pub use Rattle.fs_desk.specs.{Desk.{Desked, Played, Plays}, Leaves.{Leaves}}
-pub use Rattle.cmd_stages.specs.{Load.{Names, Openings, OpensFront, config_stage}, Play.{Gives, HasVersion, HaveNoMoments, IsOpenOrDone, IsOpened, IsWhole, PlaysOn, accepted_stage, played_to, tape_stage, until, untimed}, Player.{IsReady, IsUnplayed, PlayerState, Stands, due_item, items_ahead, to_play}, Refusal.{Answers, EndsEarly, Found, HasReason, Stage, Stopped, Verdict, and_then, answered, or_stop, status_of, verdict_with}, Writing.{Fails, Finishes, Writes}, declared.refusal.Refusal.{Refusal, TheVariants.{Capture, Dump, Limit, Memory, Outside, Rejected, Session, Tape}}}
+pub use Rattle.fs_desk.specs.{Desk.{Desked, Played, Plays}, Leaves.{Leaves, nobody}}
+pub use Rattle.cmd_stages.specs.{Items.{Ceases, GivesNone, ItemState, read_stage, to_give}, Load.{Names, Openings, OpensFront, config_stage}, Play.{Gives, HasVersion, HaveNoMoments, IsOpenOrDone, IsOpened, IsWhole, PlaysOn, accepted_stage, played_to, tape_stage, until, untimed}, Player.{IsReady, IsUnplayed, PlayerState, Stands, due_item, items_ahead, to_play}, Refusal.{Answers, EndsEarly, Found, HasReason, Stage, Stopped, Verdict, and_then, answered, or_stop, status_of, verdict_with}, Writing.{Fails, Finishes, Writes}, declared.refusal.Refusal.{Refusal, TheVariants.{Capture, Dump, Limit, Memory, Outside, Rejected, Session, Tape}}}
+unfoldable pub use Rattle.std.specs.List.Sorted.{IsStrictlySortedBy}

@@ -2,4 +2,5 @@ pub mod Refusal
 pub mod Load
 pub mod Play
 pub mod Player
+pub mod Items
 pub mod Writing

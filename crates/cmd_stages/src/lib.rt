@@ -2,6 +2,7 @@
 //! desk, a text written; and why a run ends before its job is done.
 #![tactic(auto)]
 
+mod items;
 mod load;
 mod play;
 mod player;
@@ -9,6 +10,7 @@ mod refusal;
 pub mod status;
 mod writing;
 
+pub use items::ItemPlayer;
 pub use load::{CAPTURE_SLOT, CONFIG_SLOT, RULES_SLOT, TAPE_SLOT, load_config, load_rules, open};
 pub use play::{WholeTape, play_whole};
 pub use player::Player;

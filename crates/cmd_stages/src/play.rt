@@ -1,10 +1,10 @@
 //! Playing a tape.
 
-ghost use Rattle.std.specs.Prelude.{◌≡◌, ◌≤◌, ◌<◌, None, Some, length, IsOk, IsTrue, IfOk, IfSome, OnOk, MatchResult};
+ghost use Rattle.std.specs.Prelude.{◌≡◌, ◌≤◌, ◌<◌, None, Some, length, IsOk, IsTrue, IfErr, IfOk, IfSome, OnOk, MatchResult};
 ghost use Rattle.fs_base.specs.{Files.{OnlySlot, one_opening}, Outside.{Rose}, Sink.{Grew}, declared.config.Config.{Config}};
 ghost use Rattle.fs_input.specs.declared.fault.Ended.TheVariants.{Done};
 ghost use Rattle.fs_tape.specs.{Header.{IsTimed, longest_payload}, Tape.{IsBegun, IsItem, coming, item_from}};
-ghost use Rattle.cmd_stages.specs.{Refusal.{HasReason, IsOfTape, answered, status_of}, Play.{EndsBy, IsOpenOrDone, tape_stage, played_to, IsOpened, IsWhole, Gives, PlaysOn, refused_by}};
+ghost use Rattle.cmd_stages.specs.{Items.{Ceases, read_stage}, Refusal.{Found, HasReason, IsOfTape, answered, status_of}, Play.{EndsBy, IsOpenOrDone, tape_stage, played_to, IsOpened, IsWhole, Gives, PlaysOn, refused_by}};
 ghost use Rattle.fs_desk.specs.Desk.{Notes, Plays};
 
 use crate::load::{TAPE_SLOT, open};
@@ -75,6 +75,13 @@ pub(crate) fn open_tape<F: Files>(files: &mut F, name: &str, limit: u64) -> Resu
         (IsOpened limit (F.holds files.old) name.now (F.left files.new 1))
         (λ refusal. (config : Config) → HasReason (tape_stage config limit (F.holds files.old) name.now)
         (Rose (F.faults files.old) (F.faults files.new)) refusal) }
+    ensures reads { IsTrue F.tells
+        → (config : Config)
+        → MatchResult result
+        (λ tape. read_stage config limit (F.holds files.old) name.now
+        ≡ Found (coming config tape (F.left files.new 1)))
+        (Ceases (read_stage config limit (F.holds files.old) name.now)
+        (Rose (F.faults files.old) (F.faults files.new))) }
     ensures opens { Grew (F.opened files.old) (F.opened files.new) (one_opening 1 name.now) }
     ensures others { OnlySlot F.tells F.left F.holds 1 files.old files.new }
 {
@@ -171,6 +178,9 @@ pub(crate) fn next_item<F: Files>(
         (Gives (coming config.now tape.old (F.left files.old tape.old.slot))
         (coming config.now tape.new (F.left files.new tape.old.slot)) tape.new.moment buffer.new)
         (HasReason (played_to (coming config.now tape.old (F.left files.old tape.old.slot)))
+        (Rose (F.faults files.old) (F.faults files.new))) }
+    ensures ceases { IsTrue F.tells
+        → IfErr result (Ceases (Found (coming config.now tape.old (F.left files.old tape.old.slot)))
         (Rose (F.faults files.old) (F.faults files.new))) }
     ensures opened { F.opened files.new ≡ F.opened files.old }
     ensures others { OnlySlot F.tells F.left F.holds tape.old.slot files.old files.new }

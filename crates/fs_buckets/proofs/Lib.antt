@@ -12,3 +12,6 @@ pub mod Splicing
 pub mod Stretching
 pub mod Subnets
 pub mod Widths
+pub mod Parting
+pub mod Replaced
+pub mod ListMending

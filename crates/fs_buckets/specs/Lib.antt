@@ -4,3 +4,4 @@ pub mod Buckets
 pub mod Destinations
 pub mod Housed
 pub mod Runs
+pub mod Mending

@@ -1,4 +1,6 @@
 mod Words
 pub mod Counting
 pub mod Surveying
+pub mod Following
+pub mod Telling
 pub mod Running

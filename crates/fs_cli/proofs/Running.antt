@@ -1,5 +1,5 @@
 -- What the clauses of a run say follows from what it does.
-use Rattle.fs_cli.proofs.Words.{◌≡◌, ◌≢◌, ◌⊎◌, ◌++◌, append-nil, inl, inr, ◌<◌, ◌∙◌, ◌==◌, ℕ, List, [], ◌∷◌, Option, Some, None, Result, Ok, Err, IsTrue, refl, ap, sym, subst, arith, true, false, Bool, not, if◌then◌else◌, filter, length, nat_le, Happened, happened, with_wire, FilesStood, SinkStood, WireStood, Grew, Grew-refl, Config, Timed, tape_of, Conversation, conversation, ChecksSo, Does, IsOneOf, Runs, HasNoMoments, HasStatus, HasCauses, Completes, Promises, objects, FailedOver, OutsideFailed, WireServed, Objects, AreTold, FilesKept, SinkKept, WireKept, ClockKept, names_in, happened_in, talk_in, speaks, statuses, EnforcesSo, Enforced, Wants, Inputs, inputs, inputs_stage, status_for, HoldsConfig, Names, fetch, config_stage, Form, Enforce, Surveys, Converts, Check, Gen, form_of, Announce, Listen, Pair, Text, ListsSo, Surveyed, listed_status, text_for, HasVersion, HoldsTape, accepted_stage, tape_stage, Answers, answered, Stage, Found, Stopped, Verdict, and_then, or_stop, status_of, Refusal, Outside, Rejected, Tape, Capture, Dump, Memory, Limit, Session, Caused, due_status, early_status, late_status, never_early, never_zero, not_rose, same_found, sending_stage, Opened, OpensFront, Openings, openings}
+use Rattle.fs_cli.proofs.Words.{◌≡◌, ◌≢◌, ◌⊎◌, ◌++◌, append-nil, inl, inr, ◌<◌, ◌∙◌, ◌==◌, ℕ, List, [], ◌∷◌, Option, Some, None, Result, Ok, Err, IsTrue, refl, ap, sym, subst, arith, true, false, Bool, not, if◌then◌else◌, filter, length, nat_le, Happened, happened, with_wire, FilesStood, SinkStood, WireStood, Grew, Grew-refl, Config, Timed, tape_of, Conversation, conversation, ChecksSo, Does, IsOneOf, Runs, HasNoMoments, HasStatus, HasCauses, Completes, Promises, objects, FailedOver, OutsideFailed, WireServed, Objects, AreTold, FilesKept, SinkKept, WireKept, ClockKept, names_in, happened_in, talk_in, speaks, statuses, EnforcesSo, Enforced, Wants, Inputs, inputs, inputs_stage, status_for, HoldsConfig, Names, fetch, config_stage, Form, Enforce, Surveys, Changes, Converts, Check, Gen, form_of, Announce, Listen, Pair, Text, ListsSo, Surveyed, TellsSo, Changed, tells_changes, listed_status, text_for, HasVersion, HoldsTape, accepted_stage, tape_stage, Answers, answered, Stage, Found, Stopped, Verdict, and_then, or_stop, status_of, Refusal, Outside, Rejected, Tape, Capture, Dump, Memory, Limit, Session, Caused, due_status, early_status, late_status, never_early, never_zero, not_rose, same_found, sending_stage, Opened, OpensFront, Openings, openings}
 use Rattle.std.{specs.{List.{AllByRecursion}, Prelude.{⊤}}, proofs.lemmas.Bool.Decides.{nat_tests}}
 use Rattle.fs_base.specs.declared.Files as files
 use Rattle.fs_base.specs.declared.Sink as sink
@@ -16,6 +16,7 @@ use Rattle.cmd_convert.{specs.{Command.{Converted, ConvertsSo, convert_status, d
 use Rattle.fs_cli.specs.declared.{command.Subject.{Subject}, survey.Survey.{Survey}}
 use Rattle.fs_tape.specs.declared.magic.Version.TheVariants.{Two}
 use Rattle.cmd_stages.proofs.LookingAhead.{found_items}
+use Rattle.fs_cli.proofs.Telling.{change_status, changed_well}
 
 -- the status
 
@@ -81,6 +82,7 @@ causes_of : (tells : Bool) (limit : ℕ) (holds : Names) (form : Form) (call : H
     → IsTrue tells → Does tells limit holds form call talk answer → HasStatus limit holds form talk answer ⊎ (answer ≡ 6) ⊎ ((answer ≡ 1) × OutsideFailed form call)
 causes_of tells limit holds (Enforce config tape capture) call talk answer told d = enforce_status limit holds config tape capture _ _ _ answer (d told)
 causes_of tells limit holds (Surveys survey config tape) call talk answer told d = survey_status (text_for survey) limit holds config tape _ _ _ answer (d told)
+causes_of tells limit holds (Changes config tape) call talk answer told d = change_status limit holds config tape _ _ _ answer (d told)
 causes_of tells limit holds (Converts config dump) call talk answer told d = dump_caused limit holds config dump _ _ _ answer (d told)
 causes_of tells limit holds (Check subject word) call talk answer told d = check_status limit holds subject word _ _ _ _ talk answer d
 causes_of tells limit holds (Gen count) call talk answer told d = gen_status count _ _ _ _ answer d
@@ -203,6 +205,13 @@ listed_well survey limit holds config tape failed call answer (inr (inr shows)) 
       wrote = whole_zero _ failed _ _ answer zero shows.answers;
     }
 
+changes_well : (limit : ℕ) (holds : Names) (config tape : List ℕ) (failed : Type 0) (call : Happened) (answer : ℕ)
+    → TellsSo limit holds config tape failed call.before.written call.now.written answer → answer ≡ 0 → Changed limit holds config tape call
+changes_well limit holds config tape failed call answer tells zero =
+    let told = changed_well limit holds config tape failed call.before.written call.now.written answer tells zero in
+    let files = both_found limit holds config tape told.accepted told.items told.found in
+    record { accepted = told.accepted; items = told.items; config_is = files.0; tape_is = files.1; held = told.held; holds_after = told.holds_after; wrote = told.wrote }
+
 dump_done : (end : End DumpReason) → dump_status end ≡ 0 → end ≡ done
 dump_done done e = refl
 dump_done limited e = absurd cc
@@ -286,9 +295,13 @@ one_of_session r p = one_but r (4 ∷ 5 ∷ 10 ∷ []) (p.0, (p.1, (p.2, tt)))
 pub wants_enforce : {S T : Type 0} {tells : Bool} (limit : ℕ) (holds : Names) (result : Result T Refusal) {form : Form} {config tape capture : List ℕ} {old new : S} {answer : ℕ}
     → form ≡ Enforce config tape capture → answer ≡ answered result
     → (IsTrue tells → answered result ≡ 6 → (HasVersion limit holds tape Two → ⊥) → new ≡ old)
-    → answer ≡ 6 → HasNoMoments tells limit holds form → new ≡ old
-wants_enforce limit holds result {config = config} {tape = tape} {capture = capture} e a kept six none =
+    → answer ≡ 6 → tells_changes form ≡ false → HasNoMoments tells limit holds form → new ≡ old
+wants_enforce limit holds result {config = config} {tape = tape} {capture = capture} e a kept six other none =
     let premise = none config tape capture e in kept premise.0 (sym a ∙ six) premise.1
+
+-- and `changes` is another command
+pub wants_changes : {S : Type 0} {form : Form} {config tape : List ℕ} {old new : S} → form ≡ Changes config tape → tells_changes form ≡ false → new ≡ old
+wants_changes e h = let wrong : true ≡ false = sym (ap tells_changes e) ∙ h in absurd cc
 
 -- what is said of the files of `enforce`
 pub enforce_as : (Says : List ℕ → List ℕ → List ℕ → Type 0) {form : Form} {config tape capture config' tape' capture' : List ℕ}
@@ -333,12 +346,13 @@ promises_none limit of_files of_sink of_wire of_clock files sink wire clock word
       config_writes_nothing = λ three. (refl, refl, refl);
       limit_writes_nothing = λ seven survey config tape asked. refl;
       tape_writes_nothing = λ told four config tape capture asked. refl;
-      memory_writes_nothing = λ six form asked none. refl;
+      memory_writes_nothing = λ six form asked tells none. refl;
       memory_keeps_judged = λ told six. absurd cc;
       causes = λ told. subst (λ (f : Option Form). HasCauses limit (of_files.holds files) f call talk 2) e tt;
       complete = λ told stood sink_stood served. subst (λ (f : Option Form). Completes limit (of_files.holds files) f talk 2) e tt;
       headline = λ told zero config tape capture asked. absurd cc;
       listed = λ told zero survey config tape asked. absurd cc;
+      changed = λ told zero config tape asked. absurd cc;
       converted = λ told zero config dump asked. absurd cc;
       announced = λ told config rules address asked. not_asked (Announce config rules address) (form_of words) e asked;
       listened = λ told config address asked. not_asked (Listen config address) (form_of words) e asked;
@@ -363,7 +377,7 @@ pub promises_some : {F S W C : Type 0} (limit : ℕ) (w : Objects F S W C) (word
     → Runs w.of_files.tells limit (names_in w) (Some form) (happened_in w) (talk_in w) answer
     → answer ≢ 2
     → (answer ≡ 3 → SinkKept w × WireKept w × ClockKept w)
-    → (answer ≡ 6 → HasNoMoments w.of_files.tells limit (names_in w) form → SinkKept w)
+    → (answer ≡ 6 → tells_changes form ≡ false → HasNoMoments w.of_files.tells limit (names_in w) form → SinkKept w)
     → (answer ≡ 7 → (survey : Survey) (config tape : List ℕ) → form ≡ Surveys survey config tape → SinkKept w)
     → (AreTold w → answer ≡ 4 → (config tape capture : List ℕ) → form ≡ Enforce config tape capture → SinkKept w)
     → (AreTold w → answer ≡ 6 → (config tape capture : List ℕ) → form ≡ Enforce config tape capture
@@ -395,13 +409,14 @@ promises_some limit w words form answer e run known quiet wanting bounded still 
       config_writes_nothing = quiet;
       limit_writes_nothing = λ seven survey config tape asked. bounded seven survey config tape (the (Surveys survey config tape) asked);
       tape_writes_nothing = λ told four config tape capture asked. still told four config tape capture (the (Enforce config tape capture) asked);
-      memory_writes_nothing = λ six asked is none. wanting six (subst (HasNoMoments tells limit holds) (sym (the asked is)) none);
+      memory_writes_nothing = λ six asked is untold none. wanting six (ap tells_changes (the asked is) ∙ untold) (subst (HasNoMoments tells limit holds) (sym (the asked is)) none);
       memory_keeps_judged = λ told six config tape capture asked. unfinished told six config tape capture (the (Enforce config tape capture) asked);
       causes = causes;
       complete = λ told stood sink_stood served. causes_complete limit holds (form_of words) call talk answer stood sink_stood served (causes told);
       headline = λ told zero config tape capture asked.
           enforced_well limit holds config tape capture _ call answer (does (Enforce config tape capture) asked told) zero;
       listed = λ told zero survey config tape asked. listed_well (text_for survey) limit holds config tape _ call answer (does (Surveys survey config tape) asked told) zero;
+      changed = λ told zero config tape asked. changes_well limit holds config tape _ call answer (does (Changes config tape) asked told) zero;
       converted = λ told zero config dump asked. converted_well limit holds config dump _ call answer (does (Converts config dump) asked told) zero;
       announced = λ told config rules address asked. announce_promises limit holds config rules call talk answer (does (Announce config rules address) asked told);
       listened = λ told config address asked. listen_promises limit holds config call talk answer (does (Listen config address) asked told);

@@ -4,7 +4,7 @@ use Rattle.std.specs.Result.{IsErrAnd}
 use Rattle.fs_desk.{specs.Desk.{Desked}, proofs.Leaves.{played_leaves}}
 
 -- of no other fault than a tape's anything is said
-nothing_said : (refusal : Refusal) → status_of refusal ≢ 4 → stopped_text refusal ≡ []
+pub nothing_said : (refusal : Refusal) → status_of refusal ≢ 4 → stopped_text refusal ≡ []
 nothing_said Outside n = refl
 nothing_said Rejected n = refl
 nothing_said (Tape reason place) n = absurd (n refl)

@@ -1,7 +1,7 @@
 -- What the command line may say.
 use Rattle.std.specs.{Prelude.{◌==◌, ◌&&◌, ℕ, List, [], ◌∷◌, Bool, false, not, nat_le, Option, Some, None, if◌then◌else◌, codes, decimal, option_map}, Str.{bytes_eq, Parse.{digits_value}}}
 use Rattle.fs_base.specs.declared.prefix.Family.TheVariants.{V4, V6}
-use Rattle.fs_cli.specs.declared.{command.{Command.{Command, TheVariants.{Enforce as EnforceCommand, Survey as SurveyCommand, Convert as ConvertCommand, Check as CheckCommand, Gen as GenCommand, Announce as AnnounceCommand, Listen as ListenCommand, Pair as PairCommand}}, Subject.{Subject, TheVariants.{Nlri, Text}}}, survey.Survey.{Survey, TheVariants.{Rules, Shadow, Words}}}
+use Rattle.fs_cli.specs.declared.{command.{Command.{Command, TheVariants.{Enforce as EnforceCommand, Survey as SurveyCommand, Changes as ChangesCommand, Convert as ConvertCommand, Check as CheckCommand, Gen as GenCommand, Announce as AnnounceCommand, Listen as ListenCommand, Pair as PairCommand}}, Subject.{Subject, TheVariants.{Nlri, Text}}}, survey.Survey.{Survey, TheVariants.{Rules, Shadow, Words}}}
 
 -- a command, with the names of the files that it is to read, or the word that it is to say of and what as, or how
 -- many steps and packets it is to generate, or the files and the address of whom it is to announce to or to receive from,
@@ -9,6 +9,7 @@ use Rattle.fs_cli.specs.declared.{command.{Command.{Command, TheVariants.{Enforc
 pub data Form : Type 0 where
   Enforce : (config tape capture : List ℕ) → Form
   Surveys : Survey → (config tape : List ℕ) → Form
+  Changes : (config tape : List ℕ) → Form
   Converts : (config dump : List ℕ) → Form
   Check : Subject → (word : List ℕ) → Form
   Gen : (count : ℕ) → Form
@@ -47,7 +48,8 @@ survey_of word =
 -- a command of two files, or of a file and an address
 abbrev pub two_names : (word first second : List ℕ) → Option Form
 two_names word first second =
-    if bytes_eq word (codes "convert") then Some (Converts first second)
+    if bytes_eq word (codes "changes") then Some (Changes first second)
+    else if bytes_eq word (codes "convert") then Some (Converts first second)
     else if bytes_eq word (codes "listen") then Some (Listen first second)
     else if bytes_eq word (codes "pair") then Some (Pair first second)
     else option_map (λ survey. Surveys survey first second) (survey_of word)
@@ -73,6 +75,7 @@ form_of _ = None
 abbrev pub form_shown : Command → Form
 form_shown (EnforceCommand names) = Enforce names.config.now names.tape.now names.capture.now
 form_shown (SurveyCommand survey config tape) = Surveys survey config.now tape.now
+form_shown (ChangesCommand config tape) = Changes config.now tape.now
 form_shown (ConvertCommand names) = Converts names.config.now names.dump.now
 form_shown (CheckCommand subject word) = Check subject word.now
 form_shown (GenCommand count) = Gen count

@@ -7,7 +7,7 @@ use Rattle.cmd_convert.specs.Command.{Converts as ConvertsDump, Converted, conve
 use Rattle.cmd_enforce.specs.Command.{Enforces, Enforced, Wants, inputs_stage, status_for, openings_of}
 use Rattle.cmd_gen.specs.Command.{Generates, Generated}
 use Rattle.cmd_wire.specs.{Announcing.{Announced, Announces}, Conversation.{Conversation, conversation}, Listening.{Heard, ListensTo, hearing_stage}, Pairing.{Carries, Joins}, Concluded.{AnyFailed, HasStatusBy}, Promised.{AnnouncePromises, ListenPromises, PairPromises}}
-use Rattle.fs_cli.specs.{Command.{Form, Enforce, Surveys, Converts, Check, Gen, form_of, Announce, Listen, Pair}, Survey.{Lists, Surveyed, listed_status, text_for}, declared.{command.Subject.{Subject, TheVariants.{Nlri, Text}}, survey.Survey.{Survey}}}
+use Rattle.fs_cli.specs.{Changes.{Changed, TellsChanges}, Command.{Form, Enforce, Surveys, Changes, Converts, Check, Gen, form_of, Announce, Listen, Pair}, Survey.{Lists, Surveyed, listed_status, text_for}, declared.{command.Subject.{Subject, TheVariants.{Nlri, Text}}, survey.Survey.{Survey}}}
 use Rattle.fs_tape.specs.declared.magic.Version.TheVariants.{Two}
 use Rattle.fs_base.specs.declared.Files as files
 use Rattle.fs_base.specs.declared.Sink as sink
@@ -45,6 +45,7 @@ Checks subject word call answer = ChecksSo subject word (SinkFailed call) call.b
 abbrev pub Does : (tells : Bool) (limit : ℕ) (holds : Names) → Form → Happened → Conversation → ℕ → Type 0
 Does tells limit holds (Enforce config tape capture) call talk answer = IsTrue tells → Enforces limit holds config tape capture call answer
 Does tells limit holds (Surveys survey config tape) call talk answer = IsTrue tells → Lists (text_for survey) limit holds config tape call answer
+Does tells limit holds (Changes config tape) call talk answer = IsTrue tells → TellsChanges limit holds config tape call answer
 Does tells limit holds (Converts config dump) call talk answer = IsTrue tells → ConvertsDump limit holds config dump call answer
 Does tells limit holds (Check subject word) call talk answer = Checks subject word call answer
 Does tells limit holds (Gen count) call talk answer = Generates count call answer
@@ -61,6 +62,7 @@ IsOneOf (status ∷ statuses) answer = (answer ≡ status) ⊎ IsOneOf statuses 
 abbrev pub statuses : Form → List ℕ
 statuses (Enforce config tape capture) = 0 ∷ 1 ∷ 3 ∷ 4 ∷ 5 ∷ 6 ∷ 7 ∷ []
 statuses (Surveys survey config tape) = 0 ∷ 1 ∷ 3 ∷ 4 ∷ 6 ∷ 7 ∷ []
+statuses (Changes config tape) = 0 ∷ 1 ∷ 3 ∷ 4 ∷ 6 ∷ 7 ∷ []
 statuses (Converts config dump) = 0 ∷ 1 ∷ 3 ∷ 6 ∷ 7 ∷ 10 ∷ []
 statuses (Check subject word) = 0 ∷ 1 ∷ 6 ∷ 9 ∷ []
 statuses (Gen count) = 0 ∷ 1 ∷ 6 ∷ []
@@ -75,6 +77,7 @@ Runs tells limit holds (Some form) call talk answer = IsOneOf (statuses form) an
 abbrev pub HasStatus : (limit : ℕ) (holds : Names) → Form → Conversation → ℕ → Type 0
 HasStatus limit holds (Enforce config tape capture) talk answer = answer ≡ status_for (inputs_stage limit holds config tape capture)
 HasStatus limit holds (Surveys survey config tape) talk answer = answer ≡ listed_status (accepted_stage limit holds config tape)
+HasStatus limit holds (Changes config tape) talk answer = answer ≡ listed_status (accepted_stage limit holds config tape)
 HasStatus limit holds (Converts config dump) talk answer = answer ≡ convert_status limit holds config dump
 HasStatus limit holds (Check subject word) talk answer =
     (accepted : Bool) × (text : List ℕ) × ReportsOn subject word text accepted × (answer ≡ (report_verdict accepted text).status)
@@ -88,6 +91,7 @@ HasStatus limit holds (Pair config rules) talk answer = HasStatusBy (Carries lim
 abbrev pub openings : Form → Openings
 openings (Enforce config tape capture) = openings_of config tape capture
 openings (Surveys survey config tape) = config_then 1 config tape
+openings (Changes config tape) = config_then 1 config tape
 openings (Converts config dump) = config_then 1 config dump
 openings (Announce config rules address) = config_then 2 config rules
 openings (Listen config address) = config_alone config
@@ -100,6 +104,11 @@ speaks (Announce config rules address) = true
 speaks (Listen config address) = true
 speaks (Pair config rules) = true
 speaks form = false
+
+-- whether a command writes while it plays a tape
+abbrev pub tells_changes : Form → Bool
+tells_changes (Changes config tape) = true
+tells_changes form = false
 
 -- a call on the files or on the sink failed, or on the wire of a command that speaks over it
 abbrev pub FailedOver : (speaks : Bool) → Happened → Type 0
@@ -207,7 +216,7 @@ pub record Promises {F S W C : Type 0} (limit : ℕ) (w : Objects F S W C) (word
   -- `gen` opens no file.
   pub gen_opens_nothing : (count : ℕ) → form_of words ≡ Some (Gen count) → FilesKept w
   -- What a command opened is a front of its files, in their order, each in its slot: the first at least, at 0 all
-  -- (`enforce` the first three at least), at 3 of `enforce`, `convert` and a survey the configuration alone.
+  -- (`enforce` the first three at least), at 3 of `enforce`, `changes`, `convert` and a survey the configuration alone.
   pub opens : (form : Form) → form_of words ≡ Some form
       → OpensFront (openings form) (w.of_files.opened w.files_before) (w.of_files.opened w.files_behind) answer
   -- Only `announce`, `listen` and `pair` use the wire, and the clock.
@@ -220,9 +229,9 @@ pub record Promises {F S W C : Type 0} (limit : ℕ) (w : Objects F S W C) (word
   -- At 4 `enforce` writes nothing, where the files tell.
   pub tape_writes_nothing : AreTold w → answer ≡ 4 → (config tape capture : List ℕ)
       → form_of words ≡ Some (Enforce config tape capture) → SinkKept w
-  -- At 6 nothing is written, but by `enforce` over a tape of the second version: no packet ends another run for want of
-  -- memory.
-  pub memory_writes_nothing : answer ≡ 6 → (form : Form) → form_of words ≡ Some form
+  -- At 6 nothing is written, but by `changes`, and by `enforce` over a tape of the second version: no packet ends another
+  -- run for want of memory.
+  pub memory_writes_nothing : answer ≡ 6 → (form : Form) → form_of words ≡ Some form → tells_changes form ≡ false
       → HasNoMoments w.of_files.tells limit (names_in w) form → SinkKept w
   -- At 6 `enforce` has written the lines of all packets that it judged. The others are left in the capture, but for at
   -- most one that was read; over a tape of the first version these are all.
@@ -245,6 +254,10 @@ pub record Promises {F S W C : Type 0} (limit : ℕ) (w : Objects F S W C) (word
   pub listed : AreTold w → answer ≡ 0 → (survey : Survey) (config tape : List ℕ)
       → form_of words ≡ Some (Surveys survey config tape)
       → Surveyed (text_for survey) limit (names_in w) config tape (happened_in w)
+  -- At 0 `changes` wrote, item by item, what the tape changes of the rules that validation admits from the routes that
+  -- are held after the item.
+  pub changed : AreTold w → answer ≡ 0 → (config tape : List ℕ) → form_of words ≡ Some (Changes config tape)
+      → Changed limit (names_in w) config tape (happened_in w)
   -- At 0 `convert` wrote the tape of the second version whose items the dump's records make.
   pub converted : AreTold w → answer ≡ 0 → (config dump : List ℕ)
       → form_of words ≡ Some (Converts config dump)

@@ -23,6 +23,11 @@ pub enum Command<'w> {
         config: &'w str,
         tape: &'w str,
     },
+    /// Plays a tape, and tells after each item what it changes of the admitted rules.
+    Changes {
+        config: &'w str,
+        tape: &'w str,
+    },
     /// Reads a dump, and writes the tape of the second version that its records make.
     Convert(DumpNames<'w>),
     /// Plays a generated tape, and counts what becomes of generated packets: so many of each.
@@ -106,6 +111,10 @@ fn parse_two<'w>(word: &str, first: &'w str, second: &'w str) -> Option<Command<
     }
     let config = first;
     match word {
+        "changes" => Some(Command::Changes {
+            config,
+            tape: second,
+        }),
         "convert" => Some(Command::Convert(DumpNames {
             config,
             dump: second,

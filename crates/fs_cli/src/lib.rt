@@ -1,12 +1,16 @@
 //! The commands of the program.
 #![tactic(auto)]
 
+mod changes;
 mod command;
+mod laws;
 mod program;
 mod survey;
 
 pub use cmd_enforce::same_lines;
 pub use cmd_stages::status;
+pub use fs_changes::{follows, leads, says_nothing};
 pub use fs_desk::{Desk, same_routes};
 pub use fs_speaker::Standing;
+pub use laws::same_changes;
 pub use program::{run, run_within};

@@ -2,11 +2,12 @@
 
 ghost use Rattle.std.specs.Prelude.{◌≡◌, ◌≢◌, ◌≤◌, ◌^◌, ◌∷◌, [], ℕ, IfOk, IsTrue, List, Some, false, map, string_bytes};
 ghost use Rattle.fs_base.specs.Happened.{at_sink, happened, with_wire};
-ghost use Rattle.fs_cli.specs.{declared.{command.Subject.{Subject}, survey.Survey.{Survey}}, Program.{Checks, HasNoMoments, IsOneOf, Promises, ReportsOn, Runs, checked, speaks, objects, openings}, Command.{form_shown, Check, Enforce, Gen, Surveys}};
+ghost use Rattle.fs_cli.specs.{declared.{command.Subject.{Subject}, survey.Survey.{Survey}}, Program.{Checks, HasNoMoments, IsOneOf, Promises, ReportsOn, Runs, checked, speaks, objects, openings, tells_changes}, Command.{form_shown, Check, Enforce, Gen, Surveys}};
 ghost use Rattle.cmd_stages.specs.{Load.{OpensFront}, Refusal.{answered}};
 ghost use Rattle.cmd_enforce.specs.Command.{Wants};
 ghost use Rattle.cmd_wire.specs.Conversation.{conversation};
 
+use crate::changes::tell_changes;
 use crate::command::{Command, Subject, parse};
 use crate::survey::survey_tape;
 use cmd_convert::convert;
@@ -88,6 +89,7 @@ fn perform<F: Files, S: Sink, W: Wire, C: Clock>(
     ensures known { result ≢ 2 }
     ensures quiet { result ≡ 3 → (sink.new ≡ sink.old) × ((wire.new ≡ wire.old) × (clock.new ≡ clock.old)) }
     ensures wanting { result ≡ 6
+        → tells_changes (form_shown job.entry.command) ≡ false
         → HasNoMoments F.tells job.entry.limit (F.holds files.old) (form_shown job.entry.command)
         → sink.new ≡ sink.old }
     ensures limited { result ≡ 7
@@ -124,6 +126,9 @@ fn perform<F: Files, S: Sink, W: Wire, C: Clock>(
             config,
             tape,
         } => answer_of(survey_tape(alloc, files, sink, survey, config, tape, limit)),
+        Command::Changes { config, tape } => {
+            answer_of(tell_changes(alloc, files, sink, config, tape, limit))
+        }
         Command::Convert(names) => answer_of(convert(alloc, files, sink, &names, limit)),
         Command::Check(subject, word) => run_check(alloc, sink, subject, word),
         Command::Gen(count) => answer_of(generate(alloc, sink, count)),

@@ -1,6 +1,6 @@
 //! The commands that play a tape and survey what it leaves.
 
-ghost use Rattle.std.specs.Prelude.{◌≡◌, ◌≤◌, ◌⊎◌, IfOk, IsTrue};
+ghost use Rattle.std.specs.Prelude.{◌≡◌, ◌≢◌, ◌≤◌, ◌⊎◌, IfOk, IsTrue};
 ghost use Rattle.fs_base.specs.{Happened.{happened}, Outside.{Rose}};
 ghost use Rattle.cmd_stages.specs.{Load.{OpensFront, config_then}, Refusal.{IsOfTape, answered, status_of}};
 ghost use Rattle.fs_cli.specs.Survey.{IsOfSurvey, Lists, SaysOf, text_for};
@@ -70,11 +70,16 @@ fn survey_text(alloc: Global, survey: Survey, desk: &Desk<'_>) -> Result<Vec<u8>
 }
 
 /// Writes what is said at a refusal of the tape, and hands the refusal on.
-fn tell_refusal<S: Sink>(alloc: Global, refusal: Refusal, sink: &mut S) -> Result<(), Refusal>
+pub(crate) fn tell_refusal<S: Sink>(
+    alloc: Global,
+    refusal: Refusal,
+    sink: &mut S,
+) -> Result<(), Refusal>
     requires { IsOfTape (status_of refusal) }
     ensures later { S.faults sink.old ≤ S.faults sink.new }
     ensures possible { IsOfTape (answered result) }
     ensures quiet { (answered result ≡ 3) ⊎ (answered result ≡ 6) ⊎ (answered result ≡ 7) → sink.new ≡ sink.old }
+    ensures kept { status_of refusal ≢ 4 → (answered result ≡ status_of refusal) × (sink.new ≡ sink.old) }
     ensures said { SaysOf refusal (Rose (S.faults sink.old) (S.faults sink.new))
         (S.written sink.old) (S.written sink.new) result }
 {

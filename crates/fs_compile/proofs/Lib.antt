@@ -7,8 +7,6 @@ pub mod Walking
 pub mod Marking
 pub mod Sieving
 pub mod Skipping
-pub mod Parting
-pub mod Replacing
 pub mod Filtering
 pub mod IndexMending
 pub mod MatcherMending

@@ -1,4 +1,5 @@
 pub use Rattle.fs_buckets.specs.Destinations
+pub use Rattle.fs_buckets.specs.Mending
 pub use Rattle.fs_ranges.specs.Facts
 pub use Rattle.fs_ranges.specs.Fast
 pub use Rattle.fs_ranges.specs.Spans
@@ -7,6 +8,5 @@ pub mod Columns
 pub mod Filters
 pub mod Reach
 pub mod Index
-pub mod Mending
 pub mod Matches
 pub mod Matcher

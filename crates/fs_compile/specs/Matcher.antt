@@ -1,13 +1,10 @@
 -- What a compiled matcher stands for, and the walk that is taken with it (RFC 8955 sections 5.1 and 7.3).
-use Rattle.std.specs.Prelude.{ℕ, ◌≡◌, ◌+◌, Option, Some, None, List, [], ◌∷◌, drop, get_or, if◌then◌else◌, map}
+use Rattle.std.specs.Prelude.{ℕ, ◌≡◌, ◌+◌, Option, Some, None, List, [], ◌∷◌, drop, get_or, if◌then◌else◌}
 use Rattle.fs_base.specs.declared.prefix.Family.{Family, TheVariants.{V4, V6}}
 use Rattle.fs_packet.specs.Fields.{Viewed}
-use Rattle.fs_rules.specs.{Table.{Held, admitted}, Lent.{Listed, listed}, Walk.{first_from, goes_on, walk_from}}
+pub use Rattle.fs_buckets.specs.Mending.{admitted_in}
+use Rattle.fs_rules.specs.{Lent.{Listed}, Walk.{first_from, goes_on, walk_from}}
 use Rattle.fs_compile.specs.{declared.compiled.Compiled.{Compiled}, Index.{IsIndexOf}}
-
--- the admitted rules of each family in order
-abbrev pub admitted_in : Held → Family → List Listed
-admitted_in held family = map listed (admitted family held)
 
 -- it stands for these rules of each family, which are numbered from 0
 pub record StandsForLists (rules : Family → List Listed) (compiled : Compiled) : Type 0 where

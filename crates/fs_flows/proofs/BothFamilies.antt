@@ -1,5 +1,5 @@
 -- The routes of IPv4 stand before those of IPv6.
-use Rattle.fs_flows.{proofs.{Words.{ℕ, ◌≡◌, ◌+◌, sym, ap, ap₂, subst, ◌∙◌, Bool, true, false, not, ◌&&◌, ◌==◌, cond, List, [], ◌∷◌, ◌++◌, filter, map, nat_cmp, is_eq, Result, Ok, Err, OnOk, OnErr, arith, append-nil, map-append, list_any, AllByRecursion, ordering_then, afi_of, Config, Family, V4, V6, Prefix, and_first, each_weaker, each_append, filter-append, filter_all, filter_none, each_filtered, same_family_of, Ruled, IsRule, parts_cmp, Route, Kept, is_key, is_of_family, is_valid, related_count, Noted, AreSorted, routes_of, put_kept, mended, retested, is_related_kept, is_beaten, is_chosen, chosen, of_family, is_other_key, HaveRules, Entry, IsSound, AreLent, MendsKept, AllBefore, RuleBefore}, Apart.{families_before}, ChosenParts.{chosen-append}, Changed.{any_back, any_front, each-filtered, each-put, left_back, left_front}, Mending.{marked_families}, Placing.{related-append}, PuttingInGroups.{put_left, put_right, sorted_front, sorted_back}}, specs.Flows.{AreOfFamilies}}
+use Rattle.fs_flows.{proofs.{Words.{ℕ, ◌≡◌, ◌+◌, sym, ap, ap₂, subst, ◌∙◌, Bool, true, false, not, ◌&&◌, ◌==◌, cond, List, [], ◌∷◌, ◌++◌, filter, map, nat_cmp, is_eq, Result, Ok, Err, OnOk, OnErr, arith, append-nil, map-append, list_any, AllByRecursion, ordering_then, afi_of, Config, Family, V4, V6, Prefix, and_first, each_weaker, each_append, filter-append, filter_all, filter_none, each_filtered, same_family_of, Ruled, IsRule, parts_cmp, Route, Kept, is_key, is_of_family, is_valid, related_count, Noted, AreSorted, routes_of, put_kept, mended, retested, is_related_kept, IsRightAt, is_beaten, is_chosen, chosen, of_family, is_other_key, HaveRules, Entry, IsSound, AreLent, MendsKept, AllBefore, RuleBefore}, Apart.{each_back, each_front, families_before}, ChosenParts.{chosen-append}, Changed.{any_back, any_front, each-filtered, each-put, left_back, left_front}, Mending.{marked_families}, Placing.{related-append}, PuttingInGroups.{put_left, put_right, sorted_front, sorted_back}}, specs.Flows.{AreOfFamilies}}
 
 before_each : (xs ys : List Kept) → AreOfFamilies xs ys → AllBefore xs ys
 before_each xs ys h = each_weaker (IsSound V4) (λ x. AllByRecursion (RuleBefore x) ys) (λ x s. each_weaker (IsSound V6) (RuleBefore x) (λ y t. families_before x y s t) ys h.second) xs h.first
@@ -61,6 +61,7 @@ module _ (p : Prefix) (unicast : List Route) (config : Config) where
     kept = ap₂ (λ a b. a ++ b) h.kept k.kept ∙ sym (map-append (mended p unicast config) xs ys);
     stays = λ rule n. k.stays rule (h.stays rule n);
     marked = marked_families unicast config p xs ys between more k.stays h.marked k.marked;
+    quiet = λ r. k.quiet (each_back (IsRightAt p unicast config) xs ys r) ∙ h.quiet (each_front (IsRightAt p unicast config) xs ys r);
     later = omega (arith, h.later, k.later);
     steps = let e : related_count p (routes_of (xs ++ ys)) ≡ related_count p (routes_of xs) + related_count p (routes_of ys) = related-append p xs ys in omega (arith, h.steps, k.steps);
   }

@@ -1,5 +1,5 @@
 -- Validating anew the groups whose destination passes a test, and noting those in which a validity changed.
-use Rattle.fs_flows.proofs.{Words.{set, map_over_more, ℕ, zero, suc, ◌≡◌, ◌↔◌, ◌⊎◌, inl, inr, ◌+◌, ◌<◌, ◌≤◌, refl, sym, ap, ap₂, subst, ◌∙◌, Bool, true, false, true≢false, ◌&&◌, ◌||◌, cond, List, [], ◌∷◌, ◌++◌, map, length, take, drop, get_or, Option, Some, None, is_eq, arith, length-map, map-append, take_more, same_Some, AllByRecursion, IsStrictlySortedBy, is_at, keys_of, lookup, set_value, sorted_head, sorted_tail, Config, Prefix, prefix_cmp, false_from, or_false, or_none, same_from_cmp, each_append, each_both, each_mapped, each_of_map, each_weaker, Route, Swap, IsSwap, is_related, validity_to, FlowRoute, Kept, Noted, StaysNoted, IsNotedAt, is_noted, IsRight, AreRight, AreRightTo, IsMarked, IsRightAt, retested, retested_to, mended, routes_of, has_related, related_count, Entry, kept_in, IsTo, ArePlaced, AreInOrder, touched, size, Marks, Mends, Progress, progress, IsRightEither, AreRightSince, WereRight}, Apart.{each_front, each_back}, Placing.{get_or_again, related-append}, TakingFromGroups.{other_keys}}
+use Rattle.fs_flows.proofs.{Words.{set, map_over_more, ℕ, zero, suc, ◌≡◌, ◌↔◌, ◌⊎◌, inl, inr, ◌+◌, ◌<◌, ◌≤◌, refl, sym, ap, ap₂, subst, ◌∙◌, Bool, true, false, true≢false, ◌&&◌, ◌||◌, cond, List, [], ◌∷◌, ◌++◌, map, length, take, drop, get_or, Option, Some, None, is_eq, arith, length-map, map-append, take_more, same_Some, AllByRecursion, IsStrictlySortedBy, is_at, keys_of, lookup, set_value, sorted_head, sorted_tail, Config, Prefix, prefix_cmp, false_from, or_false, or_none, same_from_cmp, each_append, each_both, each_mapped, each_of_map, each_weaker, Route, Swap, IsSwap, is_related, validity_to, FlowRoute, Kept, Noted, StaysNoted, IsNotedAt, is_noted, IsRight, AreRight, AreRightTo, IsMarked, IsRightAt, retested, retested_to, mended, routes_of, has_related, related_count, Entry, kept_in, IsTo, ArePlaced, AreInOrder, touched, size, Marks, Mends, Progress, progress, IsRightEither, IsRightWhere, AreRightSince, WereRight}, Apart.{each_front, each_back}, Placing.{get_or_again, related-append}, TakingFromGroups.{other_keys}}
 
 -- a flag is down exactly where one fact holds, and so another
 pub told_as : {P Q : Type 0} (b : Bool) → (P → Q) → (Q → P) → (b ≡ false) ↔ P → (b ≡ false) ↔ Q
@@ -61,6 +61,7 @@ module _ (unicast : List Route) (config : Config) where
     entries = m.entries ∙ touched_on t u old.groups h;
     stays = m.stays;
     marks = each_both (Same t u) (IsKnownOf t new.noted) (IsKnownOf u new.noted) (λ e s d k. d (s ∙ k)) old.groups h m.marks;
+    quiet = λ r. m.quiet (each_both (Same t u) (IsRightWhere unicast config u) (IsRightWhere unicast config t) (λ e s d k. d (sym s ∙ k)) old.groups h r);
     later = m.later;
     steps = subst (λ n. new.steps ≤ old.steps + n) (size_on t u old.groups h) m.steps;
   }
@@ -74,7 +75,7 @@ module _ (unicast : List Route) (config : Config) where
 
   -- where no key passes nothing is done
   pub mends_none : (t : Prefix → Bool) (now : Progress) → AllByRecursion (λ e. t e.0 ≡ false) now.groups → Mends unicast config t now now
-  mends_none t now h = record { entries = sym (touched_none t now.groups h); stays = λ rule k. k; marks = none_known t now.noted now.groups h; later = omega arith; steps = omega arith }
+  mends_none t now h = record { entries = sym (touched_none t now.groups h); stays = λ rule k. k; marks = none_known t now.noted now.groups h; quiet = λ r. refl; later = omega arith; steps = omega arith }
 
   key_stays : (t : Prefix → Bool) (e : Entry) → (touched unicast config t e).0 ≡ e.0
   key_stays t e = at (t e.0) where
@@ -136,12 +137,23 @@ module _ (unicast : List Route) (config : Config) where
     at true g f k p = f refl
     at false g f k p = k p
 
+  -- what one test leaves to another is right, where all is
+  right_both : (t u : Prefix → Bool) (es : List Entry) → AllByRecursion (λ e. (t e.0 && u e.0) ≡ false) es → AllByRecursion (IsRightWhere unicast config (λ q. t q || u q)) es
+      → AllByRecursion (IsRightWhere unicast config t) es × AllByRecursion (IsRightWhere unicast config u) (touches t es)
+  right_both t u [] h r = (tt, tt)
+  right_both t u (e ∷ es) h r = let both = right_both t u es h.1 r.1 in
+      ((λ k. r.0 (ap (λ b. b || u e.0) k), both.0), (at (t e.0) refl h.0, both.1)) where
+        at : (b : Bool) → t e.0 ≡ b → (b && u e.0) ≡ false → IsRightWhere unicast config u (cond b (e.0, map (retested_to unicast config e.0) e.1) e)
+        at true f g k = absurd (true≢false (sym k ∙ g))
+        at false f g k = r.0 (ap (λ b. b || u e.0) f ∙ k)
+
   pub mends_both : (t u : Prefix → Bool) {old mid new : Progress} → Mends unicast config t old mid → Mends unicast config u mid new → AllByRecursion (λ e. (t e.0 && u e.0) ≡ false) old.groups
       → Mends unicast config (λ q. t q || u q) old new
   mends_both t u {old} {mid} {new} m n h = record {
     entries = n.entries ∙ ap (touches u) m.entries ∙ both_touched t u es h;
     stays = λ rule k. n.stays rule (m.stays rule k);
     marks = known_both t u es new.noted h (known_more t es mid.noted new.noted n.stays m.marks) (subst (AllByRecursion (IsKnownOf u new.noted)) m.entries n.marks);
+    quiet = λ r. let both = right_both t u es h r in n.quiet (subst (AllByRecursion (IsRightWhere unicast config u)) (sym m.entries) both.1) ∙ m.quiet both.0;
     later = omega (arith, m.later, n.later);
     steps = let a : size u mid.groups ≡ size u es = ap (size u) m.entries ∙ size_touched t u es in
         let b : size t es + size u es ≡ size (λ q. t q || u q) es = size_both t u es h in omega (arith, m.steps, n.steps);
@@ -180,14 +192,22 @@ module _ (unicast : List Route) (config : Config) where
     at true t g ih = ((λ k. subst (λ q. IsKnown noted q e.1) (same_from_cmp p e.0 t) (subst (IsKnown noted p) (sym (same_Some e.1 group g)) r)), none_known (is_at (prefix_cmp p)) noted es (others p e es t ordered))
     at false t g ih = ((λ k. absurd (true≢false (sym k ∙ t))), ih g r)
 
+  found_right : (p : Prefix) (es : List Entry) (group : List Kept) → lookup (is_at (prefix_cmp p)) es ≡ Some group → AllByRecursion (IsRightWhere unicast config (is_at (prefix_cmp p))) es → AreRightTo unicast config p group
+  found_right p [] group h r = cc
+  found_right p (e ∷ es) group h r = at (is_eq (prefix_cmp p e.0)) refl h (λ g. found_right p es group g r.1) where
+    at : (b : Bool) → is_eq (prefix_cmp p e.0) ≡ b → cond b (Some e.1) (lookup (is_at (prefix_cmp p)) es) ≡ Some group → (lookup (is_at (prefix_cmp p)) es ≡ Some group → AreRightTo unicast config p group) → AreRightTo unicast config p group
+    at true t g ih = subst (λ q. AreRightTo unicast config q group) (sym (same_from_cmp p e.0 t)) (subst (AreRightTo unicast config e.0) (same_Some e.1 group g) (r.0 t))
+    at false t g ih = ih g
+
   -- the group that stands at a key
   pub mends_found : (p d : Prefix) (group after : List Kept) (old new : Progress) → AreInOrder old.groups → lookup (is_at (prefix_cmp p)) old.groups ≡ Some group
       → new.groups ≡ set_value (is_at (prefix_cmp p)) old.groups after → after ≡ map (retested_to unicast config d) group → d ≡ p
-      → StaysNoted old.noted new.noted → IsKnown new.noted d group → old.steps ≤ new.steps → new.steps ≤ old.steps + length group → Mends unicast config (is_at (prefix_cmp p)) old new
-  mends_found p d group after old new ordered there written retested same stays known later steps = record {
+      → StaysNoted old.noted new.noted → IsKnown new.noted d group → (AreRightTo unicast config d group → new.noted ≡ old.noted) → old.steps ≤ new.steps → new.steps ≤ old.steps + length group → Mends unicast config (is_at (prefix_cmp p)) old new
+  mends_found p d group after old new ordered there written retested same stays known quiet later steps = record {
     entries = written ∙ ap (set_value (is_at (prefix_cmp p)) old.groups) (retested ∙ ap (λ q. map (retested_to unicast config q) group) same) ∙ set_is p old.groups group ordered there;
     stays = stays;
     marks = found_known p old.groups group new.noted ordered there (subst (λ q. IsKnown new.noted q group) same known);
+    quiet = λ r. quiet (subst (λ q. AreRightTo unicast config q group) (sym same) (found_right p old.groups group there r));
     later = later;
     steps = omega (arith, steps, size_found p old.groups group there);
   }
@@ -347,6 +367,21 @@ module _ (unicast : List Route) (config : Config) where
   pub marks_kept : (p : Prefix) (es : List Entry) (rest : List Kept) (noted : Noted) → ArePlaced es → AllByRecursion (IsTo None) rest → Marks unicast config (is_related p) es noted → AllByRecursion (IsMarked noted p unicast config) (kept_in es rest)
   marks_kept p [] rest noted placed bare m = each_weaker (IsRightAt p unicast config) (IsMarked noted p unicast config) (λ k f _ _. f) rest (right_all p None rest bare (λ h. absurd (true≢false (sym h))))
   marks_kept p (e ∷ es) rest noted placed bare m = each_append (IsMarked noted p unicast config) e.1 (kept_in es rest) (group_marked p e.0 e.1 noted placed.0 m.0) (marks_kept p es rest noted placed.1 bare m.1)
+
+  -- from all routes to the entries
+  group_right : (p d : Prefix) (ks : List Kept) → AllByRecursion (IsTo (Some d)) ks → is_related p d ≡ true → AllByRecursion (IsRightAt p unicast config) ks → AreRightTo unicast config d ks
+  group_right p d [] to e r = tt
+  group_right p d (k ∷ ks) to e r = (
+    r.0 (ap (has_related p) to.0 ∙ e) ∙ ap (validity_to unicast config k.route) to.0,
+    group_right p d ks to.1 e r.1,
+  )
+
+  pub right_where : (p : Prefix) (es : List Entry) (rest : List Kept) → ArePlaced es → AllByRecursion (IsRightAt p unicast config) (kept_in es rest) → AllByRecursion (IsRightWhere unicast config (is_related p)) es
+  right_where p [] rest placed r = tt
+  right_where p (e ∷ es) rest placed r = (
+    (λ h. group_right p e.0 e.1 placed.0 h (each_front (IsRightAt p unicast config) e.1 (kept_in es rest) r)),
+    right_where p es rest placed.1 (each_back (IsRightAt p unicast config) e.1 (kept_in es rest) r),
+  )
 
   -- of the routes of both families
   pub marked_families : (p : Prefix) (xs ys : List Kept) (noted more : Noted) → StaysNoted noted more → AllByRecursion (IsMarked noted p unicast config) xs → AllByRecursion (IsMarked more p unicast config) ys

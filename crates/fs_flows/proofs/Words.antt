@@ -6,4 +6,4 @@ pub use Rattle.fs_nlri.{proofs.Destination.{destination_first, destination_shown
 pub use Rattle.fs_order.specs.{Comparison.{parts_cmp, rule_cmp}, Laws.{destination_cmp}, Ranked.{rule_total}}
 pub use Rattle.fs_unicast.specs.{Preference.{peer_path, preferred}, Unicast.{IsSwap, Route, place_cmp}, declared.unicast.Swap.{Swap}}
 pub use Rattle.fs_validate.specs.{Laws.{is_related, related}, Validity.{flow_route, judged, validity, validity_to}, declared.route.FlowRoute.{FlowRoute}}
-pub use Rattle.fs_flows.specs.{Blocks.{AllBefore, AreCut, AreEachSorted, AreFilled, CanCut, IsCut, RuleBefore, begins_by, begun, block_of, cut_list, flat, is_filled, keep_blocks, with_block}, Changes.{AdmitsElsewhere, Covers, IsNotedAt, IsOwn, Noted, StaysNoted, is_noted, is_to, touched_by}, Group.{AreJudged, AreRight, AreRightTo, AreSorted, HaveRules, IsJudged, IsMarked, IsRight, IsRightAt, Keeps, chosen, has_key, has_key_at, is_beaten, is_chosen, is_of_other, is_other_key, is_related_kept, mended, of_family, place_in, put_kept, rejudged, retested, retested_to, routes_of}, Groups.{AreInOrder, AreNoShorter, ArePlaced, Entry, HasSortedGroups, IsGrouped, IsSound, IsTo, keep_at, keep_each, kept_in, put_entry, with_group}, Kept.{Kept}, Lending.{AreLent, chosen_in, group_at}, Listed.{IsAmong, IsListed, Listed, StaysListed, is_among, keep_along, lists}, Parts.{AreWell, routes_in}, Search.{AreRightSince, IsNextAfter, IsNextRelated, IsRightEither, Marks, Mends, MendsKept, Progress, WereRight, is_before, progress, size, touched}, Table.{Held, admitted, beats, has_related, is_key, is_of_family, is_valid, key_cmp, put_route, related_count, same_rule}, contracts.group.Group.{the_invariant, the_view}}
+pub use Rattle.fs_flows.specs.{Blocks.{AllBefore, AreCut, AreEachSorted, AreFilled, CanCut, IsCut, RuleBefore, begins_by, begun, block_of, cut_list, flat, is_filled, keep_blocks, with_block}, Changes.{AdmitsElsewhere, Covers, IsNotedAt, IsOwn, Noted, StaysNoted, is_noted, is_to, touched_by}, Group.{AreJudged, AreRight, AreRightTo, AreSorted, HaveRules, IsJudged, IsMarked, IsRight, IsRightAt, Keeps, chosen, has_key, has_key_at, is_beaten, is_chosen, is_of_other, is_other_key, is_related_kept, mended, of_family, place_in, put_kept, rejudged, retested, retested_to, routes_of}, Groups.{AreInOrder, AreNoShorter, ArePlaced, Entry, HasSortedGroups, IsGrouped, IsSound, IsTo, keep_at, keep_each, kept_in, put_entry, with_group}, Kept.{Kept}, Lending.{AreLent, chosen_in, group_at}, Listed.{IsAmong, IsListed, Listed, StaysListed, is_among, keep_along, lists}, Parts.{AreWell, routes_in}, Search.{AreRightSince, IsNextAfter, IsNextRelated, IsRightEither, IsRightWhere, Marks, Mends, MendsKept, Progress, WereRight, is_before, progress, size, touched}, Table.{Held, admitted, beats, has_related, is_key, is_of_family, is_valid, key_cmp, put_route, related_count, same_rule}, contracts.group.Group.{the_invariant, the_view}}

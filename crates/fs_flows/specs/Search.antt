@@ -3,7 +3,7 @@ use Rattle.std.specs.{Prelude.{◌≡◌, ℕ, ◌+◌, ◌≤◌, ◌⊎◌, Bo
 use Rattle.fs_base.specs.{declared.{config.Config.{Config}, prefix.Prefix.{Prefix}}, Prefix.{prefix_cmp}}
 use Rattle.fs_unicast.specs.{Unicast.{Route, IsSwap}, declared.unicast.Swap.{Swap}}
 use Rattle.fs_validate.specs.Laws.{is_related}
-use Rattle.fs_flows.specs.{Changes.{Noted, StaysNoted, IsNotedAt}, Kept.{Kept}, Group.{AreRight, AreRightTo, IsMarked, mended, retested_to, routes_of}, Table.{related_count}, Groups.{Entry}}
+use Rattle.fs_flows.specs.{Changes.{Noted, StaysNoted, IsNotedAt}, Kept.{Kept}, Group.{AreRight, AreRightTo, IsMarked, IsRightAt, mended, retested_to, routes_of}, Table.{related_count}, Groups.{Entry}}
 
 -- the groups whose destination passes are validated anew, as routes to it
 abbrev pub touched : List Route → Config → (Prefix → Bool) → Entry → Entry
@@ -29,11 +29,16 @@ module _ (unicast : List Route) (config : Config) where
   Marks test old noted =
       AllByRecursion (λ e. test e.0 ≡ true → IsNotedAt noted e.0 ⊎ AreRightTo unicast config e.0 e.1) old
 
-  -- those that pass are validated anew
+  -- where a group passes, its validities are right
+  abbrev pub IsRightWhere : (Prefix → Bool) → Entry → Type 0
+  IsRightWhere test e = test e.0 ≡ true → AreRightTo unicast config e.0 e.1
+
+  -- those that pass are validated anew; where they are right already nothing is noted
   pub record Mends (test : Prefix → Bool) (old new : Progress) : Type 0 where
     pub entries : new.groups ≡ map (touched unicast config test) old.groups
     pub stays : StaysNoted old.noted new.noted
     pub marks : Marks test old.groups new.noted
+    pub quiet : AllByRecursion (IsRightWhere test) old.groups → new.noted ≡ old.noted
     pub later : old.steps ≤ new.steps
     pub steps : new.steps ≤ old.steps + size test old.groups
 
@@ -45,11 +50,13 @@ abbrev pub Mended : List Route → Config → (Prefix → Bool) → GroupMap →
 Mended unicast config test old new noted more before after =
     Mends unicast config test (progress old.entries noted before) (progress new.entries more after)
 
--- the routes that are related to the prefix are validated anew, and where a validity changed that is noted
+-- the routes that are related to the prefix are validated anew, and where a validity changed that is noted: nothing where
+-- each is right already
 pub record MendsKept (p : Prefix) (unicast : List Route) (config : Config) (old new : List Kept) (noted more : Noted) (before after : ℕ) : Type 0 where
   pub kept : new ≡ map (mended p unicast config) old
   pub stays : StaysNoted noted more
   pub marked : AllByRecursion (IsMarked more p unicast config) old
+  pub quiet : AllByRecursion (IsRightAt p unicast config) old → more ≡ noted
   pub later : before ≤ after
   pub steps : after ≤ before + related_count p (routes_of old)
 

@@ -4,6 +4,7 @@ ghost use Rattle.std.specs.Prelude.{◌≡◌};
 ghost use Rattle.fs_nlri.specs.Rule.{IsRule, destination_prefix};
 
 use crate::route::SharedRoute;
+use crate::shared::SharedFlow;
 use fs_base::{Family, Memory};
 use fs_nlri::Rule;
 use fs_unicast::PrefixKey;
@@ -12,24 +13,24 @@ use std::alloc::Global;
 use std::marker::Model;
 
 /// A flow route and its validity. The route stands in a block of its own, so that a group moves few octets to make a
-/// place among many routes. The peer stands beside it too, so that the routes of a peer are found without a look into
-/// each block.
+/// place among many routes, and that others may hold it too. The peer stands beside it, so that the routes of a peer
+/// are found without a look into each block.
 #[derive(Drop)]
 pub struct Kept {
-    route: Box<SharedRoute>,
+    route: SharedFlow,
     peer: u16,
     validity: Validity,
 }
 
 impl Model for Kept {
     ghost use Rattle.std.specs.Prelude.{◌≡◌};
-    ghost use Rattle.fs_flows.specs.{Kept.{Kept}, Shared.{flow_of}};
+    ghost use Rattle.fs_flows.specs.Kept.{Kept};
 
     ghost Value = { Kept };
 
-    ghost view = { λ a. record { route = flow_of a.route.value; validity = a.validity } };
+    ghost view = { λ a. record { route = a.route; validity = a.validity } };
 
-    ghost invariant = { λ a. a.peer ≡ a.route.value.peer };
+    ghost invariant = { λ a. a.peer ≡ a.route.peer };
 }
 
 /// The destination of a rule, as a key.
@@ -53,7 +54,7 @@ impl Kept {
         ensures { IfOk result (λ k. k ≡ record { route = flow_of route; validity = validity }) }
     {
         let peer = route.peer;
-        let route = Box::new(alloc, route)?;
+        let route = SharedFlow::new(alloc, route)?;
         Ok(Kept {
             route,
             peer,
@@ -65,7 +66,18 @@ impl Kept {
     pub fn route(&self) -> &SharedRoute
         ensures { flow_of result.now ≡ self.now.route }
     {
-        self.route.as_ref()
+        self.route.route()
+    }
+
+    /// The route once more, for one who holds it beside the table.
+    ///
+    /// # Errors
+    ///
+    /// As [`SharedFlow::share`].
+    pub fn share(&self) -> Result<SharedFlow, Memory>
+        ensures { IfOk result (λ shared. shared ≡ self.now.route) }
+    {
+        self.route.share()
     }
 
     /// The peer that gave the route.
@@ -78,7 +90,7 @@ impl Kept {
     pub(crate) fn family(&self) -> Family
         ensures { result ≡ self.now.route.rule.family }
     {
-        self.route.rule.family()
+        self.route().rule.family()
     }
 
     /// The destination of the route's rule, as a key.
@@ -86,7 +98,7 @@ impl Kept {
         ensures value { result ≡ destination_prefix self.now.route.rule }
         ensures rule { IsRule self.now.route.rule }
     {
-        destination_key(&self.route.rule)
+        destination_key(&self.route().rule)
     }
 
     /// Its validity.

@@ -11,6 +11,7 @@ mod listed;
 mod noted;
 mod route;
 mod search;
+mod shared;
 
 pub use actions::SharedActions;
 pub use block::{Block, compare_key, place_of};
@@ -21,3 +22,4 @@ pub use kept::Kept;
 pub use listed::Prefixes;
 pub use noted::{Change, Changes};
 pub use route::{SharedRoute, seen, validate};
+pub use shared::SharedFlow;

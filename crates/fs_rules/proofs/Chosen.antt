@@ -69,10 +69,10 @@ agree_put place path old new e = subst (AgreeOff place.prefix old) (sym e) (agre
 pub agree_taken : (place : Place) (old new : List Route) → new ≡ remove_entry (is_at (place_cmp place)) old → AgreeOff place.prefix old new
 agree_taken place old new e = subst (AgreeOff place.prefix old) (sym e) (agree_remove place old)
 
-listed_to : (family : Family) (destination : Option Prefix) (config : Config) (unicast : List Route) (ks : List Kept) (now : Held) → Keeps config unicast ks → held_of config unicast (routes_of ks) ≡ now
-    → map listing (filter (stands_here family destination) (chosen family ks)) ≡ map listed (filter (λ r. is_to family destination r.rule) (admitted family now))
-listed_to family destination config unicast ks now keeps v = map-map (λ k. k.route) listed (filter (stands_here family destination) (chosen family ks))
-    ∙ ap (map listed) (routes-filter (λ r. is_to family destination r.rule) (chosen family ks) ∙ ap (filter (λ r. is_to family destination r.rule)) (admitted_is family config unicast ks now keeps v))
+admitted_to : (family : Family) (destination : Option Prefix) (config : Config) (unicast : List Route) (ks : List Kept) (now : Held) → Keeps config unicast ks → held_of config unicast (routes_of ks) ≡ now
+    → routes_of (filter (stands_here family destination) (chosen family ks)) ≡ filter (λ r. is_to family destination r.rule) (admitted family now)
+admitted_to family destination config unicast ks now keeps v = routes-filter (λ r. is_to family destination r.rule) (chosen family ks)
+    ∙ ap (filter (λ r. is_to family destination r.rule)) (admitted_is family config unicast ks now keeps v)
 
 pub told_now : (family : Family) (config : Config) (unicast : List Route) (ks : List Kept) (es : List Entry) (rest : List Kept) (now : Held) → Keeps config unicast ks → held_of config unicast (routes_of ks) ≡ now
     → AreLent family (chosen family ks) (of_family family ks) es rest → ((f : Family) → AllByRecursion (IsSound f) (chosen f ks)) → AreTold family now es rest
@@ -81,8 +81,7 @@ told_now family config unicast ks es rest now keeps v lent rules = record {
   bare = lent.bare;
   few = lent.few;
   admits = ap routes_of lent.whole ∙ admitted_is family config unicast ks now keeps v;
-  lists = ap (map listing) lent.whole ∙ map-map (λ k. k.route) listed (chosen family ks) ∙ ap (map listed) (admitted_is family config unicast ks now keeps v);
-  to = λ d. ap (map listing) (lent.to d) ∙ listed_to family d config unicast ks now keeps v;
+  to = λ d. ap routes_of (lent.to d) ∙ admitted_to family d config unicast ks now keeps v;
   judges = ap (map judgement) lent.routes ∙ held_is family config unicast ks now keeps v;
   list = λ f. is_admitted_list f now sorted;
   rules = λ f. subst (AllByRecursion (IsRuleOf f)) (admitted_is f config unicast ks now keeps v) (each_mapped (λ k. k.route) (IsRuleOf f) (chosen f ks) (rules f));

@@ -250,10 +250,17 @@ counted_lost peer unicast flows new before after none c cleared e = λ other.
     by other false k u f g = omega (arith, k, f, g)
 
 -- what has gone is gone
+none_left : {X : Type 0} (of : X → ℕ) (peer : ℕ) (xs : List X) → length (filter (λ x. of x == peer) (filter (λ x. not (of x == peer)) xs)) ≡ 0
+none_left of peer xs = own_gone of peer peer xs ∙ ap (λ (b : Bool). if b then 0 else length (filter (λ x. of x == peer) xs)) (eq_itself peer)
+
 pub gone_twice : (peer : ℕ) (unicast : List Route) → without_peer_unicast peer (without_peer_unicast peer unicast) ≡ without_peer_unicast peer unicast
-gone_twice peer unicast =
-    none_own (λ (r : Route). r.0.peer) peer (without_peer_unicast peer unicast)
-    (own_gone (λ (r : Route). r.0.peer) peer peer unicast ∙ ap (λ (b : Bool). if b then 0 else length (filter (λ (r : Route). r.0.peer == peer) unicast)) (eq_itself peer))
+gone_twice peer unicast = none_own (λ (r : Route). r.0.peer) peer (without_peer_unicast peer unicast) (none_left (λ (r : Route). r.0.peer) peer unicast)
+
+-- who loses nothing holds nothing
+pub holds_none : (peer : ℕ) (unicast : List Route) (flows : List FlowRoute) → without_peer_unicast peer unicast ≡ unicast → without_peer_flows peer flows ≡ flows → count_in peer unicast flows ≡ 0
+holds_none peer unicast flows e f = ap₂ (λ m n. m + n)
+    (ap (λ es. length (filter (λ (r : Route). r.0.peer == peer) es)) (sym e) ∙ none_left (λ (r : Route). r.0.peer) peer unicast)
+    (ap (λ rs. length (filter (λ (r : FlowRoute). r.peer == peer) rs)) (sym f) ∙ none_left (λ (r : FlowRoute). r.peer) peer flows)
 
 -- a peer whose count is 0 holds nothing
 pub idle_unicast : (peer : ℕ) (unicast : List Route) (flows : List FlowRoute) → count_in peer unicast flows ≡ 0 → without_peer_unicast peer unicast ≡ unicast

@@ -9,6 +9,7 @@ pub mod InParts
 pub mod Losing
 pub mod Orders
 pub mod Prefixes
+pub mod Quiet
 pub mod Runs
 pub mod Stepping
 pub use Rattle.fs_flows.proofs.Apart

@@ -6,5 +6,5 @@ pub use Rattle.fs_nlri.specs.{Parts.{Ruled}, Rule.{IsRule, destination_prefix}}
 pub use Rattle.fs_order.{proofs.Same.{first_equal, same_rules}, specs.{Comparison.{rule_cmp}, Ranked.{rule_total}}}
 pub use Rattle.fs_unicast.{proofs.{Best.{preference_total}, PlaceOrder.{place_total}, Ranges.{place, place_itself}}, specs.{Preference.{path_length, preference_cmp, preferred}, Search.{held_by, is_from}, Unicast.{IsSwapOf, Route, has_path, place_cmp, put_path, take_path}, declared.unicast.{Place.{Place}, Swap.{Swap}}}}
 pub use Rattle.fs_validate.specs.{Validity.{validity}, declared.route.FlowRoute.{FlowRoute}}
-pub use Rattle.fs_flows.{proofs.{Apart.{drop_each, ok_weaker}, Changed.{AgreeOff, agree_insert, agree_remove, any-routes, each-filtered, each-put_route, flow_total, keeps-filter, keeps-mended, keeps-put, remove_nothing, removes_one, routes-filter, routes-put, routes_mended, sorted-filter, unrelated}, Cutting.{sorted_each}, KeyPlaces.{NotBefore, is_after, least_after, no_rival, not_after_later, not_before, partitioned, place_from, tail_is}}, specs.{Blocks.{AreCut, AreEachSorted, flat}, Changes.{AdmitsElsewhere, Covers, Noted, StaysNoted, is_noted, is_to, touched_by}, Group.{AreRight, AreSorted, HaveRules, IsMarked, IsRight, Keeps, chosen, has_key, is_beaten, is_chosen, is_related_kept, mended, of_family, place_in, put_kept, routes_of}, Groups.{Entry, HasSortedGroups, IsSound, kept_in}, Kept.{Kept}, Lending.{AreLent, chosen_in, group_at}, Search.{MendsKept, WereRight}, Table.{AreOrdered, Held, IsAdmitted, IsRuleOf, admitted, beats, count_in, has_route, held_count, is_key, is_most_preferred, is_of_family, is_valid, key_cmp, put_route, related_count, related_sum, same_rule, stands, with_flow, without_peer, without_peer_flows, without_peer_unicast, without_route}}}
-pub use Rattle.fs_rules.specs.{Counts.{AreAmong, AreHeld, Counts, Holding, IsKept, StaysHeld, count_of, may_hold}, Lent.{AreRising, Judged, held_flows, judged, judged_cmp, listed, shown_admitted, shown_held, shown_lent}, Lists.{judgement, listing, listings, routes_chosen}, Reading.{AreTold, chosen_flat, judgements_in, listings_in}, Rivals.{is_apart, is_before_rule}, Walk.{matching_from, next_match}}
+pub use Rattle.fs_flows.{proofs.{Apart.{drop_each, ok_weaker}, Changed.{AgreeOff, agree_insert, agree_remove, any-routes, each-filtered, each-put_route, flow_total, keeps-filter, keeps-mended, keeps-put, remove_nothing, removes_one, routes-filter, routes-put, routes_mended, sorted-filter, unrelated}, Cutting.{sorted_each}, KeyPlaces.{NotBefore, is_after, least_after, no_rival, not_after_later, not_before, partitioned, place_from, tail_is}}, specs.{Blocks.{AreCut, AreEachSorted, flat}, Changes.{AdmitsElsewhere, Covers, Noted, StaysNoted, is_noted, is_to, touched_by}, Group.{AreRight, AreSorted, HaveRules, IsMarked, IsRight, IsRightAt, Keeps, chosen, has_key, is_beaten, is_chosen, is_related_kept, mended, of_family, place_in, put_kept, routes_of}, Groups.{Entry, HasSortedGroups, IsSound, kept_in}, Kept.{Kept}, Lending.{AreLent, chosen_in, group_at}, Search.{MendsKept, WereRight}, Table.{AreOrdered, Held, IsAdmitted, IsRuleOf, admitted, beats, count_in, has_route, held_count, is_key, is_most_preferred, is_of_family, is_valid, key_cmp, put_route, related_count, related_sum, same_rule, stands, with_flow, without_path, without_peer, without_peer_flows, without_peer_unicast, without_route}}}
+pub use Rattle.fs_rules.specs.{Counts.{AreAmong, AreHeld, Counts, Holding, IsKept, StaysHeld, count_of, may_hold}, Lent.{AreRising, Judged, held_flows, judged, judged_cmp, listed, shown_admitted, shown_held, shown_lent}, Lists.{judgement, listing, routes_chosen, shown_chosen}, Quiet.{StayAlong, StayThroughout, ValiditiesStay}, Reading.{AreTold, chosen_flat, judgements_in, shown_in}, Rivals.{is_apart, is_before_rule}, Walk.{matching_from, next_match}}

@@ -25,9 +25,9 @@ shown_lent a = record { rule = a.rule.now; peer = a.peer; actions = a.actions.no
 abbrev pub all_admitted : List LentRule → List Listed
 all_admitted list = map shown_lent list
 
--- these are added at the end
-abbrev pub AddsRules : List Listed → List LentRule → List LentRule → Type 0
-AddsRules more old new = all_admitted new ≡ all_admitted old ++ more
+-- elements that show these are added at the end
+abbrev pub Adds : {A B : Type 0} → (shown : A → B) → (more : List B) → (old new : List A) → Type 0
+Adds shown more old new = map shown new ≡ map shown old ++ more
 
 -- a held flow route with its validity over all held unicast routes
 pub record Judged : Type 0 where
@@ -40,12 +40,6 @@ judged held r = record { rule = r.rule; peer = r.peer; validity = validity held.
 
 abbrev pub shown_held : HeldFlow → Judged
 shown_held h = record { rule = h.rule.now; peer = h.peer; validity = h.validity }
-
-abbrev pub all_held : List HeldFlow → List Judged
-all_held list = map shown_held list
-
-abbrev pub AddsHeld : List Judged → List HeldFlow → List HeldFlow → Type 0
-AddsHeld more old new = all_held new ≡ all_held old ++ more
 
 -- the held flow routes of a family, in the order of rules, then by peer
 abbrev pub held_flows : Family → Held → List Judged

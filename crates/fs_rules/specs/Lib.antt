@@ -1,6 +1,7 @@
 pub mod Counts
 pub mod Lent
 pub mod Lists
+pub mod Quiet
 pub mod Reading
 pub mod Rivals
 pub mod Walk

@@ -12,8 +12,9 @@ judgement k = record { rule = k.route.rule; peer = k.route.peer; validity = k.va
 abbrev pub listing : Kept → Listed
 listing k = listed k.route
 
-abbrev pub listings : Family → List Kept → List Listed
-listings family kept = map listing (chosen family kept)
+-- what is shown of each admitted rule
+abbrev pub shown_chosen : {T : Type 0} → (FlowRoute → T) → Family → List Kept → List T
+shown_chosen shows family kept = map (λ k. shows k.route) (chosen family kept)
 
 abbrev pub nth_listing : Family → List Kept → ℕ → Option Listed
 nth_listing family kept n = option_map listing (slice_get (chosen family kept) n)

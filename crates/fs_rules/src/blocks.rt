@@ -2,23 +2,23 @@
 
 ghost use Rattle.std.specs.Prelude.{◌≡◌, ◌<◌, ◌+◌, ◌^◌, OnOk, length, option_map, slice_get, nat_le, find};
 ghost use Rattle.fs_flows.specs.{Blocks.{flat, AreCut}, Group.{chosen, AreSorted, routes_of}};
-ghost use Rattle.fs_rules.specs.{Lent.{shown_admitted, shown_held, AddsRules, AddsHeld}, Lists.{judgement, routes_chosen, listings, judgements, nth_listing}, Walk.{matching_from}};
+ghost use Rattle.fs_rules.specs.{Lent.{shown_admitted, shown_held, Adds}, Lists.{judgement, routes_chosen, judgements, nth_listing, shown_chosen}, Walk.{matching_from}};
 
-use crate::lent::{Admitted, HeldFlow, LentRule};
+use crate::lent::{Admitted, HeldFlow, OfKept};
 use crate::lists;
 use fs_base::{Family, Memory};
 use fs_flows::Block;
 use fs_packet::View;
 
 /// Adds the admitted rules of the family to the list, in order.
-pub(crate) fn push_admitted<'a>(
+pub(crate) fn push_admitted<'a, T: OfKept<'a>>(
     family: Family,
     blocks: &'a [Block],
-    list: &mut Vec<LentRule<'a>>,
+    list: &mut Vec<T>,
 ) -> Result<(), Memory>
     requires cut { AreCut blocks.now }
     requires sorted { AreSorted (routes_of (flat blocks.now)) }
-    ensures { OnOk result (AddsRules (listings family (flat blocks.now)) list.old.items list.new.items) }
+    ensures { OnOk result (Adds T.shown (shown_chosen T.shows family (flat blocks.now)) list.old.items list.new.items) }
 {
     for block in blocks {
         lists::push_admitted(family, block.as_slice(), list)?;
@@ -28,7 +28,7 @@ pub(crate) fn push_admitted<'a>(
 
 /// Adds the routes to the list, in order.
 pub(crate) fn push_held<'a>(blocks: &'a [Block], list: &mut Vec<HeldFlow<'a>>) -> Result<(), Memory>
-    ensures { OnOk result (AddsHeld (judgements (flat blocks.now)) list.old.items list.new.items) }
+    ensures { OnOk result (Adds shown_held (judgements (flat blocks.now)) list.old.items list.new.items) }
 {
     for block in blocks {
         lists::push_held(block.as_slice(), list)?;

@@ -10,6 +10,6 @@ mod reading;
 mod rivals;
 mod table;
 
-pub use fs_flows::{Change, Changes, SharedActions};
+pub use fs_flows::{Change, Changes, SharedActions, SharedFlow};
 pub use lent::{Admitted, HeldFlow, LentRule};
 pub use table::Table;

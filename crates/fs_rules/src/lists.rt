@@ -3,24 +3,13 @@
 ghost use Rattle.std.specs.Prelude.{◌≡◌, ◌<◌, ◌+◌, ◌^◌, OnOk, length, option_map, slice_get, ◌&&◌, nat_le, find};
 ghost use Rattle.fs_packet.specs.Matching.{is_match};
 ghost use Rattle.fs_flows.specs.Group.{chosen, AreSorted, routes_of};
-ghost use Rattle.fs_rules.specs.{Lent.{shown_admitted, shown_held, shown_lent, AddsRules, AddsHeld}, Lists.{judgement, routes_chosen, listing, listings, judgements, nth_listing}, Walk.{matching_from}};
+ghost use Rattle.fs_rules.specs.{Lent.{shown_admitted, shown_held, Adds}, Lists.{judgement, routes_chosen, listing, judgements, nth_listing, shown_chosen}, Walk.{matching_from}};
 
-use crate::lent::{Admitted, HeldFlow, LentRule};
+use crate::lent::{Admitted, HeldFlow, OfKept};
 use crate::rivals::is_chosen;
 use fs_base::{Family, Memory};
 use fs_flows::Kept;
 use fs_packet::{View, matches};
-
-fn lend(k: &Kept) -> LentRule<'_>
-    ensures { shown_lent result ≡ listing k.now }
-{
-    let route = k.route();
-    LentRule {
-        rule: &route.rule,
-        peer: route.peer,
-        actions: &route.actions,
-    }
-}
 
 fn lend_admitted(k: &Kept) -> Admitted<'_>
     ensures { shown_admitted result ≡ listing k.now }
@@ -45,19 +34,19 @@ fn lend_held(k: &Kept) -> HeldFlow<'_>
 }
 
 /// Adds the admitted rules of the family to the list, in order.
-pub(crate) fn push_admitted<'a>(
+pub(crate) fn push_admitted<'a, T: OfKept<'a>>(
     family: Family,
     kept: &'a [Kept],
-    list: &mut Vec<LentRule<'a>>,
+    list: &mut Vec<T>,
 ) -> Result<(), Memory>
     requires { AreSorted (routes_of kept.now) }
-    ensures { OnOk result (AddsRules (listings family kept.now) list.old.items list.new.items) }
+    ensures { OnOk result (Adds T.shown (shown_chosen T.shows family kept.now) list.old.items list.new.items) }
 {
     let mut rival = 0;
     for place in 0..kept.len() {
         let k = &kept[place];
         if is_chosen(family, kept, place, k, &mut rival) {
-            list.push(lend(k))?;
+            list.push(T::of_kept(k)?)?;
         }
     }
     Ok(())
@@ -65,7 +54,7 @@ pub(crate) fn push_admitted<'a>(
 
 /// Adds the routes to the list, in order.
 pub(crate) fn push_held<'a>(kept: &'a [Kept], list: &mut Vec<HeldFlow<'a>>) -> Result<(), Memory>
-    ensures { OnOk result (AddsHeld (judgements kept.now) list.old.items list.new.items) }
+    ensures { OnOk result (Adds shown_held (judgements kept.now) list.old.items list.new.items) }
 {
     for k in kept {
         list.push(lend_held(k))?;

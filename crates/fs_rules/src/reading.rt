@@ -2,10 +2,10 @@
 
 ghost use Rattle.std.specs.Prelude.{◌≡◌, ◌+◌, ◌<◌, ◌^◌, OnOk, length, option_map};
 ghost use Rattle.fs_flows.specs.{Group.{AreSorted, routes_of}, Groups.{HasSortedGroups}, Lending.{group_at, chosen_in}};
-ghost use Rattle.fs_rules.specs.{Lent.{shown_admitted, shown_held, AddsRules, AddsHeld}, Lists.{listings}, Reading.{listings_in, judgements_in, nth_listing_in, nth_judgement_in}, Walk.{next_match}};
+ghost use Rattle.fs_rules.specs.{Lent.{shown_admitted, shown_held, Adds}, Lists.{shown_chosen}, Reading.{shown_in, judgements_in, nth_listing_in, nth_judgement_in}, Walk.{next_match}};
 
 use crate::blocks;
-use crate::lent::{Admitted, HeldFlow, LentRule};
+use crate::lent::{Admitted, HeldFlow, OfKept};
 use fs_base::{Family, Memory, Prefix};
 use fs_flows::Group;
 use fs_packet::View;
@@ -13,15 +13,15 @@ use fs_unicast::PrefixKey;
 use std::collections::BTreeMap;
 
 /// Adds the admitted rules to the list.
-pub(crate) fn push_admitted<'a>(
+pub(crate) fn push_admitted<'a, T: OfKept<'a>>(
     groups: &'a BTreeMap<PrefixKey, Group>,
     rest: &'a Group,
     family: Family,
-    list: &mut Vec<LentRule<'a>>,
+    list: &mut Vec<T>,
 ) -> Result<(), Memory>
     requires groups { HasSortedGroups groups.now.entries }
     requires rest { AreSorted (routes_of rest.now) }
-    ensures { OnOk result (AddsRules (listings_in family groups.now.entries rest.now) list.old.items list.new.items) }
+    ensures { OnOk result (Adds T.shown (shown_in T.shows family groups.now.entries rest.now) list.old.items list.new.items) }
 {
     for (_, group) in groups {
         blocks::push_admitted(family, group.blocks(), list)?;
@@ -30,16 +30,16 @@ pub(crate) fn push_admitted<'a>(
 }
 
 /// Adds the admitted rules with this destination, or without one, to the list.
-pub(crate) fn push_admitted_to<'a>(
+pub(crate) fn push_admitted_to<'a, T: OfKept<'a>>(
     groups: &'a BTreeMap<PrefixKey, Group>,
     rest: &'a Group,
     family: Family,
     destination: Option<Prefix>,
-    list: &mut Vec<LentRule<'a>>,
+    list: &mut Vec<T>,
 ) -> Result<(), Memory>
     requires groups { HasSortedGroups groups.now.entries }
     requires rest { AreSorted (routes_of rest.now) }
-    ensures { OnOk result (AddsRules (listings family (group_at destination groups.now.entries rest.now))
+    ensures { OnOk result (Adds T.shown (shown_chosen T.shows family (group_at destination groups.now.entries rest.now))
         list.old.items list.new.items) }
 {
     let Some(destination) = destination else {
@@ -57,7 +57,7 @@ pub(crate) fn push_held<'a>(
     rest: &'a Group,
     list: &mut Vec<HeldFlow<'a>>,
 ) -> Result<(), Memory>
-    ensures { OnOk result (AddsHeld (judgements_in groups.now.entries rest.now) list.old.items list.new.items) }
+    ensures { OnOk result (Adds shown_held (judgements_in groups.now.entries rest.now) list.old.items list.new.items) }
 {
     for (_, group) in groups {
         blocks::push_held(group.blocks(), list)?;

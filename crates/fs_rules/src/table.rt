@@ -1,19 +1,19 @@
 //! The table.
 
-ghost use Rattle.std.specs.{Prelude.{◌≡◌, ◌≤◌, ◌+◌, false, [], IfOk, OnOk, OnErr, option_map, length, map, filter, slice_get, true, Bool}, List.{AllByRecursion, Sorted.{IsStrictlySortedBy}}, Map.{keys_of}};
+ghost use Rattle.std.specs.{Prelude.{◌≡◌, ◌≤◌, ◌+◌, ◌↔◌, false, [], IfOk, OnOk, OnErr, option_map, length, map, filter, slice_get, true, Bool}, List.{AllByRecursion, Sorted.{IsStrictlySortedBy}}, Map.{keys_of}};
 ghost use Rattle.fs_unicast.specs.{Unicast.{place_cmp, has_path}, Search.{held_by}};
 ghost use Rattle.fs_flows.specs.{Table.{without_route, has_route, without_peer_unicast, without_peer_flows, related_count, related_sum, admitted, IsAdmitted, IsRuleOf, with_flow, with_path, without_path, without_peer, held_count, Held}, Changes.{AdmitsElsewhere, Covers, is_to}};
 ghost use Rattle.fs_base.specs.declared.prefix.Family.{Family};
 ghost use Rattle.fs_nlri.specs.Parts.{Ruled};
-ghost use Rattle.fs_rules.specs.{Lent.{listed, shown_admitted, shown_held, shown_lent, held_flows, AreRising}, Reading.{AreTold}, Walk.{next_match}, Counts.{AreAmong}};
+ghost use Rattle.fs_rules.specs.{Lent.{listed, shown_admitted, shown_held, shown_lent, held_flows, AreRising}, Quiet.{StayThroughout, ValiditiesStay}, Reading.{AreTold}, Walk.{next_match}, Counts.{AreAmong}};
 
 use crate::counts::Counts;
 use crate::latest::Latest;
-use crate::lent::{Admitted, HeldFlow, LentRule};
+use crate::lent::{Admitted, HeldFlow, LentRule, OfKept};
 use crate::reading::{self, push_admitted, push_admitted_to, push_held};
 use fs_actions::Actions;
 use fs_base::{Config, Family, Memory, Path, Prefix, Steps};
-use fs_flows::{Changes, Flows, Kept, LentGroups, SharedRoute, validate};
+use fs_flows::{Changes, Flows, Kept, LentGroups, SharedFlow, SharedRoute, validate};
 use fs_nlri::Rule;
 use fs_order::Ranked;
 use fs_packet::View;
@@ -114,8 +114,8 @@ impl<'a> Table<'a> {
         self.put_unicast_telling(peer, prefix, path, &mut Changes::new(alloc), steps)
     }
 
-    /// As [`put_unicast`](Table::put_unicast), and notes where a held flow route has another validity than before. Many
-    /// routes may be given one shared path.
+    /// As [`put_unicast`](Table::put_unicast), and notes where a held flow route has another validity than before: nothing
+    /// where each has the validity that it had. Many routes may be given one shared path.
     pub fn put_unicast_telling<L: Ledger>(
         &mut self,
         peer: u16,
@@ -127,6 +127,7 @@ impl<'a> Table<'a> {
         ensures ok { OnOk result (self.new ≡ with_path peer prefix path self.old) }
         ensures covers { OnOk result
             ((base : Held) → Covers base changes.old self.old → Covers base changes.new self.new) }
+        ensures quiet { ValiditiesStay self.old self.new → changes.new ≡ changes.old }
         ensures err { OnErr result (self.new ≡ self.old) }
         ensures later { steps.old ≤ steps.new }
         ensures steps { steps.new ≤ steps.old + related_count prefix self.old.flows }
@@ -183,7 +184,7 @@ impl<'a> Table<'a> {
     }
 
     /// As [`withdraw_unicast`](Table::withdraw_unicast), and notes where a held flow route has another validity than
-    /// before.
+    /// before: nothing where each has the validity that it had.
     pub fn withdraw_unicast_telling<L: Ledger>(
         &mut self,
         peer: u16,
@@ -193,6 +194,7 @@ impl<'a> Table<'a> {
     ) -> bool
         ensures removed { self.new ≡ without_path peer prefix.now self.old }
         ensures covers { (base : Held) → Covers base changes.old self.old → Covers base changes.new self.new }
+        ensures quiet { ValiditiesStay self.old self.new → changes.new ≡ changes.old }
         ensures held { result ≡ has_path peer prefix.now self.old.unicast }
         ensures later { steps.old ≤ steps.new }
         ensures steps { steps.new ≤ steps.old + related_count prefix.now self.old.flows }
@@ -218,7 +220,8 @@ impl<'a> Table<'a> {
     }
 
     /// As [`lose`](Table::lose), and notes where the rules that are admitted may be others than before: any, where a flow
-    /// route of the peer went. None where the peer holds nothing.
+    /// route of the peer went. None where the peer holds nothing, or no flow route and none of its unicast routes changes
+    /// a validity as it goes.
     pub fn lose_telling<L: Ledger>(
         &mut self,
         peer: u16,
@@ -227,6 +230,9 @@ impl<'a> Table<'a> {
     )
         ensures removed { self.new ≡ without_peer peer self.old }
         ensures covers { (base : Held) → Covers base changes.old self.old → Covers base changes.new self.new }
+        ensures quiet { without_peer_flows peer self.old.flows ≡ self.old.flows
+            → StayThroughout peer self.old
+            → changes.new ≡ changes.old }
         ensures idle { held_count peer self.old ≡ 0 → changes.new ≡ changes.old }
         ensures later { steps.old ≤ steps.new }
         ensures steps { steps.new ≤ steps.old + related_sum peer self.old.unicast self.old.flows }
@@ -245,6 +251,7 @@ impl<'a> Table<'a> {
     fn lose_unicast<L: Ledger>(&mut self, peer: u16, changes: &mut Changes, steps: &mut Steps<L>)
         ensures removed { self.new ≡ record self.old { unicast = without_peer_unicast peer self.old.unicast } }
         ensures covers { (base : Held) → Covers base changes.old self.old → Covers base changes.new self.new }
+        ensures quiet { StayThroughout peer self.old → changes.new ≡ changes.old }
         ensures later { steps.old ≤ steps.new }
         ensures steps { steps.new ≤ steps.old + related_sum peer self.old.unicast self.old.flows }
     {
@@ -266,6 +273,7 @@ impl<'a> Table<'a> {
         requires ordered { IsStrictlySortedBy place_cmp (keys_of self.old.unicast) }
         ensures removed { self.new ≡ record self.old { unicast = without_peer_unicast peer self.old.unicast } }
         ensures covers { (base : Held) → Covers base changes.old self.old → Covers base changes.new self.new }
+        ensures quiet { StayThroughout peer self.old → changes.new ≡ changes.old }
         ensures later { steps.old ≤ steps.new }
         ensures steps { steps.new ≤ steps.old + related_sum peer self.old.unicast self.old.flows }
     {
@@ -278,6 +286,7 @@ impl<'a> Table<'a> {
     fn lose_each<L: Ledger>(&mut self, peer: u16, changes: &mut Changes, steps: &mut Steps<L>)
         ensures removed { self.new ≡ record self.old { unicast = without_peer_unicast peer self.old.unicast } }
         ensures covers { (base : Held) → Covers base changes.old self.old → Covers base changes.new self.new }
+        ensures quiet { StayThroughout peer self.old → changes.new ≡ changes.old }
         ensures later { steps.old ≤ steps.new }
         ensures steps { steps.new ≤ steps.old + related_sum peer self.old.unicast self.old.flows }
     {
@@ -292,7 +301,7 @@ impl<'a> Table<'a> {
     fn lose_flows(&mut self, peer: u16) -> bool
         requires { without_peer_unicast peer self.old.unicast ≡ self.old.unicast }
         ensures removed { self.new ≡ record self.old { flows = without_peer_flows peer self.old.flows } }
-        ensures told { result ≡ false → self.new ≡ self.old }
+        ensures told { (result ≡ false) ↔ (self.new ≡ self.old) }
     {
         self.counts.clear_prefixes(peer);
         if self.counts.of(peer) == 0 {
@@ -325,9 +334,9 @@ impl<'a> Table<'a> {
         self.flows.lend(family)
     }
 
-    /// The admitted rules of the family in order: each rule that has a valid route, with the most preferred one.
-    pub fn admitted(&self, family: Family) -> Result<Vec<LentRule<'_>>, Memory>
-        ensures list { IfOk result (λ list. map shown_lent list.items ≡ map listed (admitted family self.now)) }
+    /// The admitted rules of the family in order, as the type of the list has them.
+    fn list<'t, T: OfKept<'t>>(&'t self, family: Family) -> Result<Vec<T>, Memory>
+        ensures list { IfOk result (λ list. map T.shown list.items ≡ map T.shows (admitted family self.now)) }
         ensures admitted { IsAdmitted family self.now (admitted family self.now) }
         ensures rules { AllByRecursion (IsRuleOf family) (admitted family self.now) }
     {
@@ -335,6 +344,47 @@ impl<'a> Table<'a> {
         let mut list = Vec::new(self.flows.allocator());
         push_admitted(lent.groups, lent.rest, family, &mut list)?;
         Ok(list)
+    }
+
+    /// Of the admitted rules of the family those with this destination, or those without one, in order, as the type of
+    /// the list has them.
+    fn list_to<'t, T: OfKept<'t>>(
+        &'t self,
+        family: Family,
+        destination: Option<Prefix>,
+    ) -> Result<Vec<T>, Memory>
+        ensures list { IfOk result (λ list. map T.shown list.items
+            ≡ map T.shows (filter (λ r. is_to family destination r.rule) (admitted family self.now))) }
+        ensures admitted { (f : Family) → IsAdmitted f self.now (admitted f self.now) }
+        ensures rules { (f : Family) → AllByRecursion (IsRuleOf f) (admitted f self.now) }
+    {
+        let lent = self.lend(family);
+        let mut list = Vec::new(self.flows.allocator());
+        push_admitted_to(lent.groups, lent.rest, family, destination, &mut list)?;
+        Ok(list)
+    }
+
+    /// The admitted rules of the family in order: each rule that has a valid route, with the most preferred one.
+    pub fn admitted(&self, family: Family) -> Result<Vec<LentRule<'_>>, Memory>
+        ensures list { IfOk result (λ list. map shown_lent list.items ≡ map listed (admitted family self.now)) }
+        ensures admitted { IsAdmitted family self.now (admitted family self.now) }
+        ensures rules { AllByRecursion (IsRuleOf family) (admitted family self.now) }
+    {
+        self.list(family)
+    }
+
+    /// As [`admitted`](Table::admitted), but each rule is shared: the list may be kept for as long as one likes, also
+    /// while the table changes, and still tells what was admitted when it was made.
+    ///
+    /// # Errors
+    ///
+    /// `Memory` where the machine refused memory.
+    pub fn shared(&self, family: Family) -> Result<Vec<SharedFlow>, Memory>
+        ensures list { IfOk result (λ list. list.items ≡ admitted family self.now) }
+        ensures admitted { IsAdmitted family self.now (admitted family self.now) }
+        ensures rules { AllByRecursion (IsRuleOf family) (admitted family self.now) }
+    {
+        self.list(family)
     }
 
     /// Of the admitted rules of the family those with this destination, or those without one, in order.
@@ -352,10 +402,25 @@ impl<'a> Table<'a> {
         ensures admitted { (f : Family) → IsAdmitted f self.now (admitted f self.now) }
         ensures rules { (f : Family) → AllByRecursion (IsRuleOf f) (admitted f self.now) }
     {
-        let lent = self.lend(family);
-        let mut list = Vec::new(self.flows.allocator());
-        push_admitted_to(lent.groups, lent.rest, family, destination, &mut list)?;
-        Ok(list)
+        self.list_to(family, destination)
+    }
+
+    /// As [`admitted_to`](Table::admitted_to), but each rule is shared, as by [`shared`](Table::shared).
+    ///
+    /// # Errors
+    ///
+    /// `Memory` where the machine refused memory.
+    pub fn shared_to(
+        &self,
+        family: Family,
+        destination: Option<Prefix>,
+    ) -> Result<Vec<SharedFlow>, Memory>
+        ensures list { IfOk result (λ list.
+            list.items ≡ filter (λ r. is_to family destination r.rule) (admitted family self.now)) }
+        ensures admitted { (f : Family) → IsAdmitted f self.now (admitted f self.now) }
+        ensures rules { (f : Family) → AllByRecursion (IsRuleOf f) (admitted f self.now) }
+    {
+        self.list_to(family, destination)
     }
 
     /// All held flow routes of the family with their validity, in the order of rules, then by peer.

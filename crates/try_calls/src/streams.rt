@@ -215,6 +215,54 @@ pub fn desk(call: &mut Call<'_>) -> Option<()> {
     call.written::<Memory>(Ok(()))
 }
 
+/// The peer comes up at a desk and sends these octets at a moment; what it is answered is appended.
+fn begin(
+    desk: &mut Desk<'_>,
+    peer: u16,
+    moment: u64,
+    octets: &[u8],
+    replies: &mut Vec<u8>,
+) -> Option<()> {
+    desk.config().peer(peer)?;
+    desk.up(peer).ok()?;
+    desk.tick(peer, moment, replies).ok()?;
+    desk.octets(peer, octets, replies).ok()
+}
+
+/// OCTETS OCTETS OCTETS OCTETS: peer 1 of a desk sends the first octets at 0, and peer 2 the second ones at 2 seconds;
+/// whether the last ones, a packet, are discarded. At 3.5 seconds, where the hold time of 3 has passed at peer 1 alone:
+/// what two ticks answer, how both stand, how many octets were answered to each, and the packet. Peer 2 sends the third
+/// octets, and peer 1 its first ones again: how many octets that answers, the packet, how many routes each holds. Peer 1
+/// comes up again: how it stands.
+pub fn expiry(call: &mut Call<'_>) -> Option<()> {
+    let mut desk = call.good::<Desk<'_>, Memory>(Desk::new(call.alloc, call.config))?;
+    let (first, second) = (call.octets(), call.octets());
+    let (third, packet) = (call.octets(), call.octets());
+    begin(&mut desk, 1, 0, &first, &mut call.out)?;
+    begin(&mut desk, 2, 2000, &second, &mut call.out)?;
+    call.out.clear();
+    call.show(&is_discarded(desk.table(), &packet));
+    expire(call, &mut desk, &packet)?;
+    let heard: Result<(), Memory> = desk.octets(2, &third, &mut call.out);
+    let skipped: Result<(), Memory> = desk.octets(1, &first, &mut call.out);
+    let answered = call.out.len();
+    call.show(&(heard, skipped, answered));
+    call.show(&is_discarded(desk.table(), &packet));
+    call.show(&[desk.table().held_by(1), desk.table().held_by(2)]);
+    begin(&mut desk, 1, 4000, &[], &mut call.out)?;
+    call.show(&(desk.state(1), desk.state(2)))
+}
+
+fn expire(call: &mut Call<'_>, desk: &mut Desk<'_>, packet: &[u8]) -> Option<()> {
+    for peer in 1..3 {
+        let ticked: Result<(), Memory> = desk.tick(peer, 3500, &mut call.out);
+        let answered = call.out.len();
+        call.out.clear();
+        call.show(&(ticked, desk.state(peer), answered));
+    }
+    call.show(&is_discarded(desk.table(), packet))
+}
+
 /// OCTETS that are written into room for three and go through joined ends with as much, in memory that never fails; the
 /// moment of a clock that stands still.
 pub fn calm(call: &mut Call<'_>) -> Option<()> {

@@ -29,6 +29,7 @@ pub fn answer<L: Ledger>(call: &mut Call<'_>, steps: &mut Steps<L>) -> Option<()
         "table" => table(call, steps),
         "packet" => packet(call, steps),
         "desk" => streams::desk(call),
+        "expiry" => streams::expiry(call),
         "session" => streams::session(call),
         "announce" => streams::announce(call),
         "joint" => streams::joint(call),

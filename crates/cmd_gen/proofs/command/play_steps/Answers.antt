@@ -1,4 +1,4 @@
-use Rattle.cmd_gen.proofs.{Words.{◌≡◌, ◌++◌, ◌∙◌, ℕ, ap, sym, subst, arith, Played, Plays, behind_pair, pair_behind, step_of, steps, Item}, Generating.{played_more, played_none, state_more, state_none, step_is}}
+use Rattle.cmd_gen.proofs.{Words.{◌≡◌, ◌++◌, ◌∙◌, ℕ, ap, sym, subst, arith, Played, Plays, nobody, behind_pair, pair_behind, step_of, steps, Item}, Generating.{played_more, played_none, state_more, state_none, step_is}}
 use Rattle.cmd_gen.proofs.command.play_steps.Goals as goal
 
 pub steps-init : goal.steps-init
@@ -11,7 +11,7 @@ pub steps-preserved : goal.steps-preserved
 steps-preserved c = record {
   draws = c.pair-pair.ensures.state ∙ ap behind_pair c.steps.invariant.draws ∙ sym (state_more c.args.count c.steps.counter);
   played = λ config items p. played_more config items c.args.count c.steps.counter c.octets.new.self
-      (step config _ (c.steps.invariant.played config items p));
+      (step nobody config _ (c.steps.invariant.played config items p));
 }
   where
     step : Plays (step_of (pair_behind c.args.count c.steps.counter)) c.steps.desk c.octets.new.self

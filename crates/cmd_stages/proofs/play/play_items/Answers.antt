@@ -1,4 +1,4 @@
-use Rattle.cmd_stages.proofs.{Words.{◌≡◌, ◌∙◌, ℕ, subst, sym, arith, rules, with_part, coming, item_from, timed}, LookingAhead.{slots_then}, Playing.{playing_more, playing_done, no_moment}}
+use Rattle.cmd_stages.proofs.{Words.{◌≡◌, ◌∙◌, ℕ, subst, sym, arith, rules, with_part, coming, item_from, nobody, timed}, LookingAhead.{slots_then}, Playing.{playing_more, playing_done, no_moment}}
 use Rattle.cmd_stages.proofs.play.play_items.Goals as goal
 
 pub items-preserved : goal.items-preserved
@@ -22,7 +22,7 @@ items-preserved g c = record {
       ≡ with_part (timed c.next_item.new.tape.moment (item_from c.in-Some.item c.next_item.new.buffer)) (coming c.args.config.now c.next_item.new.tape (g.F.Files.left c.next_item.new.files slot)))
       (sym c.in_ok-item.ensures.slot) (rw c.in-Some.is at (c.in_ok-item.ensures.gives told)))
       (λ one. no_moment c.items.tape.version c.items.tape.moment c.next_item.new.tape.moment (rw c.in-Some.is at c.in_ok-item.ensures.timed) (c.items.invariant.version ∙ one))
-      (λ items. c.in_ok-play_item.ensures.played c.args.config.now items);
+      (λ items. c.in_ok-play_item.ensures.played nobody c.args.config.now items);
 }
 
 pub returns-clause-played : goal.returns-clause-played

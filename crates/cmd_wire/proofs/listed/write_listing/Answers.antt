@@ -6,4 +6,4 @@ returns-clause-told g c =
     told_listing c.args.desk.now c.in_ok-text.text.items c.deref.result.now
     (Rose (g.S.Sink.faults c.args.sink.now) (g.S.Sink.faults c.write_text.new.sink))
     (g.S.Sink.written c.args.sink.now) (g.S.Sink.written c.write_text.new.sink) c.write_text.result
-    c.deref.ensures.value c.in_ok-text.ensures c.write_text.ensures.written
+    c.deref.ensures.value c.in_ok-text.ensures.told c.write_text.ensures.written

@@ -1,4 +1,4 @@
-use Rattle.fs_cli.proofs.{Words.{◌∙◌, ◌∷◌, [], ap, refl, sym, happened, with_wire, form_shown, Wants, conversation}, Running.{enforce_as, one_but, one_of_session, opens_as, opens_none, runs_as, wants_enforce}}
+use Rattle.fs_cli.proofs.{Words.{◌∙◌, ◌∷◌, [], ap, refl, sym, happened, with_wire, form_shown, Wants, conversation}, Running.{enforce_as, one_but, one_of_session, opens_as, opens_none, runs_as, wants_changes, wants_enforce}}
 use Rattle.fs_cli.proofs.program.perform.Goals as goal
 
 pub returns-in-Enforce-clause-runs : goal.returns-in-Enforce-clause-runs
@@ -20,6 +20,20 @@ pub returns-in-Survey-clause-runs : goal.returns-in-Survey-clause-runs
 returns-in-Survey-clause-runs g c =
     let p = c.survey_tape.ensures.possible in
     runs_as _ _ _ _ _ (ap form_shown c.in-Survey.is) c.answer_of-in-Survey.ensures.answered (one_but c.survey_tape.result (5 ∷ 8 ∷ 10 ∷ []) (p.0, (p.1, (p.2, tt)))) c.survey_tape.ensures.lists
+
+pub returns-in-Changes-clause-runs : goal.returns-in-Changes-clause-runs
+returns-in-Changes-clause-runs g c =
+    let p = c.tell_changes.ensures.possible in
+    runs_as g.F.Files.tells c.args.job.limit (g.F.Files.holds c.args.files.now)
+    (with_wire g.W.Wire c.args.wire.now c.args.wire.now (happened g.F.Files g.S.Sink c.args.files.now c.tell_changes.new.files c.args.sink.now c.tell_changes.new.sink))
+    (conversation g.W.Wire g.C.Clock c.args.wire.now c.args.wire.now c.args.clock.now c.args.clock.now)
+    (ap form_shown c.in-Changes.is) c.answer_of-in-Changes.ensures.answered (one_but c.tell_changes.result (5 ∷ 8 ∷ 10 ∷ []) (p.0, (p.1, (p.2, tt)))) c.tell_changes.ensures.tells
+
+pub returns-in-Changes-clause-wanting : goal.returns-in-Changes-clause-wanting
+returns-in-Changes-clause-wanting g c = λ six tells none. wants_changes (ap form_shown c.in-Changes.is) tells
+
+pub returns-in-Changes-clause-opens : goal.returns-in-Changes-clause-opens
+returns-in-Changes-clause-opens g c = opens_as (ap form_shown c.in-Changes.is) c.answer_of-in-Changes.ensures.answered c.tell_changes.ensures.opens
 
 pub returns-in-Convert-clause-runs : goal.returns-in-Convert-clause-runs
 returns-in-Convert-clause-runs g c =

@@ -1,4 +1,5 @@
-use Rattle.fs_compile.{specs.Matcher.{admitted_in}, proofs.MatcherMending.{own_both}}
+use Rattle.fs_compile.specs.Matcher.{admitted_in}
+use Rattle.fs_buckets.proofs.ListMending.{own_both}
 use Rattle.fs_compile.proofs.compiled.Compiled.build.Goals as goal
 
 pub returns-clause-own : goal.returns-clause-own

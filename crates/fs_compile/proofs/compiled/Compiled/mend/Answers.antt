@@ -1,4 +1,5 @@
-use Rattle.fs_compile.proofs.{Words.{List, ◌∷◌, ◌+◌, sym, ap, subst, ◌∙◌, drop, arith, drop_all, drop_more, AllByRecursion, Listed, all_admitted, admitted, Change, IsOfFamily, spans_of, AreTo, target_of, admitted_in, all_of_family}, MatcherMending.{Mends, listed_to, mends_first, mends_next, mends_own, mends_stand, own_here, own_item, to_here}}
+use Rattle.fs_compile.proofs.{Words.{List, ◌∷◌, ◌+◌, sym, ap, subst, ◌∙◌, drop, arith, drop_all, drop_more, AllByRecursion, Listed, all_admitted, admitted, Change, IsOfFamily, spans_of, AreTo, target_of, admitted_in, all_of_family}, MatcherMending.{Mends, mends_first, mends_next, mends_own, mends_stand}}
+use Rattle.fs_buckets.proofs.ListMending.{listed_to, own_here, own_item, to_here}
 use Rattle.fs_compile.proofs.compiled.Compiled.mend.Goals as goal
 
 pub loop-place-init : goal.loop-place-init

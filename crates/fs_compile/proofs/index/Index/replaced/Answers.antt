@@ -1,4 +1,5 @@
-use Rattle.fs_compile.proofs.{Words.{length, sym, ap, subst, ◌∙◌, arith, all_admitted, Indexed, IsIndexOf, target_of}, IndexMending.{all_shared, stretch_bounds}, Replacing.{replaced_is}}
+use Rattle.fs_compile.proofs.{Words.{length, sym, ap, subst, ◌∙◌, arith, all_admitted, Indexed, IsIndexOf, target_of}, IndexMending.{all_shared, stretch_bounds}}
+use Rattle.fs_buckets.proofs.Replaced.{replaced_is}
 use Rattle.std.proofs.lemmas.Result.{IfOk-weaker}
 use Rattle.fs_compile.proofs.index.Index.replaced.Goals as goal
 

@@ -1,4 +1,4 @@
-use Rattle.fs_rules.proofs.{Words.{◌≡◌, ◌+◌, sym, ap, subst, ◌∙◌, List, [], ◌∷◌, drop, arith, IsStrictlySortedBy, keys_of, drop_all, Prefix, place_total, place_cmp, AreAmong, Held}, Entries.{sorted-remove_entry}, Losing.{is_place, losing_starts, losing_ends}, Prefixes.{among_more, none_among, along_more}, Stepping.{rest_is}}
+use Rattle.fs_rules.proofs.{Words.{◌≡◌, ◌+◌, sym, ap, subst, ◌∙◌, List, [], ◌∷◌, drop, arith, IsStrictlySortedBy, keys_of, drop_all, Prefix, place_total, place_cmp, AreAmong, Held}, Entries.{sorted-remove_entry}, Losing.{is_place, losing_starts, losing_ends}, Prefixes.{among_more, none_among, along_more}, Quiet.{quiet_starts, quiet_more}, Stepping.{rest_is}}
 use Rattle.fs_rules.proofs.table.Table.lose_along.Goals as goal
 
 pub loop-key-init : goal.loop-key-init
@@ -7,6 +7,7 @@ loop-key-init g c = record {
   among = c.requires.among;
   ordered = c.requires.ordered;
   covers = λ base h. h;
+  quiet = λ stay. quiet_starts c.args.peer c.args.self.now c.args.changes.now stay;
 }
 
 pub loop-key-preserved : goal.loop-key-preserved
@@ -18,6 +19,8 @@ loop-key-preserved g c = record {
   ordered = subst (λ (held : Held). IsStrictlySortedBy place_cmp (keys_of held.unicast)) (sym c.withdraw_unicast_telling.ensures.removed)
       (sorted-remove_entry place_cmp place_total (is_place c.prefix.result c.args.peer) c.loop-key.self.unicast c.loop-key.invariant.ordered);
   covers = λ base h. c.withdraw_unicast_telling.ensures.covers base (c.loop-key.invariant.covers base h);
+  quiet = λ stay. quiet_more c.args.peer c.prefix.result c.loop-key.self c.withdraw_unicast_telling.new.self c.args.changes.now c.loop-key.changes c.withdraw_unicast_telling.new.changes c.withdraw_unicast_telling.ensures.removed c.withdraw_unicast_telling.ensures.quiet
+      (c.loop-key.invariant.quiet stay);
 } where
   rest : List Prefix
   rest = drop (c.loop-key.key-index + 1) c.args.prefixes.now
@@ -30,3 +33,6 @@ returns-clause-removed g c = losing_ends c.args.peer c.args.self.now c.loop-key.
     (none_among c.args.peer c.loop-key.self.unicast (subst (λ (ds : List Prefix). AreAmong c.args.peer ds c.loop-key.self.unicast) none c.loop-key.invariant.among)) where
       none : drop c.loop-key.key-index c.args.prefixes.now ≡ []
       none = drop_all c.loop-key.key-index c.args.prefixes.now (omega (arith, c.loop-key-test.false))
+
+pub returns-clause-quiet : goal.returns-clause-quiet
+returns-clause-quiet g c = λ stay. (c.loop-key.invariant.quiet stay).same

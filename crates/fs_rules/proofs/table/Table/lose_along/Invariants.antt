@@ -1,4 +1,4 @@
-use Rattle.fs_rules.proofs.{Words.{drop, IsStrictlySortedBy, keys_of, place_cmp, AreAmong, Covers, Held}, Losing.{IsLosing}}
+use Rattle.fs_rules.proofs.{Words.{drop, IsStrictlySortedBy, keys_of, place_cmp, AreAmong, Covers, Held, StayThroughout}, Losing.{IsLosing}, Quiet.{IsQuiet}}
 use Rattle.fs_rules.proofs.table.Table.lose_along.Given as goal
 
 abbrev pub invariant-loop-key : goal.invariant-loop-key
@@ -7,4 +7,5 @@ invariant-loop-key g l = record {
   among : AreAmong l.peer (drop l.key-index l.prefixes) l.self.unicast;
   ordered : IsStrictlySortedBy place_cmp (keys_of l.self.unicast);
   covers : (base : Held) → Covers base l.fn.changes l.fn.self → Covers base l.changes l.self;
+  quiet : StayThroughout l.peer l.fn.self → IsQuiet l.peer l.self l.fn.changes l.changes;
 }

@@ -1,4 +1,4 @@
-use Rattle.fs_rules.proofs.{Words.{◌≡◌, ap, sym, ◌∙◌, not, ◌==◌, arith, nat_tests, Held, without_peer_unicast, without_peer_flows, routes_of, keeps-filter, routes-filter}, Chosen.{flows_changed}, Counting.{counted_as, counted_lost, with_same_flows}, Prefixes.{held_still, held_others}}
+use Rattle.fs_rules.proofs.{Words.{◌≡◌, ap, sym, ◌∙◌, true≢false, not, ◌==◌, arith, nat_tests, Held, without_peer_unicast, without_peer_flows, routes_of, keeps-filter, routes-filter}, Chosen.{flows_changed}, Counting.{counted_as, counted_lost, holds_none, with_same_flows}, Prefixes.{held_still, held_others}}
 use Rattle.fs_rules.proofs.table.Table.lose_flows.Goals as goal
 
 pub returns-then-of-eq0-clause-removed : goal.returns-then-of-eq0-clause-removed
@@ -29,3 +29,14 @@ invariant_of-self-2 c = record {
 
 pub returns-clause-removed : goal.returns-clause-removed
 returns-clause-removed c = flows_changed (without_peer_flows c.args.peer) c.self.inside.config.now c.self.inside.unicast c.self.inside.flows c.forget.new.self c.args.self.now c.self.view_is (ap routes_of c.forget.ensures ∙ routes-filter (λ r. not (r.peer == c.args.peer)) c.self.inside.flows)
+
+pub returns-clause-told : goal.returns-clause-told
+returns-clause-told c = (
+  (λ e. absurd (true≢false e)),
+  (λ e. let same : without_peer_flows c.args.peer (routes_of c.self.inside.flows) ≡ routes_of c.self.inside.flows =
+      sym (ap routes_of c.forget.ensures ∙ routes-filter (λ r. not (r.peer == c.args.peer)) c.self.inside.flows) ∙ ap (λ (held : Held). held.flows) (e ∙ sym c.self.view_is) in
+      let count : c.of.result ≡ 0 = c.of.ensures ∙ c.clear_prefixes.ensures.same c.args.peer ∙ c.self.invariant.counted c.args.peer ∙ holds_none c.args.peer c.self.inside.unicast (routes_of c.self.inside.flows) none same in
+      absurd (c.if-of-eq0.false count)),
+) where
+  none : without_peer_unicast c.args.peer c.self.inside.unicast ≡ c.self.inside.unicast
+  none = ap (λ (held : Held). without_peer_unicast c.args.peer held.unicast) c.self.view_is ∙ c.requires ∙ sym (ap (λ (held : Held). held.unicast) c.self.view_is)

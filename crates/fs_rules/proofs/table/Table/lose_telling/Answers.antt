@@ -1,4 +1,4 @@
-use Rattle.fs_rules.proofs.{Words.{◌≡◌, ap, sym, ◌∙◌, subst, arith, nat_tests, Covers, Held, held_count, without_peer_unicast}, Counting.{with_same, gone_twice}}
+use Rattle.fs_rules.proofs.{Words.{◌≡◌, ap, sym, ◌∙◌, true≢false, subst, arith, nat_tests, Covers, Held, held_count, without_peer_flows, without_peer_unicast}, Counting.{with_same, gone_twice}}
 use Rattle.fs_rules.proofs.table.Table.lose_telling.Goals as goal
 
 pub returns-then-of-eq0-clause-removed : goal.returns-then-of-eq0-clause-removed
@@ -12,4 +12,10 @@ pub returns-then-lose_flows-clause-covers : goal.returns-then-lose_flows-clause-
 returns-then-lose_flows-clause-covers g c = λ base h. c.note_all.ensures base c.lose_flows.new.self
 
 pub returns-else-lose_flows-clause-covers : goal.returns-else-lose_flows-clause-covers
-returns-else-lose_flows-clause-covers g c = λ base h. subst (Covers base c.lose_unicast.new.changes) (sym (c.lose_flows.ensures.told c.if-lose_flows.false)) (c.lose_unicast.ensures.covers base h)
+returns-else-lose_flows-clause-covers g c = λ base h. subst (Covers base c.lose_unicast.new.changes) (sym (c.lose_flows.ensures.told.0 c.if-lose_flows.false)) (c.lose_unicast.ensures.covers base h)
+
+pub returns-then-lose_flows-clause-quiet : goal.returns-then-lose_flows-clause-quiet
+returns-then-lose_flows-clause-quiet g c = λ none stay.
+    let flows = ap (λ (held : Held). held.flows) c.lose_unicast.ensures.removed in
+    let same = ap (without_peer_flows c.args.peer) flows ∙ none ∙ sym flows in
+    absurd (true≢false (sym c.if-lose_flows.true ∙ c.lose_flows.ensures.told.1 (c.lose_flows.ensures.removed ∙ ap (λ rs. record c.lose_unicast.new.self { flows = rs }) same)))

@@ -1,4 +1,4 @@
-use Rattle.fs_rules.proofs.{Words.{sym, ap, subst, ◌∙◌, List, insert_entry, place_cmp, Route, IsKept, routes_of, routes_mended}, Chosen.{held_of, unicast_changed, keeps_after, agree_put}, Counting.{counted_as, counted_put, fresh_swap}, Elsewhere.{covers_noted, mends_at, related_elsewhere, swap_told}, Prefixes.{kept_still, held_put}}
+use Rattle.fs_rules.proofs.{Words.{sym, ap, subst, ◌∙◌, List, insert_entry, place_cmp, Route, IsKept, routes_of, routes_mended}, Chosen.{held_of, unicast_changed, keeps_after, agree_put}, Counting.{counted_as, counted_put, fresh_swap}, Elsewhere.{covers_noted, mends_at, related_elsewhere, swap_told}, Prefixes.{kept_still, held_put}, Quiet.{stay_right}}
 use Rattle.fs_rules.proofs.table.Table.put_unicast_telling.Goals as goal
 
 pub invariant_of-self : goal.invariant_of-self
@@ -41,3 +41,8 @@ returns-clause-covers g c =
     (related_elsewhere c.mend.new.changes c.args.prefix c.self.inside.config.now c.self.inside.unicast c.put_telling.new.self c.self.inside.flows c.mend.new.self c.args.self.now c.self.view_is
     (agree_put (record { prefix = c.args.prefix; peer = c.args.peer }) c.args.path c.self.inside.unicast c.put_telling.new.self c.in_ok-swap.ensures.ok) c.self.invariant.keeps.right
     (ap routes_of mends.kept ∙ routes_mended c.args.prefix c.put_telling.new.self c.self.inside.config.now c.self.inside.flows) c.mend.ensures.rules mends.marked)
+
+pub returns-clause-quiet : goal.returns-clause-quiet
+returns-clause-quiet g c = λ stay.
+    (mends_at (swap_told c.args.peer c.args.prefix c.self.inside.unicast c.put_telling.new.self c.in_ok-swap.ensures.swap c.in-Some.is) c.mend.ensures.mends).quiet
+    (stay_right c.args.prefix c.self.inside.config.now c.self.inside.unicast c.put_telling.new.self c.self.inside.flows (routes_of c.mend.new.self) c.args.self.now c.self.view_is c.self.invariant.keeps.right stay)

@@ -1,4 +1,4 @@
-use Rattle.fs_rules.proofs.{Words.{◌≡◌, refl, sym, ap, ◌∙◌, subst, length, arith, is_at, is_some, remove_entry, place_cmp, Covers, IsKept, routes_of, Held, routes_mended, remove_nothing, removes_one}, Chosen.{held_of, unicast_changed, keeps_after, agree_taken}, Counting.{counted_taken}, Elsewhere.{covers_noted, mends_at, related_elsewhere, swap_told}, Prefixes.{held_taken}}
+use Rattle.fs_rules.proofs.{Words.{◌≡◌, refl, sym, ap, ◌∙◌, subst, length, arith, is_at, is_some, remove_entry, place_cmp, Covers, IsKept, routes_of, Held, routes_mended, remove_nothing, removes_one}, Chosen.{held_of, unicast_changed, keeps_after, agree_taken}, Counting.{counted_taken}, Elsewhere.{covers_noted, mends_at, related_elsewhere, swap_told}, Prefixes.{held_taken}, Quiet.{stay_right}}
 use Rattle.fs_rules.proofs.table.Table.withdraw_unicast_telling.Goals as goal
 
 pub invariant_of-self : goal.invariant_of-self
@@ -38,3 +38,8 @@ returns-clause-covers g c =
 pub returns-in_default-clause-covers : goal.returns-in_default-clause-covers
 returns-in_default-clause-covers g c = λ base. subst (Covers base c.args.changes.now)
     (sym c.self.view_is ∙ ap (λ u. held_of c.self.inside.config.now u (routes_of c.self.inside.flows)) (sym (c.remove_telling.ensures.removed ∙ remove_nothing (is_at (place_cmp (record { prefix = c.args.prefix.now; peer = c.args.peer }))) c.self.inside.unicast (sym c.remove_telling.ensures.held ∙ ap is_some c.in_default.is))))
+
+pub returns-clause-quiet : goal.returns-clause-quiet
+returns-clause-quiet g c = λ stay.
+    (mends_at (swap_told c.args.peer c.args.prefix.now c.self.inside.unicast c.remove_telling.new.self c.remove_telling.ensures.swap c.in-Some.is) c.mend.ensures.mends).quiet
+    (stay_right c.args.prefix.now c.self.inside.config.now c.self.inside.unicast c.remove_telling.new.self c.self.inside.flows (routes_of c.mend.new.self) c.args.self.now c.self.view_is c.self.invariant.keeps.right stay)

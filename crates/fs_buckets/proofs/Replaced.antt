@@ -1,5 +1,5 @@
 -- Where the rules of one destination stand in a list, and the list with them put anew.
-use Rattle.fs_compile.proofs.{Words.{◌≡◌, ℕ, ◌+◌, ◌-◌, ◌<◌, ◌≤◌, ◌⊎◌, inl, inr, refl, sym, ap, ap₂, subst, ◌∙◌, Bool, false, Option, Some, None, List, ◌++◌, length, get_or, Ordering, Equal, Greater, arith, AllByRecursion, splice, is_gt, is_lt, cases_lt, length-map, Family, Listed, IsOfFamily, span_of, spans_of, IsStretch, place_by, span_cmp, replaced, AreNesting, Fits, Follows, Before, of_behind, of_same, three, less_equal, less_greater, equal_greater, same_of, behind_of, follows_at, proper_at}, Parting.{ArePlaced, filter_back, filter_front}}
+use Rattle.fs_buckets.proofs.{Words.{◌≡◌, ℕ, ◌+◌, ◌-◌, ◌<◌, ◌≤◌, ◌⊎◌, inl, inr, refl, sym, ap, ap₂, subst, ◌∙◌, Bool, false, Option, Some, None, List, ◌++◌, length, get_or, Ordering, Equal, Greater, arith, AllByRecursion, splice, is_gt, is_lt, cases_lt, length-map, Family, Listed, IsOfFamily, span_of, spans_of, IsStretch, place_by, span_cmp, replaced, AreNesting}, Nesting.{Fits, Follows}, Stretching.{Before, of_behind, of_same, three, less_equal, less_greater, equal_greater, same_of, behind_of, follows_at, proper_at}, Parting.{ArePlaced, filter_back, filter_front}}
 
 -- The rules that a stretch leaves are those before and behind its destination.
 pub replaced_is : (rules news : List Listed) (target : Option (ℕ × ℕ)) (from to : ℕ) → IsStretch (spans_of rules) target from to → replaced target news rules ≡ splice rules from to news

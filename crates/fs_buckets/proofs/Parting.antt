@@ -1,4 +1,4 @@
-use Rattle.fs_compile.proofs.Words.{◌≡◌, ℕ, zero, suc, ◌+◌, ◌-◌, ◌<◌, ◌≤◌, refl, sym, ap, ap₂, ◌∙◌, Bool, true, false, true≢false, cond, not, ◌||◌, List, [], ◌∷◌, ◌++◌, length, get_or, take, drop, map, filter, Ordering, Less, Equal, Greater, arith, is_eq, is_gt, is_lt, filter-append}
+use Rattle.fs_buckets.proofs.Words.{◌≡◌, ℕ, zero, suc, ◌+◌, ◌-◌, ◌<◌, ◌≤◌, refl, sym, ap, ap₂, ◌∙◌, Bool, true, false, true≢false, cond, not, ◌||◌, List, [], ◌∷◌, ◌++◌, length, get_or, take, drop, map, filter, Ordering, Less, Equal, Greater, arith, is_eq, is_gt, is_lt, filter-append}
 
 -- Lists parted by a test, or by an order: what stands in front, at a place, and behind.
 

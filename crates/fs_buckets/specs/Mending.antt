@@ -1,8 +1,12 @@
--- Rules of one destination put anew among others.
-use Rattle.std.specs.{Prelude.{ℕ, ◌++◌, Option, List, filter}, List.{AllByRecursion}, Ordering.{is_gt, is_lt}}
+-- The admitted rules of a family, and rules of one destination put anew among others.
+use Rattle.std.specs.{Prelude.{ℕ, ◌++◌, Option, List, filter, map}, List.{AllByRecursion}, Ordering.{is_gt, is_lt}}
 use Rattle.fs_base.specs.declared.prefix.Family.{Family, TheVariants.{V4, V6}}
-use Rattle.fs_rules.specs.Lent.{Listed}
+use Rattle.fs_rules.specs.{Lent.{Listed, listed}, Table.{Held, admitted}}
 use Rattle.fs_buckets.specs.Destinations.{IsOfFamily, span_of, place_by}
+
+-- the admitted rules of each family in order
+abbrev pub admitted_in : Held → Family → List Listed
+admitted_in held family = map listed (admitted family held)
 
 -- the rules with these in the place of those that have this destination
 abbrev pub replaced : (target : Option (ℕ × ℕ)) → (news rules : List Listed) → List Listed
