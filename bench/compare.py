@@ -2,10 +2,13 @@
 """Compares the built program with `bench/plain.py` over drawn configurations, tapes and captures.
 
     bench/compare.py [--program PATH] [--draws N] [--seed S] [--seconds S] [--only K] [--keep DIR] [--skip-missing]
+                     [--commands NAME,..]
 
-Each draw is made from the seed and its number, and `rules`, `list`, `shadow` and `enforce` run on it: the status and
-each octet that is written have to be equal. Each rule that `list` words has to be read back by `check text` as the
-octets and actions that `rules` tells of it. Then `plain.py` is given wrong readings, one after the other, and each has
+Each draw is made from the seed and its number, and `rules`, `list`, `shadow`, `changes` and `enforce` run on it, or
+those of --commands: the status and each octet that is written have to be equal. Each rule that `list` words has to be
+read back by `check text` as the octets and actions that `rules` tells of it. Whoever applies the lines of `changes` to
+empty lists has to hold the rules of the plain reading behind each item of the tape, and no line may say what is so
+already. Then `plain.py` is given wrong readings, one after the other, and each has
 to differ from the program in some draw, which shows that these draws would tell such a fault of the program. What the
 draws reached is counted. A difference is told in a line; `--only K` repeats its draw, and with `--keep` writes the
 files. The last line is `N passed, M failed`, of draws and wrong readings together.
@@ -29,7 +32,7 @@ import plain_sessions
 from draws import draw_inputs
 
 NAMES = ("config", "tape", "capture")
-COMMANDS = {"rules": 2, "list": 2, "shadow": 2, "enforce": 3}
+COMMANDS = {"rules": 2, "list": 2, "shadow": 2, "changes": 2, "enforce": 3}
 KEPT = 400      # draws whose answers are kept for the wrong readings
 
 
@@ -46,10 +49,10 @@ def program_answer(program, folder, command):
     return run.returncode, run.stdout + run.stderr
 
 
-def program_answers(program, folder, inputs):
+def program_answers(program, folder, inputs, commands):
     for name, octets in zip(NAMES, inputs):
         (folder / name).write_bytes(octets)
-    return {command: program_answer(program, folder, command) for command in COMMANDS}
+    return {command: program_answer(program, folder, command) for command in commands}
 
 
 def program_reads(program, text):
@@ -67,6 +70,57 @@ def first_text_difference(program, inputs):
         if came != due:
             return f"check text '{text}': program {came}, due {due}"
     return None
+
+
+CHANGE = re.compile(r"(\d+) ([+-]) ([1-9]\d*) (v[46]) ?(.*)")
+
+
+class Lists:
+    """The rules that act, as who applies the lines of `changes` holds them: the texts of each family."""
+
+    def __init__(self):
+        self.texts, self.gone = {"v4": [], "v6": []}, None
+
+    def apply(self, line, moment):
+        """What is wrong with the line of an item of that moment, or None; then the lists are as it says."""
+        found = CHANGE.fullmatch(line)
+        if found is None or int(found[1]) != moment:
+            return f"'{line}' is no line of an item of {moment}"
+        _, sign, place, family, text = found.groups()
+        rules, at = self.texts[family], int(place) - 1
+        if sign == "-" and rules[at:at + 1] != [text]:
+            return f"'{line}' where that rule doesn't act"
+        if sign == "+" and (at > len(rules) or self.gone == (family, at, text)):
+            return f"'{line}' where there is no such place, or where that rule went just before"
+        rules[at:at + (sign == "-")] = [text] if sign == "+" else []
+        self.gone = (family, at, text) if sign == "-" else None
+        return None
+
+
+def plain_fronts(inputs):
+    """The moment of each item up to a fault, and the texts of the rules that act behind it."""
+    config = plain.load_config(inputs.config)
+    try:
+        for moment, rules in plain.fronts(config, plain.tape_items(inputs.tape, config.peers)):
+            yield moment, {f"v{family}": [plain.rule_text(each).partition(" ")[2] for each in rules[family]] for family in rules}
+    except plain.Refusal:
+        return
+
+
+def first_front_difference(answers, inputs):
+    """Where the lines of `changes`, applied, first leave other rules than the plain reading's; None where nowhere."""
+    status, octets = answers.get("changes", (3, b""))
+    if status == 3:
+        return None
+    lines, lists = octets.decode().splitlines(), Lists()
+    lines = lines[:len(lines) - (status == 4)]
+    for number, (moment, due) in enumerate(plain_fronts(inputs), 1):
+        while lists.texts != due:
+            wrong = lists.apply(lines.pop(0), moment) if lines else "no line is left"
+            if wrong:
+                return f"changes, behind item {number}: {wrong}, and {due} is to act"
+        lists.gone = None
+    return f"changes: behind the last item still '{lines[0]}'" if lines else None
 
 
 def plain_answer(command, inputs):
@@ -131,6 +185,14 @@ def address_alone(_):
     return lambda route: route.peer.address
 
 
+def place_of_the_old_list(right):
+    def wrong(old, new):
+        places = {route.subject: place for place, route in enumerate(old, 1)}
+        for sign, place, route in right(old, new):
+            yield sign, places[route.subject] if sign == "-" else place, route
+    return wrong
+
+
 def lost_peer_kept(right):
     return lambda items, number: right([item for item in items if item.kind != plain_sessions.LOST], number)
 
@@ -188,6 +250,9 @@ WRONG = {
     "an AS_SET counts all its numbers": (plain, "path_length", all_of_a_set_counted),
     "negative rates are reported": (plain, "discards", lambda _: lambda rate: rate[4:] == bytes(4)),
     "each packet meets what the whole tape leaves": (plain, "read_capture", whole_tape_for_each),
+    "a rule that does something else is left unsaid": (plain, "has_changed", lambda right: lambda before, after:
+                                                       (before is None) != (after is None)),
+    "a rule goes from its place in the old list": (plain, "differences", place_of_the_old_list),
     "a lost peer keeps its routes": (plain_sessions, "life", lost_peer_kept),
     "a malformed attribute changes nothing": (plain_sessions, "apply_update", malformed_attribute_ignored),
     "withdrawals act last": (plain_sessions, "apply_update", withdrawn_last),
@@ -202,13 +267,16 @@ WRONG = {
 
 
 def tells(name, kept):
-    """The number of the first kept draw in which the wrong reading answers otherwise than the program, or None."""
+    """The number of the first kept draw in which the wrong reading answers otherwise than the program, or None.
+    `changes` is asked last, since it plays each front of a tape."""
     module, function, make_wrong = WRONG[name]
     right = getattr(module, function)
-    for number, answers, inputs in kept:
-        with mock.patch.object(module, function, make_wrong(right)):
-            if any(plain_answer(command, inputs) != answer for command, answer in answers.items()):
-                return number
+    for last in (False, True):
+        for number, answers, inputs in kept:
+            with mock.patch.object(module, function, make_wrong(right)):
+                if any(plain_answer(command, inputs) != answer for command, answer in answers.items()
+                       if (command == "changes") == last):
+                    return number
     return None
 
 
@@ -218,6 +286,8 @@ REACHED = {
     "rules": [r"^(peer) \d+ (down|wait-open|wait-keepalive|established|notified|closed \d/\d+)",
               r"^(v[46]) \d+ ", r"^(v[46] invalid) .* (\w+)$", r"^(tape \w+)"],
     "shadow": [r"^(v[46]) \d+ (covered)"],
+    "changes": [r"^\d+ ([+-]) \d+ (v[46]) ", r"^(tape \w+)",
+                r"(?P<other_actions>^(\d+) - (\d+) (v[46] .*?)(?: then .*)?\n\2 \+ \3 \4(?: then .*)?$)"],
     "enforce": [r"^\d+ (discard|pass)( rules)?", r"^\d+ (unread \d)", r"^\d+ .* (mark)", r"^\d+ .* (sample)",
                 r"^\d+ .* (redirect \w+)", r"(?P<several_rules> rules \d+,)", r" (bytes)", r" (packets)"],
 }
@@ -228,8 +298,8 @@ def count_reached(reached, answers):
         reached[command][f"status {status}"] += 1
         for pattern in REACHED.get(command, []):
             for found in re.finditer(pattern, octets.decode("latin-1"), re.M):
-                words = " ".join(part.strip() for part in found.groups() if part)
-                reached[command][found.lastgroup or words] += 1
+                words = found.lastgroup or " ".join(part.strip() for part in found.groups() if part)
+                reached[command][words] += 1
 
 
 def report_reached(reached):
@@ -250,6 +320,7 @@ def arguments():
     parser.add_argument("--seconds", type=float, default=300, help="no draw is begun after so many")
     parser.add_argument("--only", type=int, help="this draw alone, and no wrong reading")
     parser.add_argument("--keep", type=pathlib.Path, help="a folder for the files of the last draw")
+    parser.add_argument("--commands", type=lambda text: text.split(","), default=list(COMMANDS))
     parser.add_argument("--skip-missing", action="store_true", help="end with 0 where the program isn't there")
     return parser.parse_args()
 
@@ -263,8 +334,10 @@ def compare_draws(options, folder):
             print(f"after {options.seconds:g} seconds: {number} draws of {options.draws}")
             break
         inputs = draw_inputs(options.seed, number)
-        answers = program_answers(options.program.resolve(), folder, inputs)
-        difference = first_difference(answers, inputs) or first_text_difference(options.program.resolve(), inputs)
+        answers = program_answers(options.program.resolve(), folder, inputs, options.commands)
+        difference = first_difference(answers, inputs) or first_front_difference(answers, inputs)
+        if difference is None and "list" in answers:
+            difference = first_text_difference(options.program.resolve(), inputs)
         if difference is not None:
             print(f"draw {number} differs (--seed {options.seed} --only {number}): {difference}", flush=True)
         counts["failed" if difference else "passed"] += 1

@@ -31,7 +31,7 @@ def main():
     parser.add_argument("program")
     parser.add_argument("counts", nargs="*", type=int, metavar="COUNT")
     parser.add_argument("--runs", type=int, default=3)
-    options = parser.parse_args()
+    options = parser.parse_intermixed_args()
 
     print("| line | seconds | steps and packets a second | peak MB |")
     print("|---|---|---|---|")

@@ -6,8 +6,8 @@
 
 Each seed draws rules of both families and all types, and frames, which are sent through a veth into its other end.
 With `--check` each rule's counter has to be the number of lines that walk the rule. Without it a bridge carries what is
-left to a second veth, and those frames have to come that no line discards, with the DSCP that their lines tell. Behind
-the first seed mistakes are planted in `tools/nft.py`, one after the other, and each has to be told. With `--measure` it
+left to a second veth, and those frames have to come that no line discards, with the DSCP that their lines tell. After
+the first seed mistakes are planted in `tools/welgutan`, one after the other, and each has to be told. With `--measure` it
 tells instead what the rules that a tape leaves take a frame of a capture, beside no rules.
 
 All happens in a network namespace of this process alone, which goes with it. Where there is no root, `ip`, `nft` or
@@ -36,10 +36,11 @@ ROOT = pathlib.Path(__file__).resolve().parent.parent
 sys.path.append(str(ROOT / "tools"))
 
 import draws
-import nft
 from plain_packets import (AUTHENTICATION, EXTENSIONS, FRAGMENT_HEADER, extension_length, read_capture, view,
                            walk_headers)
 from plain_rules import Malformed, Octets, Short, matches, read_frame
+from welgutan import flowspec, parts, ruleset
+from welgutan.parts import Options
 
 CONFIG = """allow_no_destination = true
 local_as = 65000
@@ -219,7 +220,7 @@ class Said(NamedTuple):
 
 
 def said(program, files):
-    rules = nft.read_listing(run(program, "rules", *files[:2]))
+    rules = ruleset.read_listing(run(program, "rules", *files[:2]))
     words = run(program, "list", *files[:2]).splitlines()
     lines = [read_line(text) for text in run(program, "enforce", *files).splitlines()]
     return Said(rules, words, lines)
@@ -328,13 +329,13 @@ class Kernel:
 
     def counts(self, rules, frames):
         """Each rule's counter where nothing else is done."""
-        load(nft.ruleset(rules, nft.Options(HOOKED, TABLE, True, None)))
+        load(ruleset.ruleset(rules, Options(HOOKED, TABLE, True, None)))
         send_all(self.first, self.last, frames)
         return counters()
 
     def left(self, rules, frames):
         """The frames that are left, by their numbers."""
-        load(nft.ruleset(rules, nft.Options(HOOKED, TABLE, False, None)))
+        load(ruleset.ruleset(rules, Options(HOOKED, TABLE, False, None)))
         return send_all(self.first, self.last, frames)
 
 
@@ -355,7 +356,7 @@ def count_differences(told, frames, counts):
                                  for frame, line in zip(frames, told.lines) for number in line.rules)
     for each, words in zip(told.rules, told.words):
         key = each.family, each.number
-        if counts.get(key) != walked[key]:
+        if counts.get(key, 0) != walked[key]:
             yield f"rule {each.number} '{words}': the kernel counts {counts.get(key)}, {walked[key]} lines walk it"
 
 
@@ -381,7 +382,12 @@ def differences(kernel, told, frames):
     yield from frame_differences(told, frames, kernel.left(told.rules, frames))
 
 
-# Mistakes that are planted: of a function of `tools/nft.py` the right one makes the wrong one that stands in its place
+# Mistakes that are planted: of a function of `tools/welgutan` the right one makes the wrong one that stands in its place
+
+
+def plain_rule(each):
+    """The rule as the plain reading has it."""
+    return read_frame(Octets(flowspec.rule_octets(each.rule)), each.family)
 
 
 def pair_to_turn(rules, told, frames):
@@ -390,9 +396,9 @@ def pair_to_turn(rules, told, frames):
     for frame, line in zip(frames, told.lines):
         first = places[family_of(frame), line.rules[-1]] if line.rules else len(rules)
         for other in range(first + 1, len(rules)):
-            if nft.destination_of(rules[first].rule) != nft.destination_of(rules[other].rule):
+            if rules[first].rule.destination() != rules[other].rule.destination():
                 break
-            if not nft.goes_on(rules[first].actions) and matches(rules[other].rule, view(1, frame)):
+            if not flowspec.goes_on(rules[first].actions) and matches(plain_rule(rules[other]), view(1, frame)):
                 return first, other
     raise RuntimeError("no frame tells two rules apart")
 
@@ -407,8 +413,8 @@ def two_turned_round(right, told, frames):
 
 
 def set_at_once(actions):
-    marks = nft.those_of(actions, "8009")[:1]
-    return [f"{header} dscp set {mark[7]}" for header in ("ip", "ip6") for mark in marks]
+    marks = flowspec.those_of(actions, (flowspec.MARK,))[:1]
+    return [parts.Part(f"{header} dscp set {mark[7]}", ()) for header in ("ip", "ip6") for mark in marks]
 
 
 def wherever(right, *_):
@@ -417,17 +423,17 @@ def wherever(right, *_):
 
 
 MISTAKES = {
-    "two rules are turned round": ("ruleset", two_turned_round),
-    "the terminal bit ends the walk": ("goes_on", lambda right, *_: lambda actions: not right(actions)),
-    "a later fragment has ports": ("presence", wherever),
-    "a mark is set at once": ("mark_notes", lambda *_: set_at_once),
+    "two rules are turned round": (ruleset, "ruleset", two_turned_round),
+    "the terminal bit ends the walk": (parts, "goes_on", lambda right, *_: lambda actions: not right(actions)),
+    "a later fragment has ports": (parts, "presence", wherever),
+    "a mark is set at once": (parts, "mark_notes", lambda *_: set_at_once),
 }
 
 
 def tells(kernel, name, told, frames):
     """The first difference that the mistake makes, or None."""
-    function, make_wrong = MISTAKES[name]
-    with mock.patch.object(nft, function, make_wrong(getattr(nft, function), told, frames)):
+    module, function, make_wrong = MISTAKES[name]
+    with mock.patch.object(module, function, make_wrong(getattr(module, function), told, frames)):
         return next(differences(kernel, told, frames), None)
 
 
@@ -473,10 +479,10 @@ def least_of_rounds(senders, frames):
 
 
 def measure(program, files):
-    rules = nft.read_listing(run(program, "rules", *files[:2]))
+    rules = ruleset.read_listing(run(program, "rules", *files[:2]))
     frames = [each.octets for each in read_capture(pathlib.Path(files[2]).read_bytes())]
     make_pair(BARE_FIRST, BARE)
-    text = nft.ruleset(rules, nft.Options(HOOKED, TABLE, False, None))
+    text = ruleset.ruleset(rules, Options(HOOKED, TABLE, False, None))
     begin = time.perf_counter()
     run("nft", "-f", "-", text=text)
     seconds = time.perf_counter() - begin

@@ -2,6 +2,7 @@
 """Draws the pictures of docs/: verdicts over time, packets a second by the number of rules, and the load of rules.
 
     bench/pictures.py PROGRAM [--only NAME] [--packets N] [--rules N,N,..] [--filters N,N,..] [--runs N]
+                      [--into FOLDER]
 
 `verdicts` is a capture of five minutes, drawn by a seed, under an attack that begins and ends, with a tape whose rules
 come and go; tools/verdicts.py draws it. `speed` has packets per processor second of `enforce` and of tcpdump, on the
@@ -60,12 +61,12 @@ set xlabel 'rules'
 """
 
 
-def draw(script, name):
-    """Draws docs/NAME.svg, which is left as it was if gnuplot fails."""
+def draw(script, path):
+    """Draws a picture, which is left as it was if gnuplot fails."""
     with tempfile.TemporaryDirectory() as made:
-        file = pathlib.Path(made) / f"{name}.svg"
+        file = pathlib.Path(made) / path.name
         subprocess.run(["gnuplot"], input=f"{STYLE}set output '{file}'\n{script}", text=True, check=True)
-        shutil.copyfile(file, DOCS / f"{name}.svg")
+        shutil.copyfile(file, path)
 
 
 # Verdicts over time
@@ -134,7 +135,7 @@ def verdicts(options, folder):
     with open(folder / "lines", "wb") as lines:
         subprocess.run([options.program, "enforce", *words], stdout=lines, check=True)
     told = subprocess.run(
-        [ROOT / "tools" / "verdicts.py", folder / "capture", folder / "lines", "--plot", DOCS / "verdicts.svg"],
+        [ROOT / "tools" / "verdicts.py", folder / "capture", folder / "lines", "--plot", options.into / "verdicts.svg"],
         stdout=subprocess.PIPE, text=True, check=True).stdout
     print(told.split("\n\nrule")[0], flush=True)
 
@@ -193,10 +194,10 @@ def speed(options, folder):
             compare(enforce, tcpdump, options.packets, folder)
         figures = ", ".join(f"{name} {row[-1][1]:,.0f}" for name, row in told.items() if row[-1][0] == rules)
         print(f"{rules} rules, packets a second: {figures}", flush=True)
-    draw_speed(told)
+    draw_speed(told, options.into / "speed.svg")
 
 
-def draw_speed(told):
+def draw_speed(told, path):
     curves = ", ".join(f"$data index {number} using 1:($2/1e6) with linespoints lw 2 pt 7 title '{name}'"
                        for number, name in enumerate(told))
     data = "\n\n\n".join("\n".join(f"{rules} {packets}" for rules, packets in rows) for rows in told.values())
@@ -207,7 +208,7 @@ set logscale y
 set format y '%g'
 set ylabel 'million packets a second'
 plot {curves}
-""", "speed")
+""", path)
 
 
 # Load
@@ -237,7 +238,7 @@ set ylabel 'seconds'
 set y2label 'megabytes'
 plot $data using 1:2 with linespoints lw 2 pt 7 title 'seconds', \\
      $data using 1:3 axes x1y2 with linespoints lw 2 pt 5 title 'megabytes'
-""", "load")
+""", options.into / "load.svg")
 
 
 PICTURES = {"verdicts": (verdicts, ["gnuplot"]), "speed": (speed, ["gnuplot", "tcpdump"]), "load": (load, ["gnuplot"])}
@@ -251,6 +252,7 @@ def main():
     parser = argparse.ArgumentParser(description=__doc__.split("\n", 1)[0])
     parser.add_argument("program", type=pathlib.Path)
     parser.add_argument("--only", choices=PICTURES, action="append")
+    parser.add_argument("--into", type=pathlib.Path, default=DOCS)
     parser.add_argument("--packets", type=int, default=1_000_000)
     parser.add_argument("--rules", type=numbers, default=[10**power for power in range(7)])
     parser.add_argument("--filters", type=numbers, default=[1, 10, 100, 1000])

@@ -1,10 +1,10 @@
 #!/usr/bin/env python3
 """A second reading of the standards, in plain Python, beside which the proved program is compared.
 
-    bench/plain.py rules|list|shadow CONFIG TAPE
+    bench/plain.py rules|list|shadow|changes CONFIG TAPE
     bench/plain.py enforce CONFIG TAPE CAPTURE
 
-It answers these four commands as `docs/FORMATS.md` says, and was written from the RFCs and the documents of this
+It answers these five commands as `docs/FORMATS.md` says, and was written from the RFCs and the documents of this
 repository, not from the program. Everything is done the plain way: a peer's session is read from all octets of its
 life, held routes are one list, each flow route is validated over the whole list, rules are ordered by comparing pairs,
 and packets meet each rule in turn. Only what stands at one moment is remembered, for the packets of that moment.
@@ -24,7 +24,7 @@ from plain_packets import CaptureFault, Unread, read_capture, view
 from plain_rules import (FRAGMENT, TCP_FLAGS, WIDTHS, Malformed, Pattern, Rule, compare_rules, contains, covers,
                          destination_of, groups, matches, rule_octets)
 from plain_sessions import (AS_SEQUENCE, AS_SET, CONFEDERATION_SEQUENCE, CONFEDERATION_SET, Refusal, play, read_config,
-                            read_tape)
+                            read_tape, tape_items)
 
 
 # Preference and validation
@@ -270,6 +270,47 @@ def survey(command, config, items):
     return "".join(line + "\n" for line in lines + list(lines_of(command, config, standing)))
 
 
+def has_changed(before, after):
+    """Whether what a rule does isn't what it did; None is a rule that isn't admitted."""
+    return before is None or after is None or before.actions != after.actions
+
+
+def differences(old, new):
+    """What makes the new list of the old one, by the order of rules: a sign, a place in the list as it then stands,
+    and the route of the rule that goes or comes."""
+    was, now = ({route.subject: route for route in routes} for routes in (old, new))
+    place = 1
+    for rule in sorted({*was, *now}, key=functools.cmp_to_key(compare_rules)):
+        before, after = was.get(rule), now.get(rule)
+        if has_changed(before, after):
+            yield from [("-", place, before)] if before else []
+            yield from [("+", place, after)] if after else []
+        place += after is not None
+
+
+def fronts(config, items):
+    """The admitted rules of each family behind each item, with its moment."""
+    seen = []
+    for item in items:
+        seen.append(item)
+        held = play(config, seen).held
+        yield item.moment, {family: admitted(config, held, family) for family in (4, 6)}
+
+
+def follow(config, items):
+    """What each item changes of the admitted rules, as lines; a fault of the tape ends them with its own line."""
+    lines, old = [], {4: [], 6: []}
+    try:
+        for moment, new in fronts(config, items):
+            for family in (4, 6):
+                lines += [f"{moment} {sign} {place} {rule_text(route)}\n"
+                          for sign, place, route in differences(old[family], new[family])]
+            old = new
+    except Refusal as refusal:
+        return refusal.status, "".join(lines) + refusal.line
+    return 0, "".join(lines)
+
+
 def judge(config, items, content):
     """The line of each packet, by the rules that stand at its moment; a fault ends the lines."""
     lines, last, rules = [], None, {}
@@ -307,8 +348,19 @@ def load_config(octets):
 
 
 def is_command(words):
-    counts = {"rules": 3, "list": 3, "shadow": 3, "enforce": 4}
+    counts = {"rules": 3, "list": 3, "shadow": 3, "changes": 3, "enforce": 4}
     return bool(words) and counts.get(words[0]) == len(words) and not any(w[:1] in ("", "-") for w in words)
+
+
+def answered(words, files):
+    config = load_config(content_of(files, words[1]))
+    tape = content_of(files, words[2])
+    if words[0] == "changes":
+        return follow(config, tape_items(tape, config.peers))
+    items = read_tape(tape, config.peers)
+    if words[0] == "enforce":
+        return judge(config, items, content_of(files, words[3]))
+    return 0, survey(words[0], config, items)
 
 
 def answer(words, files):
@@ -316,12 +368,7 @@ def answer(words, files):
     try:
         if not is_command(words):
             raise Refusal(2)
-        config = load_config(content_of(files, words[1]))
-        items = read_tape(content_of(files, words[2]), config.peers)
-        if words[0] == "enforce":
-            status, text = judge(config, items, content_of(files, words[3]))
-        else:
-            status, text = 0, survey(words[0], config, items)
+        status, text = answered(words, files)
     except Refusal as refusal:
         status, text = refusal.status, refusal.line if words[:1] != ["enforce"] else ""
     return status, text.encode()

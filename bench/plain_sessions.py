@@ -159,15 +159,21 @@ def read_item(octets, version, peers, last):
     return Item(kind, peer, moment, octets.take(length))
 
 
-def read_tape(content, peers):
-    octets, items = Octets(content), []
+def tape_items(content, peers):
+    """The items of a tape, one after the other; the first fault ends them."""
+    octets, last = Octets(content), 0
     try:
         version = tape_version(octets)
         while octets.are_left():
-            items.append(read_item(octets, version, peers, items[-1].moment if items else 0))
+            item = read_item(octets, version, peers, last)
+            last = item.moment
+            yield item
     except Short:
         raise tape_fault("Cut", len(content))
-    return items
+
+
+def read_tape(content, peers):
+    return list(tape_items(content, peers))
 
 
 # Messages

@@ -187,6 +187,8 @@ COMMANDS = [
     ("rules peers.toml first.tape", 0),
     ("list peers.toml first.tape", 0),
     ("shadow peers.toml hiding.tape", 0),
+    ("changes peers.toml first.tape", 0),
+    ("changes peers.toml late.tape", 0),
     ("convert peers.toml seen.mrt", 0),
     ("check v4 " + MAIL.hex(), 0),
     ("check v6 " + MAIL.hex(), 9),

@@ -40,7 +40,7 @@ def measure(program, packets, options, folder):
         "report": [TOOL, capture, lines],
         "report and split": [TOOL, capture, lines, "--split", folder / "parts"],
         "json": [TOOL, capture, lines, "--json"],
-        "join": [TOOL, "--join", lines],
+        "join": [TOOL, "--join", f"{lines}={capture}"],
     }
     for name, words in ways.items():
         seconds, peak = spent(words, folder, options.runs)

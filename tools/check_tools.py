@@ -1,28 +1,39 @@
 #!/usr/bin/env python3
-"""Tries what stands around the program, on the example of the README: tools/verdicts.py, the manual page, the install.
+"""Tries what stands around the program, on the example of the README: tools/verdicts.py, the manual pages, the install.
 
-    tools/check_tools.py [PROGRAM]
+    tools/check_tools.py [PROGRAM] [--flushes COMMAND,..]
 
 The example's capture is read in each of the orders and formats that there are, counted, split, cut, joined and
-drawn, and each wrong input is refused. What is expected was read off the README and off tshark. With PROGRAM, or the
-one that was built, the parts are also judged anew: their lines are those of the whole; and a table of 131,072 rules
-is. A trial whose tool is missing is skipped with a line. Ends with 1 at the first difference.
+drawn, and each wrong input is refused; so is a capture along which rules change. What is expected was read off the
+README and off tshark, or is said by `bench/plain.py`. With PROGRAM, or the one that was built, the parts are also
+judged anew: their lines are those of the whole; a table of 131,072 rules is judged by; and the commands whose lines
+don't wait, or those of --flushes, get an input by a FIFO, piece by piece: what they write of a piece has to be there
+before the next one is written. A trial whose tool is missing is skipped with a line. Ends with 1 at the first
+difference.
 """
 
+import argparse
 import functools
 import itertools
 import json
+import os
 import pathlib
+import re
+import select
 import shutil
 import struct
 import subprocess
 import sys
 import tempfile
+import time
 import xml.etree.ElementTree
 
 ROOT = pathlib.Path(__file__).resolve().parent.parent
 sys.path.append(str(ROOT / "bench"))
 
+import convert
+import moments
+import plain
 from changes import CONFIG, START, announce, flow, slash24
 from enforce import packet, write_packets
 
@@ -32,6 +43,8 @@ CAPTURE = (DATA / "packets.pcap").read_bytes()
 LINES = (ROOT / "crates" / "welgutan" / "stdout").read_text()
 FIRST_SECOND = 1700000000  # the frames come a second apart
 MICROS = 1001
+FLUSHES = ["changes", "enforce"]  # the commands that write what they have before they wait for more of their input
+PATIENCE = 60  # seconds until a line that isn't there is held to be kept back
 
 # Of each frame: octets on the wire, verdict, rules, source and destination.
 FRAMES = [
@@ -56,6 +69,7 @@ v4 dst 192.0.2.0/24 frag =02 then bytes 65001:00000000
 v4 dst 203.0.113.0/24 dport =80 then redirect as2:65002:100
 v6 dst 2001:db8:1:0:0:0:0:0/48 proto =58 itype =128 then packets 65001:42c80000
 """
+RATES = {"00000000": 0, "49742400": 1000000, "42c80000": 100}
 
 
 def want(holds, said):
@@ -71,6 +85,14 @@ def run(*words, status=0):
 
 
 verdicts = functools.partial(run, TOOL)
+
+
+def plainly(command, folder, *names):
+    """What the plain reading says of files."""
+    files = {str(folder / name): (folder / name).read_bytes() for name in names}
+    status, octets = plain.answer([command, *files], files)
+    want(status == 0, f"the plain reading ends {command} of {names} with status {status}")
+    return octets.decode()
 
 
 # The capture in other forms
@@ -145,6 +167,15 @@ def tables_of(report):
     return tables
 
 
+def in_decimal(text):
+    """The text of a rule as reports have it."""
+    return re.sub(r":([0-9a-f]{8})\b", lambda rate: f":{RATES[rate[1]]}/s", text)
+
+
+def listed(listing):
+    return "--list", listing, "--tape", DATA / "sessions.tape"
+
+
 def counts(folder):
     (folder / "listing").write_text(LISTING)
     expected = {
@@ -153,14 +184,16 @@ def counts(folder):
         "unread": rows_of([key for key in keys if " " not in key] for _, _, keys, _ in FRAMES),
         "second": rows_of([str(FIRST_SECOND + number)] for number in range(len(FRAMES))),
     }
-    texts = [line.split(" ", 1)[1] for line in LISTING.splitlines()]
+    texts = [in_decimal(line).split(" ", 1)[1] for line in LISTING.splitlines()]
     for name in FORMS:
-        tables = tables_of(verdicts(folder / name, folder / "lines", "--list", folder / "listing"))
+        tables = tables_of(verdicts(folder / name, folder / "lines", *listed(folder / "listing")))
         for title, rows in expected.items():
             told = {key: found[:2] for key, found in tables[title].items()}
             want(told == rows, f"{name}: the table of each {title} is {told} and not {rows}")
         words = [found[2] for _, found in sorted(tables["rule"].items())]
         want(words == texts, f"{name}: the rules have the words {words}")
+    told = verdicts(folder / "micros.pcap", folder / "lines", *listed(folder / "listing"), "--hex")
+    want("bytes 65001:1000000/s (49742400) control 2" in told, f"with --hex the rules are told so: {told}")
 
 
 def line_of(told):
@@ -174,14 +207,16 @@ def line_of(told):
         parts += [key, str(told[key])] if key in told else []
     parts += ["sample"] if told.get("sample") else []
     for unit in ("bytes", "packets"):
-        parts += itertools.chain.from_iterable((unit, rate) for rate in told.get(unit, []))
+        parts += itertools.chain.from_iterable((unit, rate) for rate in told.get(unit + "_hex", []))
     return " ".join(parts)
 
 
 def as_json(folder):
     for name in FORMS:
-        lines = verdicts(folder / name, folder / "lines", "--json").splitlines()
+        lines = verdicts(folder / name, folder / "lines", "--json", "--hex").splitlines()
         told = [json.loads(line, parse_float=str) for line in lines]
+        rates = [told[at].get("bytes", told[at].get("packets")) for at in (4, 8)]
+        want(rates == [[1000000], [100]], f"{name}: the rates are {rates}")
         want([line_of(packet) for packet in told] == LINES.splitlines(), f"{name}: lines of JSON say something else")
         for number, (packet, (length, _, _, ends)) in enumerate(zip(told, FRAMES)):
             time = f"{FIRST_SECOND + number}.{number * MICROS:06}000"
@@ -218,15 +253,43 @@ def joins(folder, program):
     cuts = [[whole[:place], whole[place:]] for place in (0, 1, 6, 11)] + [[[record] for record in whole]]
     lines = LINES.splitlines()
     for parts in cuts:
-        names, at = [], 0
+        names, captures, at = [], [], 0
         for number, part in enumerate(parts):
             names.append(folder / f"part-{number:02}.lines")
+            captures.append(cut(folder / f"part-{number:02}.pcap", part))
             texts = [line.split(" ", 1)[1] for line in lines[at:at + len(part)]]
             names[-1].write_text("".join(f"{place} {text}\n" for place, text in enumerate(texts, 1)))
             at += len(part)
             if program:
-                want(enforce(program, cut(folder / "part.pcap", part)) == names[-1].read_text(), "the lines of a part")
-        want(verdicts("--join", *names) == LINES, f"the lines of {len(parts)} parts aren't those of the whole")
+                want(enforce(program, captures[-1]) == names[-1].read_text(), "the lines of a part")
+        told = verdicts("--join", *(f"{name}={capture}" for name, capture in zip(names, captures)))
+        want(told == LINES, f"the lines of {len(parts)} parts aren't those of the whole")
+    counts_of_parts(folder, names, captures)
+
+
+def counts_of_parts(folder, names, captures):
+    """A part that has fewer lines is told by its name; and reports of parts add up to that of the whole."""
+    parts = [f"{name}=1" for name in names]
+    want(verdicts("--join", *parts) == LINES, "the lines of parts with counts aren't those of the whole")
+    for name, text in ("empty", ""), ("longer", names[3].read_text() + "2 pass\n"):
+        (folder / name).write_text(text)
+        told = verdicts("--join", *parts[:3], f"{folder / name}={captures[3]}", status=1)
+        want(f"{folder / name}: {len(text.splitlines())} lines, of 1 packets" in told, f"of a part it is said: {told}")
+    turned = [f"{name}={capture}" for name, capture in zip(names, captures)][::-1]
+    told = verdicts("--join", *turned, status=1)
+    want(f"{names[-2]}: it begins before" in told, f"of parts in another order it is said: {told}")
+    told = verdicts("--join", *names, status=2)
+    want("wants of each part" in told, f"of parts without captures it is said: {told}")
+    reports = []
+    for name, capture in zip(names, captures):
+        reports.append(folder / f"{name.stem}.report")
+        reports[-1].write_text(verdicts(capture, name))
+    whole = folder / "whole.report"
+    whole.write_text(verdicts(folder / "example.pcap", folder / "lines"))
+    want(verdicts("--sum", *reports) == whole.read_text(), "the sum of the parts' reports isn't the whole's")
+    (folder / "wrong").write_text(whole.read_text()[:200])
+    told = verdicts("--sum", *reports, folder / "wrong", status=1)
+    want("report" in told, f"of a report that isn't whole it is said: {told}")
 
 
 def cut(path, part):
@@ -258,11 +321,179 @@ def refuses(folder):
         found = verdicts(folder / "cut", folder / "lines", "--split", out, status=1)
         want("the capture is cut off" in found and not out.exists(), f"{name}: where it is cut off it is said: {found}")
     (folder / "listing").write_text(LISTING.replace("v6", "v4"))
-    found = verdicts(folder / "micros.pcap", folder / "lines", "--list", folder / "listing", "--split", out, status=1)
+    found = verdicts(folder / "micros.pcap", folder / "lines", *listed(folder / "listing"), "--split", out, status=1)
     want("has no rule v6 1" in found and not out.exists(), f"of a rule that isn't listed it is said: {found}")
     (folder / "wrong").write_text("".join(wrong["line 3 isn't a line of `enforce`"]))
-    found = verdicts("--join", folder / "lines", folder / "wrong", status=1)
+    found = verdicts("--join", f"{folder / 'lines'}=11", f"{folder / 'wrong'}=11", status=1)
     want(f"{folder / 'wrong'}: line 3 isn't" in found, f"of a part it is said: {found}")
+
+
+# Rules that change along a capture
+
+
+MIDDLE, SOME_RATE = bytes([10, 0, 0]), bytes.fromhex("c01008 8006fde949742400")
+DROPPED, SLOWED = (f"v4 dst 10.0.0.0/24 then bytes 65001:{rate}" for rate in RATES if rate != "42c80000")
+FIRST, LAST = (f"v4 dst {network}/24 then bytes 65001:00000000" for network in ("9.0.0.0", "10.0.1.0"))
+
+
+def changing(folder):
+    """A tape whose rules change at each tenth of a second, and a capture with a packet to two destinations between."""
+    other_rate = moments.rule_comes(0).replace(moments.DROP, SOME_RATE)
+    steps = [moments.rule_at(moments.before(0)), moments.message(4, b""), moments.rule_goes(0), other_rate,
+             moments.no_rule_at(moments.before(0)), moments.rule_comes(0)]
+    (folder / "peers").write_text(CONFIG)
+    parts = [moments.start(2), moments.record(2, 0, moments.route_comes(moments.BEFORE))]
+    parts += [moments.record(2, number * 10**8, step) for number, step in enumerate(steps, 1)]
+    (folder / "moving.tape").write_bytes(b"".join(parts))
+    octets = [packet(to + b"\x07", 80) for to in (MIDDLE, bytes([10, 0, 1]))]
+    with open(folder / "moving.pcap", "wb") as out:
+        out.write(struct.pack("<IHHIIII", 0xA1B2C3D4, 2, 4, 0, 0, 262144, 101))
+        for number in range(len(steps) + 1):
+            for one in octets:
+                out.write(struct.pack("<IIII", 0, number * 100000 + 50000, len(one), len(one)) + one)
+    (folder / "moving.changes").write_text(plainly("changes", folder, "peers", "moving.tape"))
+    (folder / "moving.lines").write_text(plainly("enforce", folder, "peers", "moving.tape", "moving.pcap"))
+
+
+def resolves(folder):
+    """Each packet counts for the rule that had its number then, and --at tells the listing at each moment."""
+    changing(folder)
+    files = [folder / "moving.pcap", folder / "moving.lines", "--changes", folder / "moving.changes"]
+    rows = [row.split(maxsplit=3) for row in verdicts(*files).split("\n\n")[2].splitlines()[1:]]
+    told = [(f"{family} {text}", int(packets), int(octets)) for family, packets, octets, text in rows]
+    due = [(in_decimal(text), packets, 40 * packets) for text, packets in ((LAST, 7), (DROPPED, 4), (SLOWED, 2))]
+    want(told == due, f"along a capture whose rules change they are counted as {told}")
+    texts = [json.loads(line)["texts"] for line in verdicts(*files, "--json").splitlines()]
+    middle = [[DROPPED]] * 3 + [[]] + [[SLOWED]] * 2 + [[DROPPED]]
+    want(texts[::2] == middle and texts[1::2] == [[LAST]] * 7, f"lines of JSON have the rules {texts}")
+    first = [], [FIRST]
+    lists = [([], [DROPPED, LAST]), (first[1], [DROPPED, LAST]), (first[1], [DROPPED, LAST]), (first[1], [LAST]),
+             (first[1], [SLOWED, LAST]), ([], [SLOWED, LAST]), ([], [DROPPED, LAST])]
+    for number, (before, rest) in enumerate(lists):
+        for moment in (str(number * 10**8), f"0.{number}", str(number * 10**8 + 99999999)):
+            told = verdicts("--at", moment, folder / "moving.changes").splitlines()
+            want(told == before + rest, f"at {moment} the listing is {told}")
+
+
+def refuses_changes(folder):
+    """A listing beside a tape that goes on, and files of changes that aren't of such a tape."""
+    capture, lines = folder / "moving.pcap", folder / "moving.lines"
+    (folder / "listing").write_text(plainly("list", folder, "peers", "moving.tape"))
+    told = verdicts(capture, lines, "--list", folder / "listing", "--tape", folder / "moving.tape", status=1)
+    want("goes on after the first packet" in told, f"of a listing along which rules change it is said: {told}")
+    told = verdicts(capture, lines, "--list", folder / "listing", status=2)
+    want("--list and --tape go together" in told, f"of a listing without its tape it is said: {told}")
+    text = (folder / "moving.changes").read_text()
+    wrong = {"line 1 isn't a line of": "x" + text, "line 2 isn't a line of": f"5 + 1 {DROPPED}\n" + text,
+             "line 2 doesn't go with": text.replace("0 + 2", "0 + 3"), "has no rule v4 2": text[:text.index("0 + 2")],
+             "tells a fault of the tape": text + "tape Cut at 7\n",
+             "doesn't go with those before it": text.replace("- 2", "- 1", 1)}
+    for said, changes in wrong.items():
+        (folder / "wrong").write_text(changes)
+        told = verdicts(capture, lines, "--changes", folder / "wrong", "--split", folder / "none", status=1)
+        want(said in told and not (folder / "none").exists(), f"where changes are wrong ({said}) it is said: {told}")
+
+
+# Lines that don't wait
+
+
+def has_command(program, command, folder):
+    (folder / "empty.tape").write_bytes(b"FSTAPE1\n")
+    words = [folder / "peers", folder / "empty.tape"] + [folder / "micros.pcap"] * (command == "enforce")
+    return subprocess.run([program, command, *words], capture_output=True, check=False).returncode != 2
+
+
+def read_until(stream, octets, count):
+    """Reads on until so many octets are there, but no longer than patience lasts."""
+    end = time.monotonic() + PATIENCE
+    while len(octets) < count and select.select([stream], [], [], max(0, end - time.monotonic()))[0]:
+        more = os.read(stream.fileno(), 1 << 16)
+        if not more:
+            break
+        octets += more
+    return octets
+
+
+def streams(folder, command, program, words, pieces, due):
+    """Writes the pieces to the FIFO that a command reads, each in two halves; after each so many octets are due."""
+    fifo, octets = folder / "fifo", bytearray()
+    os.mkfifo(fifo)
+    with subprocess.Popen([program, command, *words, fifo], stdout=subprocess.PIPE) as running:
+        with open(os.open(fifo, os.O_RDWR), "wb", buffering=0) as out:  # so that it waits for nobody who reads
+            for number, (piece, count) in enumerate(zip(pieces, due), 1):
+                for half in (piece[:len(piece) // 2], piece[len(piece) // 2:]):
+                    out.write(half)
+                read_until(running.stdout, octets, count)
+                if len(octets) < count:
+                    running.kill()
+                want(len(octets) >= count, f"{command}: after piece {number} {len(octets)} octets are there of {count}")
+        octets += running.stdout.read()
+    fifo.unlink()
+    want(running.returncode == 0, f"{command} of a FIFO ended with status {running.returncode}")
+    return bytes(octets)
+
+
+def changes_stream(folder, program):
+    tape = (folder / "moving.tape").read_bytes()
+    ends = [8]
+    while ends[-1] < len(tape):
+        ends.append(ends[-1] + 15 + int.from_bytes(tape[ends[-1] + 11:ends[-1] + 15], "big"))
+    due = []
+    for end in ends:
+        (folder / "front").write_bytes(tape[:end])
+        due.append(len(plainly("changes", folder, "peers", "front")))
+    pieces = [tape[begin:end] for begin, end in zip([0, *ends], ends)]
+    told = streams(folder, "changes", program, [folder / "peers"], pieces, due)
+    want(told == (folder / "moving.changes").read_bytes(), "changes of a FIFO writes something else than of a file")
+
+
+def blocks_of(octets):
+    """The blocks of a pcapng file in the least order of octets."""
+    at = 0
+    while at < len(octets):
+        size = int.from_bytes(octets[at + 4:at + 8], "little")
+        yield octets[at:at + size]
+        at += size
+
+
+def enforce_stream(folder, program):
+    """Of each packet its line; blocks that are no packets come between."""
+    blocks = list(blocks_of(FORMS["blocks.pcapng"]))
+    frames = [struct.pack("<IIII", *times, len(octets), length) + octets for *times, octets, length in records()]
+    lines = [0, *itertools.accumulate(len(line.encode()) for line in LINES.splitlines(keepends=True))]
+    for pieces, first in ([CAPTURE[:24], *frames], 1), (blocks, [one[0] for one in blocks].index(6)):
+        due = [lines[max(0, number + 1 - first)] for number in range(len(pieces))]
+        told = streams(folder, "enforce", program, [DATA / "peers.toml", DATA / "sessions.tape"], pieces, due)
+        want(told == LINES.encode(), "enforce of a FIFO writes something else than of a file")
+
+
+def convert_stream(folder, program):
+    """Of each record what `convert` writes of the dump up to it; records of no peer come between."""
+    up, down = (struct.pack(">HH", *states) for states in ((5, 6), (6, 1)))
+    dumped = [(4, 1, convert.update(0)), (4, 9, convert.update(1)), (5, 2, up), (4, 2, convert.update(2)), (5, 9, down),
+              (4, 1, convert.update(3)), (5, 1, down), (4, 3, convert.update(4))]
+    pieces = [convert.mrt(1700000000 + number, *record) for number, record in enumerate(dumped)]
+    (folder / "dumped").write_text(convert.CONFIG)
+    due, whole = [], ""
+    for number in range(len(pieces)):
+        (folder / "dump").write_bytes(b"".join(pieces[:number + 1]))
+        words = [program, "convert", folder / "dumped", folder / "dump"]
+        whole = subprocess.run(words, stdout=subprocess.PIPE, check=True).stdout
+        due.append(len(whole))
+    told = streams(folder, "convert", program, [folder / "dumped"], pieces, due)
+    want(told == whole, "convert of a FIFO writes something else than of a file")
+
+
+def dont_wait(folder, program, commands):
+    trials = {"changes": changes_stream, "enforce": enforce_stream, "convert": convert_stream}
+    for command in commands:
+        if has_command(program, command, folder):
+            trials[command](folder, program)
+        else:
+            print(f"skipped, since the program has no such command: {command}")
+
+
+# What else is around it
 
 
 def picture(folder):
@@ -272,22 +503,62 @@ def picture(folder):
     want(all(name in text for name in VERDICTS), "the picture lacks a verdict")
 
 
+PAGES = ("welgutan", "welgutan-nft", "welgutan-verdicts")
+# Of a page that isn't installed, and of one that tells its version, mandoc has these to say.
+UNMINDED = ("referenced manual not found", "operating system explicitly specified")
+
+
 def manual(folder):
-    run(ROOT / "tools" / "man.py", folder / "welgutan.1")
-    told = run("mandoc", "-T", "lint", folder / "welgutan.1")
-    want(told == "", f"mandoc finds: {told}")
+    (folder / "pages").mkdir()
+    run(ROOT / "tools" / "man.py", folder / "pages")
+    want(sorted(page.stem for page in (folder / "pages").iterdir()) == list(PAGES), "other pages were made")
+    for name in PAGES:
+        page = folder / "pages" / f"{name}.1"
+        done = subprocess.run(["mandoc", "-T", "lint", page], capture_output=True, text=True, check=False)
+        told = [line for line in done.stdout.splitlines() if not any(words in line for words in UNMINDED)]
+        want(told == [], f"mandoc finds: {told}")
+        shown = run("mandoc", "-T", "utf8", page)
+        want("tools/" not in shown, f"the page of {name} names a tool by its source")
+
+
+def make(folder, target, program):
+    words = ["make", "-s", "-C", ROOT, target, f"DESTDIR={folder}/dest", "PREFIX=/usr", f"PROGRAM={program}"]
+    return subprocess.run([str(word) for word in words], capture_output=True, text=True, check=False)
+
+
+def files_below(folder):
+    return sorted(str(path.relative_to(folder)) for path in folder.rglob("*") if not path.is_dir() or path.is_symlink())
+
+
+def installed_names():
+    """What `make install` puts below its PREFIX."""
+    tools = ["captures.py", "nft.py", "verdicts.py"]
+    tools += [f"welgutan/{path.name}" for path in (ROOT / "tools" / "welgutan").glob("*.py")]
+    docs = ["README.md", "CHANGELOG.md", "SECURITY.md"]
+    docs += [f"docs/{path.name}" for path in (ROOT / "docs").iterdir() if path.suffix in (".md", ".svg")]
+    return sorted([f"bin/{name}" for name in PAGES] + [f"share/man/man1/{name}.1" for name in PAGES]
+                  + [f"share/welgutan/tools/{name}" for name in tools] + ["share/welgutan/units/welgutan.service"]
+                  + [f"share/doc/welgutan/{name}" for name in docs])
 
 
 def install(folder):
-    (folder / "program").write_text("#!/bin/sh\n")
-    run("make", "-s", "-C", ROOT, "install", f"DESTDIR={folder}/dest", "PREFIX=/usr", f"PROGRAM={folder}/program")
-    names = ["bin/welgutan", "bin/welgutan-nft", "bin/welgutan-verdicts", "share/man/man1/welgutan.1"]
-    names += ["share/welgutan/tools/nft.py"] + [f"share/welgutan/bench/{path.name}" for path in ROOT.glob("bench/plain*.py")]
-    dest = folder / "dest" / "usr"
-    found = sorted(str(path.relative_to(dest)) for path in dest.rglob("*") if path.is_file())
-    want(found == sorted(names), f"make install left {found}")
-    done = subprocess.run([dest / "bin" / "welgutan-nft", "eth0"], input="peer 1 down\n", capture_output=True, text=True, check=False)
+    program, dest = folder / "program", folder / "dest" / "usr"
+    done = make(folder, "install", program)
+    want(done.returncode and "run make first" in done.stderr.splitlines()[0] and not dest.exists(),
+         f"make install without a program leaves {files_below(folder / 'dest')} and says {done.stderr}")
+    program.write_text("#!/bin/sh\n")
+    program.chmod(0o755)
+    done = make(folder, "install", program)
+    want(done.returncode == 0, f"make install ends with {done.returncode}: {done.stderr}")
+    found = files_below(dest)
+    want(found == installed_names(), f"make install left {found}")
+    (folder / "none").write_bytes(b"")
+    want(run(dest / "bin" / "welgutan-verdicts", "--at", "0", folder / "none") == "", "the installed welgutan-verdicts")
+    words = [dest / "bin" / "welgutan-nft", "eth0"]
+    done = subprocess.run(words, input="peer 1 down\n", capture_output=True, text=True, check=False)
     want("table netdev welgutan" in done.stdout, f"the installed welgutan-nft says {done.stderr}")
+    make(folder, "uninstall", program)
+    want(files_below(dest) == [], f"make uninstall leaves {files_below(dest)}")
 
 
 def judges_many(folder, program):
@@ -303,19 +574,24 @@ def judges_many(folder, program):
 
 def main():
     built = ROOT / "crates" / "welgutan" / "out" / "welgutan"
-    program = pathlib.Path(sys.argv[1]).resolve() if len(sys.argv) > 1 else built if built.exists() else None
+    parser = argparse.ArgumentParser(description=__doc__, formatter_class=argparse.RawDescriptionHelpFormatter)
+    parser.add_argument("program", type=pathlib.Path, nargs="?", default=built if built.exists() else None)
+    parser.add_argument("--flushes", type=lambda text: text.split(","), default=FLUSHES)
+    options = parser.parse_args()
+    program = options.program and options.program.resolve()
     with tempfile.TemporaryDirectory() as name:
         folder = pathlib.Path(name)
         (folder / "lines").write_text(LINES)
+        (folder / "example.pcap").write_bytes(CAPTURE)
         for form, octets in FORMS.items():
             (folder / form).write_bytes(octets)
-        counts(folder)
-        as_json(folder)
+        for trial in counts, as_json, refuses, resolves, refuses_changes:
+            trial(folder)
         splits(folder, program)
         joins(folder, program)
-        refuses(folder)
         if program:
             judges_many(folder, program)
+            dont_wait(folder, program, options.flushes)
         for tool, trial in (("gnuplot", picture), ("mandoc", manual), ("make", install)):
             if shutil.which(tool):
                 trial(folder)

@@ -25,6 +25,8 @@ PROGRAMS = ["try_calls"]
 RUNS = ["welgutan", "try_runs"]
 # of what is implemented for a type, the calls of these traits are listed
 TRAITS = "Speaker", "Files", "Sink", "Wire", "Clock", "Ord"
+# how documents write a number of calls
+NUMBERS = "no", "one", "two", "three", "four", "five", "six", "seven", "eight", "nine", "ten"
 # methods that types of the standard library have too
 COMMON = "as_slice", "begin", "copy", "is_empty", "len", "new", "next", "of", "push", "read", "remove", "take"
 
@@ -470,11 +472,22 @@ def answers(ensured):
     ]
 
 
+def look_ups():
+    """The calls by which `Unicast` gives a path or a route; PROMISES has to name each, and how many they are."""
+    calls = [found["name"] for found in functions(read("crates", "fs_unicast", "src", "unicast.rt"))
+             if found["owner"] == "Unicast" and found["public"] and found["answer"] & {"Path", "SharedPath", "Held"}]
+    said = re.search(r"`Unicast` gives a path or a route by (\w+) calls([^;]*);", read("docs", "PROMISES.md"))
+    names = re.findall(r"`(\w+)`", said.group(2)) if said else []
+    if said is None or said.group(1) != NUMBERS[len(calls)] or sorted(names) != sorted(calls):
+        sys.exit(f"docs/PROMISES.md: `Unicast` gives a path or a route by {len(calls)} calls: {', '.join(calls)}")
+
+
 ALIASES = aliases()
 RECORDS = records()
 
 
 def main():
+    look_ups()
     print(tables())
 
 

@@ -1,12 +1,15 @@
 #!/usr/bin/env python3
-"""Makes the manual page of the program out of docs/FORMATS.md, so that the two can't differ.
+"""Makes the manual pages out of docs/FORMATS.md and of what the tools say of themselves, so that these can't differ.
 
-    tools/man.py [PAGE]
+    tools/man.py [FOLDER]
 
-It is written to PAGE, or else to standard output, in the language of mandoc (mdoc), with tables as tbl takes them.
-Sections of FORMATS whose heading is in capitals are files; what isn't commands, files, sizes or statuses is output.
+The pages of `welgutan`, `welgutan-nft` and `welgutan-verdicts` are written into FOLDER; without it that of `welgutan`
+goes to standard output. They are in the language of mandoc (mdoc), with tables as tbl takes them. Sections of FORMATS
+whose heading is in capitals are files; what isn't commands, files, sizes, statuses or a tool's is output. The version
+is the newest one of CHANGELOG.md.
 """
 
+import ast
 import itertools
 import os
 import pathlib
@@ -15,17 +18,25 @@ import sys
 import textwrap
 import time
 
-FORMATS = pathlib.Path(__file__).resolve().parent.parent / "docs" / "FORMATS.md"
+ROOT = pathlib.Path(__file__).resolve().parent.parent
+FORMATS, CHANGELOG = ROOT / "docs" / "FORMATS.md", ROOT / "CHANGELOG.md"
+VERDICTS = ROOT / "tools" / "verdicts.py"
 
 # The line by which tbl is called stands first.
 HEAD = """'\\" t
 .Dd {date}
-.Dt WELGUTAN 1
-.Os
+.Dt {title} 1
+.Os "welgutan {version}"
 .Sh NAME
-.Nm welgutan
-.Nd which BGP flow specification rules are admitted, and what they do to packets
+.Nm {name}
+.Nd {purpose}
 """
+PURPOSES = {
+    "welgutan": "which BGP flow specification rules are admitted, and what they do to packets",
+    "welgutan-nft": "lets admitted flow specification rules act in Linux",
+    "welgutan-verdicts": "tables, pictures and JSON of what welgutan said of a capture",
+}
+OF_NFT = "What `tools/nft.py` makes of the listing"
 STANDARDS = "RFC 8955, RFC 8956 and RFC 9117, with RFC 4271, RFC 4486, RFC 6396 and RFC 7606."
 ESCAPES = str.maketrans({"\\": "\\e", "~": "\\(ti", "^": "\\(ha", "'": "\\(aq", "`": "\\(ga", "-": "\\-"})
 SENTENCE_END = re.compile(r"(?<=[^.][.!?:])\s+|(?<=[.!?]\))\s+")
@@ -125,17 +136,64 @@ def subsections(found):
         yield from without_first_break(body(lines))
 
 
-def page(text):
+def head(name):
+    version = re.search(r"^## (\d+\.\d+\.\d+)$", CHANGELOG.read_text(), re.M)[1]
+    return HEAD.format(date=day(), title=name.upper(), version=version, name=name, purpose=PURPOSES[name])
+
+
+def see_also(name):
+    others = [other for other in PURPOSES if other != name]
+    return [".Sh SEE ALSO", *(f".Xr {other} 1 ," for other in others[:-1]), f".Xr {others[-1]} 1"]
+
+
+def whole(name, lines):
+    return head(name) + "\n".join([*lines, *see_also(name), ".Sh STANDARDS", *filled(STANDARDS)]) + "\n"
+
+
+def program_page(text):
     found = sections(text)
     commands = found.pop("The commands")
     statuses, sizes = found.pop("Statuses"), found.pop("Sizes")
+    del found[OF_NFT]
     files = {heading: found.pop(heading) for heading in list(found) if heading.isupper()}
     forms = [line for line in commands if kind_of(line) == "example"]
     rest = [line for line in commands if kind_of(line) != "example"]
     lines = [".Sh SYNOPSIS", *synopsis(forms), ".Sh DESCRIPTION", *without_first_break(body(rest))]
     lines += [".Sh OUTPUT", *subsections(found), ".Sh LIMITS", *without_first_break(body(sizes))]
     lines += [".Sh FILES", *subsections(files), ".Sh EXIT STATUS", *without_first_break(body(statuses))]
-    return HEAD.format(date=day()) + "\n".join([*lines, ".Sh STANDARDS", *filled(STANDARDS)]) + "\n"
+    return whole("welgutan", lines)
+
+
+def forms_of(lines):
+    """The lines that show how a tool is called, under the tool's installed name, and the other lines."""
+    calls = [line for line in lines if re.match(r"    tools/\w+\.py ", line)]
+    return ["    " + call.split(maxsplit=1)[1] for call in calls], [line for line in lines if line not in calls]
+
+
+def tool_synopsis(forms):
+    return list(itertools.chain.from_iterable((".Nm", guarded(form.strip().translate(ESCAPES))) for form in forms))
+
+
+def nft_page(text):
+    forms, rest = forms_of(sections(text)[OF_NFT])
+    rest = [line.replace("tools/nft.py", "welgutan-nft") for line in rest]
+    return whole("welgutan-nft", [".Sh SYNOPSIS", *tool_synopsis(forms), ".Sh DESCRIPTION",
+                                  *without_first_break(body(rest))])
+
+
+def paragraphs(text):
+    """A text without its line breaks but in examples, its options as code."""
+    for block in text.strip("\n").split("\n\n"):
+        if kind_of(block) == "example":
+            yield from block.split("\n")
+        else:
+            yield re.sub(r"(?<![\w`-])(--[a-z]+)", r"`\1`", " ".join(block.split("\n")))
+
+
+def verdicts_page():
+    forms, rest = forms_of(list(paragraphs(ast.get_docstring(ast.parse(VERDICTS.read_text())))))
+    return whole("welgutan-verdicts", [".Sh SYNOPSIS", *tool_synopsis(forms), ".Sh DESCRIPTION",
+                                       *without_first_break(body(rest))])
 
 
 def day():
@@ -145,11 +203,13 @@ def day():
 
 
 def main():
-    text = page(FORMATS.read_text())
-    if len(sys.argv) == 2:
-        pathlib.Path(sys.argv[1]).write_text(text)
-    else:
-        sys.stdout.write(text)
+    text = FORMATS.read_text()
+    if len(sys.argv) != 2:
+        sys.stdout.write(program_page(text))
+        return
+    pages = {"welgutan": program_page(text), "welgutan-nft": nft_page(text), "welgutan-verdicts": verdicts_page()}
+    for name, page in pages.items():
+        (pathlib.Path(sys.argv[1]) / f"{name}.1").write_text(page)
 
 
 if __name__ == "__main__":
