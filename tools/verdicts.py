@@ -643,6 +643,13 @@ ROW = re.compile(r"(.{12}) +(\d{1,20}) +(\d{1,20})(?:  (.*))?\n")
 TITLES = ("verdict", "rule", "unread", "second")
 
 
+def is_row_of(title, key, words):
+    """Whether a table has such a row: that of a verdict names one, and that of a second ends with one."""
+    if title == "second":
+        return key.isdecimal() and words in VERDICTS
+    return title != "verdict" or key in VERDICTS
+
+
 def read_report(path, tables):
     """Adds the rows of a report to the tables: packets and octets by a key and its words."""
     title, told = None, 0
@@ -650,7 +657,7 @@ def read_report(path, tables):
         for number, line in lines_in(file):
             text = line.decode(errors="replace")
             row = ROW.fullmatch(text)
-            if row and title:
+            if row and title and is_row_of(title, row[1].rstrip(), row[4]):
                 tables[title].add((row[1].rstrip(), row[4] or ""), int(row[2]), int(row[3]))
             elif text.split()[1:] == ["packets", "octets"] and text.split()[0] in TITLES:
                 title, told = text.split()[0], told + 1
