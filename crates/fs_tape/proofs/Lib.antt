@@ -4,3 +4,4 @@ pub mod Heads
 pub mod Items
 pub mod Rising
 pub mod ReadsBack
+pub mod Fronts

@@ -4,11 +4,11 @@ use Rattle.fs_input.specs.declared.head.Head.{Head}
 
 -- the magic of a version is that of no other
 
-magic_size : (version : Version) (body : List ℕ) → length (magic_of version ++ body) ≡ 8 + length body
+pub magic_size : (version : Version) (body : List ℕ) → length (magic_of version ++ body) ≡ 8 + length body
 magic_size One body = omega arith
 magic_size Two body = omega arith
 
-behind_magic : (version : Version) (body : List ℕ) → drop 8 (magic_of version ++ body) ≡ body
+pub behind_magic : (version : Version) (body : List ℕ) → drop 8 (magic_of version ++ body) ≡ body
 behind_magic One body = refl
 behind_magic Two body = refl
 
@@ -17,7 +17,7 @@ magic_read : (limit : Bool) (version : Version) (body : List ℕ)
 magic_read limit One body = refl
 magic_read limit Two body = refl
 
-magic_opens : (limit : ℕ) (version : Version) (body : List ℕ) → length (magic_of version ++ body) < limit
+pub magic_opens : (limit : ℕ) (version : Version) (body : List ℕ) → length (magic_of version ++ body) < limit
     → version_of limit (magic_of version ++ body) ≡ Ok version
 magic_opens limit version body small =
     let content = magic_of version ++ body in
@@ -25,14 +25,14 @@ magic_opens limit version body small =
     (all_taken limit content (omega (arith, small)))
     ∙ magic_read (nat_le limit (length content)) version body
 
-abbrev behind_opening : Config → ℕ → List ℕ → Result Version (End TapeReason) → List Timed × End TapeReason
+abbrev pub behind_opening : Config → ℕ → List ℕ → Result Version (End TapeReason) → List Timed × End TapeReason
 behind_opening config limit body opened =
     elim opened as (λ _. List Timed × End TapeReason) [
       | Ok version ↦ items_to_come config version limit 8 0 body
       | Err end ↦ ([], end)
     ]
 
-abbrev text_at : Stands → Timed → List ℕ
+abbrev pub text_at : Stands → Timed → List ℕ
 text_at now timed = item_text now.version timed
 
 text_read : (config : Config) (limit : ℕ) (version : Version) (content : List ℕ) (items : List Timed)

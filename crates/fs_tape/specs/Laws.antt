@@ -1,9 +1,9 @@
 -- A tape is done exactly where it is the text of its items in one of the versions, and moments don't fall.
-use Rattle.std.specs.{Prelude.{ℕ, List, [], ◌∷◌, ◌++◌, IsSome, ◌≡◌, ◌↔◌, ◌<◌, ◌≤◌, ◌^◌, length, flat_map}, List.{AllByRecursion}}
+use Rattle.std.specs.{Prelude.{ℕ, List, [], ◌∷◌, ◌++◌, IsSome, ◌≡◌, ◌↔◌, ◌⊎◌, ◌<◌, ◌≤◌, ◌^◌, length, flat_map}, List.{AllByRecursion}}
 use Rattle.byteorder.specs.Endian.{big_bytes}
 use Rattle.fs_base.specs.{Language.{IsOctets}, Config.{peer_of}, declared.config.Config.{Config}}
-use Rattle.fs_input.specs.{Parts.{AllFrom}, Records.{done}}
-use Rattle.fs_tape.specs.{Header.{IsTimed, Stands, longest_payload}, Magic.{magic_of}, Tape.{Item, Timed, came_up, items_to_come, received, stands, tape_of, was_lost}, declared.magic.Version.{Version, TheVariants.{One, Two}}}
+use Rattle.fs_input.specs.{Parts.{AllFrom}, Records.{End, bad, done}}
+use Rattle.fs_tape.specs.{Header.{IsTimed, Stands, longest_payload}, Magic.{magic_of}, Tape.{Item, Timed, came_up, items_to_come, received, stands, tape_of, was_lost}, declared.{fault.TapeReason.{TapeReason, TheVariants.{Cut}}, magic.Version.{Version, TheVariants.{One, Two}}}}
 
 abbrev pub moment_text : Version → ℕ → List ℕ
 moment_text One moment = []
@@ -62,3 +62,15 @@ AreFrom least items = AllByRecursion (λ (timed : Timed). least ≤ timed.moment
 abbrev pub MomentsRise : Type 0
 MomentsRise =
     (config : Config) (limit taken moment : ℕ) (left : List ℕ) → AreFrom moment (items_to_come config Two limit taken moment left).0
+
+-- Of a front of so many octets these are the first items, and it is done behind them, or cut where it ends.
+pub record IsFrontOf (items : List Timed) (size : ℕ) (told : List Timed × End TapeReason) : Type 0 where
+  pub later : List Timed
+  pub items_are : items ≡ told.0 ++ later
+  pub end_is : (told.1 ≡ done) ⊎ (told.1 ≡ bad Cut size)
+
+abbrev pub FrontReads : Type 0
+FrontReads =
+    (config : Config) (limit : ℕ) (content front rest : List ℕ) (items : List Timed) → IsOctets content
+    → tape_of config limit content ≡ (items, done) → front ++ rest ≡ content
+    → IsFrontOf items (length front) (tape_of config limit front)

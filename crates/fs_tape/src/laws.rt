@@ -1,6 +1,6 @@
 //! Laws of the definitions.
 
-ghost use Rattle.fs_tape.specs.Laws.{MomentsRise, ReadsBack};
+ghost use Rattle.fs_tape.specs.Laws.{FrontReads, MomentsRise, ReadsBack};
 
 /// A tape gives these items and is done exactly where its octets are their text in one of the versions and lie below
 /// the limit: each of a peer that is configured, with a payload of at most 65536 octets, and with a moment that doesn't
@@ -12,4 +12,9 @@ pub fn reads_back()
 /// The items that a tape of the second version is still to give have moments that don't lie below the last one.
 pub fn moments_rise()
     ensures { MomentsRise }
+{}
+
+/// A front of a tape that is done gives a front of its items, and ends done, or cut at its length.
+pub fn front_reads()
+    ensures { FrontReads }
 {}

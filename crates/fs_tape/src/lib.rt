@@ -11,6 +11,6 @@ mod tape;
 pub use fault::{TapeFault, TapeReason};
 pub use header::LONGEST_PAYLOAD;
 pub use item::TapeItem;
-pub use laws::{moments_rise, reads_back};
+pub use laws::{front_reads, moments_rise, reads_back};
 pub use magic::Version;
 pub use tape::Tape;
