@@ -1,5 +1,5 @@
 #!/usr/bin/env python3
-"""Makes the table of crates in docs/DESIGN.md out of crates.txt and the first sentence of each crate's documentation.
+"""Makes the table of crates in docs/DESIGN.md out of crates.txt and how each crate's documentation begins.
 
     tools/layers.py [--check]
 
@@ -13,15 +13,19 @@ import sys
 
 ROOT = pathlib.Path(__file__).resolve().parent.parent
 DESIGN = ROOT / "docs" / "DESIGN.md"
+FEWEST_WORDS = 5
 BEGIN, END = "<!-- made by tools/layers.py -->\n", "<!-- end -->\n"
 
 
 def sentence_of(crate):
-    """The first sentence of the crate's documentation."""
+    """The first sentence of the crate's documentation, up to a semicolon, and to a colon after enough words."""
     source = ROOT / "crates" / crate / "src"
     root = source / "lib.rt" if (source / "lib.rt").exists() else source / "main.rt"
     told = " ".join(re.findall(r"^//! ?(.*)$", root.read_text().split("\n\n")[0], re.M))
-    return re.split(r"(?<=[^.]\.)\s", told + " ")[0].strip()
+    sentence = re.split(r"(?<=[^.]\.)\s", told + " ")[0].strip()
+    clause = sentence.split("; ")[0].rstrip(".")
+    front = clause.split(": ")[0]
+    return front if len(front.split()) >= FEWEST_WORDS else clause
 
 
 def table():
