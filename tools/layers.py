@@ -4,7 +4,7 @@
     tools/layers.py [--check]
 
 It writes the table into DESIGN, between the lines that name this script; with --check it writes nothing, and ends with 1
-where the table there is another. A crate's height is the length of the longest chain of crates below it.
+where the table there is another.
 """
 
 import pathlib
@@ -13,31 +13,27 @@ import sys
 
 ROOT = pathlib.Path(__file__).resolve().parent.parent
 DESIGN = ROOT / "docs" / "DESIGN.md"
-FEWEST_WORDS = 5
 BEGIN, END = "<!-- made by tools/layers.py -->\n", "<!-- end -->\n"
 
 
-def sentence_of(crate):
-    """The first sentence of the crate's documentation, up to a semicolon, and to a colon after enough words."""
+def subject_of(crate):
+    """How the crate's documentation begins, up to a colon or a semicolon, without what stands in brackets."""
     source = ROOT / "crates" / crate / "src"
     root = source / "lib.rt" if (source / "lib.rt").exists() else source / "main.rt"
     told = " ".join(re.findall(r"^//! ?(.*)$", root.read_text().split("\n\n")[0], re.M))
-    sentence = re.split(r"(?<=[^.]\.)\s", told + " ")[0].strip()
-    clause = sentence.split("; ")[0].rstrip(".")
-    front = clause.split(": ")[0]
-    return front if len(front.split()) >= FEWEST_WORDS else clause
+    sentence = re.split(r"(?<=[^.]\.)\s", told + " ")[0]
+    return re.sub(r" \([^)]*\)", "", re.split(r"[:;] ", sentence)[0]).strip().rstrip(".")
 
 
 def table():
-    heights, rows = {}, ["| crate | height | |", "|---|---|---|"]
+    rows = ["| crate | |", "|---|---|"]
     for line in (ROOT / "crates.txt").read_text().split("\n"):
         if line.startswith("#") and "NAME:" not in line:
-            rows.append(f"| *{line[1:].strip()}* | | |")
+            group = re.sub(r": [^;]*", "", line[1:]).strip()
+            rows.append(f"| *{group}* | |")
         elif ":" in line and not line.startswith("#"):
-            crate, below = line.split(":")
-            crate = crate.split()[0]
-            heights[crate] = max((heights[name] + 1 for name in below.split() if name in heights), default=0)
-            rows.append(f"| `{crate}` | {heights[crate]} | {sentence_of(crate)} |")
+            crate = line.split(":")[0].split()[0]
+            rows.append(f"| `{crate}` | {subject_of(crate)} |")
     return "\n".join(rows) + "\n"
 
 
