@@ -1,14 +1,13 @@
 #!/usr/bin/env python3
-"""Makes the table of crates in docs/DESIGN.md out of crates.txt and how each crate's documentation begins.
+"""Makes the table of crates in docs/DESIGN.md out of crates.txt.
 
     tools/layers.py [--check]
 
-It writes the table into DESIGN, between the lines that name this script; with --check it writes nothing, and ends with 1
-where the table there is another.
+It writes the table into DESIGN, between the lines that name this script: a row for each comment of crates.txt, with the
+crates below it. With --check it writes nothing, and ends with 1 where the table there is another.
 """
 
 import pathlib
-import re
 import sys
 
 ROOT = pathlib.Path(__file__).resolve().parent.parent
@@ -16,25 +15,20 @@ DESIGN = ROOT / "docs" / "DESIGN.md"
 BEGIN, END = "<!-- made by tools/layers.py -->\n", "<!-- end -->\n"
 
 
-def subject_of(crate):
-    """How the crate's documentation begins, up to a colon or a semicolon, without what stands in brackets."""
-    source = ROOT / "crates" / crate / "src"
-    root = source / "lib.rt" if (source / "lib.rt").exists() else source / "main.rt"
-    told = " ".join(re.findall(r"^//! ?(.*)$", root.read_text().split("\n\n")[0], re.M))
-    sentence = re.split(r"(?<=[^.]\.)\s", told + " ")[0]
-    return re.sub(r" \([^)]*\)", "", re.split(r"[:;] ", sentence)[0]).strip().rstrip(".")
+def groups():
+    """The comments of crates.txt, each with the crates that follow it."""
+    found = []
+    for line in (ROOT / "crates.txt").read_text().split("\n"):
+        if line.startswith("#") and "NAME:" not in line:
+            found.append((line[1:].strip(), []))
+        elif ":" in line and not line.startswith("#"):
+            found[-1][1].append(line.split(":")[0].split()[0])
+    return found
 
 
 def table():
-    rows = ["| crate | |", "|---|---|"]
-    for line in (ROOT / "crates.txt").read_text().split("\n"):
-        if line.startswith("#") and "NAME:" not in line:
-            group = re.sub(r": [^;]*", "", line[1:]).strip()
-            rows.append(f"| *{group}* | |")
-        elif ":" in line and not line.startswith("#"):
-            crate = line.split(":")[0].split()[0]
-            rows.append(f"| `{crate}` | {subject_of(crate)} |")
-    return "\n".join(rows) + "\n"
+    rows = [f"| {subject} | {', '.join(f'`{crate}`' for crate in crates)} |" for subject, crates in groups()]
+    return "\n".join(["| | crates |", "|---|---|", *rows]) + "\n"
 
 
 def main(words):
