@@ -18,6 +18,8 @@ import sys
 import textwrap
 import time
 
+from welgutan.command import parser_of
+
 ROOT = pathlib.Path(__file__).resolve().parent.parent
 FORMATS, CHANGELOG = ROOT / "docs" / "FORMATS.md", ROOT / "CHANGELOG.md"
 VERDICTS = ROOT / "tools" / "verdicts.py"
@@ -174,11 +176,21 @@ def tool_synopsis(forms):
     return list(itertools.chain.from_iterable((".Nm", guarded(form.strip().translate(ESCAPES))) for form in forms))
 
 
+def options_of_nft():
+    """What the tool says of its options, as a table."""
+    rows = ["| | |", "|---|---|"]
+    for action in parser_of("")._actions:
+        if action.option_strings and action.dest != "help":
+            value = action.metavar or ",".join(action.choices or ())
+            rows.append(f"| `{' '.join([*action.option_strings, value]).strip()}` | {action.help} |")
+    return without_first_break(table(rows))
+
+
 def nft_page(text):
     forms, rest = forms_of(sections(text)[OF_NFT])
     rest = [line.replace("tools/nft.py", "welgutan-nft") for line in rest]
     return whole("welgutan-nft", [".Sh SYNOPSIS", *tool_synopsis(forms), ".Sh DESCRIPTION",
-                                  *without_first_break(body(rest))])
+                                  *without_first_break(body(rest)), ".Sh OPTIONS", *options_of_nft()])
 
 
 def paragraphs(text):

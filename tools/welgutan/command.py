@@ -70,39 +70,55 @@ class Settings(NamedTuple):
     has_owner: bool
 
 
+def add_bounds(follow):
+    """What the rules may do that act."""
+    follow.add_argument("--most", type=number_up_to(10**9), default=1000, metavar="N",
+                        help="at most N rules act: first come, first served (1,000)")
+    follow.add_argument("--most-each", type=number_up_to(10**9), default=256, metavar="N",
+                        help="at most N rules of one destination are tried one by one (256)")
+    follow.add_argument("--allow", type=kinds, default=frozenset(policy.KINDS), metavar="KINDS",
+                        help="a rule acts only if all that it does is in KINDS: some of "
+                        f"{','.join(policy.KINDS)}, where pass ends the walk and lets the packet pass (all)")
+    follow.add_argument("--shortest4", type=number_up_to(32), default=0, metavar="LENGTH",
+                        help="leave out IPv4 rules with a shorter destination, or none (0)")
+    follow.add_argument("--shortest6", type=number_up_to(128), default=0, metavar="LENGTH",
+                        help="leave out IPv6 rules with a shorter destination, or none (0)")
+    follow.add_argument("--never", type=networks, default={4: [], 6: []}, metavar="FILE",
+                        help="networks, one in a line (# begins a remark): no rule sees what comes from them or goes to them")
+
+
 def add_following(parser):
     follow = parser.add_argument_group("with --follow")
     follow.add_argument("--follow", action="store_true",
                         help="read lines of `changes`, and let the rules act as they come")
-    follow.add_argument("--most", type=number_up_to(10**9), default=1000, metavar="N", help="rules that act (1,000)")
-    follow.add_argument("--most-each", type=number_up_to(10**9), default=256, metavar="N",
-                        help="rules of one destination that are tried one by one (256)")
-    follow.add_argument("--allow", type=kinds, default=frozenset(policy.KINDS), metavar="KINDS",
-                        help=f"what rules may do: of {','.join(policy.KINDS)} (all)")
-    follow.add_argument("--shortest4", type=number_up_to(32), default=0, metavar="LENGTH", help="of a destination (0)")
-    follow.add_argument("--shortest6", type=number_up_to(128), default=0, metavar="LENGTH", help="of a destination (0)")
-    follow.add_argument("--never", type=networks, default={4: [], 6: []}, metavar="FILE",
-                        help="networks, a line each, that no rule touches, as source or as destination")
-    follow.add_argument("--at-end", choices=("remove", "keep"), default="remove", help="what becomes of the table")
-    follow.add_argument("--counters", metavar="FILE", help="write FILE.txt, FILE.json and FILE.prom")
-    follow.add_argument("--each", type=seconds, default=5, metavar="SECONDS", help="between two of them (5)")
+    add_bounds(follow)
+    follow.add_argument("--at-end", choices=("remove", "keep"), default="remove",
+                        help="what becomes of the table at the input's end, and at SIGTERM, SIGINT, SIGHUP and SIGKILL (remove)")
+    follow.add_argument("--counters", metavar="FILE",
+                        help="write FILE.txt, FILE.json and FILE.prom (for node_exporter) again and again")
+    follow.add_argument("--each", type=seconds, default=5, metavar="SECONDS", help="between two of these (5)")
     follow.add_argument("--window", type=seconds, default=0.01, metavar="SECONDS",
-                        help="that lines are gathered (0.01)")
+                        help="the longest time for which lines are gathered into one transaction (0.01)")
     follow.add_argument("--settle", type=seconds, default=0.5, metavar="SECONDS",
-                        help="without a line, after which an old table is replaced (0.5)")
+                        help="a table of that name that is there at the start acts until lines have come and then none for so long"
+                        " (0.5); then the new one takes its place at once, with its counts")
     follow.add_argument("--grace", type=seconds, default=120, metavar="SECONDS",
-                        help="after which it is where no line comes at all (120)")
+                        help="the same where no line comes at all (120)")
     follow.add_argument("--without-owner", action="store_true", help="as with a kernel whose tables have no owner")
 
 
-def arguments(description, words=None):
+def parser_of(description):
     parser = argparse.ArgumentParser(description=description, formatter_class=argparse.RawDescriptionHelpFormatter)
     parser.add_argument("device", type=device_name)
-    parser.add_argument("--table", type=table_name, default="welgutan")
-    parser.add_argument("--check", action="store_true", help="count, and do nothing")
+    parser.add_argument("--table", type=table_name, default="welgutan", metavar="NAME", help="the table's name (welgutan)")
+    parser.add_argument("--check", action="store_true", help="rules only count")
     parser.add_argument("--sample", type=group_number, metavar="GROUP", help="log what rules sample to this group")
     add_following(parser)
-    return parser.parse_args(words)
+    return parser
+
+
+def arguments(description, words=None):
+    return parser_of(description).parse_args(words)
 
 
 def write_ruleset(options):
