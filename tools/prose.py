@@ -1,11 +1,11 @@
 #!/usr/bin/env python3
-"""Tells how long the sentences of the documents are.
+"""Tells how long the sentences of the documents are, and the documents together.
 
-    tools/prose.py [--all] [DOCUMENT ..]
+    tools/prose.py [DOCUMENT ..]
 
 Of each document the mean of its sentences' words is printed, and each sentence of more than 40. The status is 1 where
-there is such a sentence, or where a mean is above 18. Without words it looks at those documents that were written for
-this; --all looks at every one.
+there is such a sentence, or where a mean is above 18. Without words it looks at every document, and the status is 1 too
+where README and docs/ have more than 110 KB together.
 
 A sentence ends at a full stop, a question mark or an exclamation mark with a space behind it, and where a paragraph, an
 item or a cell of a table ends. Code is one word, and a link has the words of its text. Blocks of commands aren't read,
@@ -18,9 +18,8 @@ import re
 import sys
 
 ROOT = pathlib.Path(__file__).resolve().parent.parent
-WRITTEN = ["README.md", "CHANGELOG.md", "CONTRIBUTING.md", "SECURITY.md"]
-WRITTEN += [f"docs/{name}.md" for name in ("FLEET", "FORMATS", "HOSTILE", "LIVE", "ROUTERS")]
 MOST, MEAN, LEAST_CELL = 40, 18, 4
+MOST_OCTETS = 110 * 1024
 
 
 def plain(text):
@@ -60,15 +59,23 @@ def look(path):
     return not long and mean <= MEAN
 
 
+def are_short(pages):
+    """Prints how many octets the pages have together, and tells whether they are no more than MOST_OCTETS."""
+    octets = sum(page.stat().st_size for page in pages)
+    print(f"README.md and docs: {octets} octets, at most {MOST_OCTETS}")
+    return octets <= MOST_OCTETS
+
+
 def main():
     parser = argparse.ArgumentParser(description=__doc__, formatter_class=argparse.RawDescriptionHelpFormatter)
     parser.add_argument("documents", nargs="*", type=pathlib.Path)
-    parser.add_argument("--all", action="store_true")
-    options = parser.parse_args()
-    every = [*ROOT.glob("*.md"), *sorted((ROOT / "docs").glob("*.md"))]
-    chosen = every if options.all else [ROOT / name for name in WRITTEN]
-    paths = [path.resolve() for path in options.documents] or chosen
-    sys.exit(0 if all([look(path) for path in paths]) else 1)
+    chosen = [path.resolve() for path in parser.parse_args().documents]
+    pages = [ROOT / "README.md", *sorted((ROOT / "docs").glob("*.md"))]
+    others = [path for path in sorted(ROOT.glob("*.md")) if path not in pages]
+    found = [look(path) for path in chosen or pages + others]
+    if not chosen:
+        found.append(are_short(pages))
+    sys.exit(0 if all(found) else 1)
 
 
 if __name__ == "__main__":
