@@ -84,7 +84,8 @@ def add_bounds(follow):
     follow.add_argument("--shortest6", type=number_up_to(128), default=0, metavar="LENGTH",
                         help="leave out IPv6 rules with a shorter destination, or none (0)")
     follow.add_argument("--never", type=networks, default={4: [], 6: []}, metavar="FILE",
-                        help="networks, one in a line (# begins a remark): no rule sees what comes from them or goes to them")
+                        help="networks, one in a line (# begins a remark): no rule sees what comes from them or goes"
+                        " to them")
 
 
 def add_following(parser):
@@ -93,15 +94,16 @@ def add_following(parser):
                         help="read lines of `changes`, and let the rules act as they come")
     add_bounds(follow)
     follow.add_argument("--at-end", choices=("remove", "keep"), default="remove",
-                        help="what becomes of the table at the input's end, and at SIGTERM, SIGINT, SIGHUP and SIGKILL (remove)")
+                        help="what becomes of the table at the input's end, and at SIGTERM, SIGINT, SIGHUP and SIGKILL"
+                        " (remove)")
     follow.add_argument("--counters", metavar="FILE",
                         help="write FILE.txt, FILE.json and FILE.prom (for node_exporter) again and again")
     follow.add_argument("--each", type=seconds, default=5, metavar="SECONDS", help="between two of these (5)")
     follow.add_argument("--window", type=seconds, default=0.01, metavar="SECONDS",
                         help="the longest time for which lines are gathered into one transaction (0.01)")
     follow.add_argument("--settle", type=seconds, default=0.5, metavar="SECONDS",
-                        help="a table of that name that is there at the start acts until lines have come and then none for so long"
-                        " (0.5); then the new one takes its place at once, with its counts")
+                        help="a table of that name that is there at the start acts until lines have come and then none"
+                        " for so long (0.5); then the new one takes its place at once, with its counts")
     follow.add_argument("--grace", type=seconds, default=120, metavar="SECONDS",
                         help="the same where no line comes at all (120)")
     follow.add_argument("--without-owner", action="store_true", help="as with a kernel whose tables have no owner")
@@ -110,7 +112,8 @@ def add_following(parser):
 def parser_of(description):
     parser = argparse.ArgumentParser(description=description, formatter_class=argparse.RawDescriptionHelpFormatter)
     parser.add_argument("device", type=device_name)
-    parser.add_argument("--table", type=table_name, default="welgutan", metavar="NAME", help="the table's name (welgutan)")
+    parser.add_argument("--table", type=table_name, default="welgutan", metavar="NAME",
+                        help="the table's name (welgutan)")
     parser.add_argument("--check", action="store_true", help="rules only count")
     parser.add_argument("--sample", type=group_number, metavar="GROUP", help="log what rules sample to this group")
     add_following(parser)
