@@ -2,69 +2,47 @@
 """Measures what one change costs `changes`, beside many rules and beside many routes under one wide destination.
 
     bench/changes.py PROGRAM [--items N] [--runs N] [--rules N,N,..] [--routes N,N,..] [--instructions]
+    bench/changes.py PROGRAM --beside-rules N [--rules N,N,..] [--runs N]
 
 A tape holds the rules, one for each destination, and then items that change something each: a rule comes and goes, at
 one destination or at another each time; a unicast route comes and goes and makes a rule valid and not; a peer with a
 rule comes and is lost; host routes come and go under destinations, and then under one destination that has many routes
 already. Reported is the processor time of one such change, that of the tape without
 them taken away, or with --instructions what callgrind counts.
+
+With --beside-rules one rule comes and goes N times in all, beside the rules: reported are the processor seconds of
+`changes` and of `rules` over that tape. `changes` may take four times as long; more ends the script with status 1.
 """
 
 import argparse
 import pathlib
 import re
-import struct
 import subprocess
+import sys
 import tempfile
 
 import moments
-from enforce import CONFIG, OPEN, PATH, message, record
-from timing import least_of
+from timing import best_of
+from wire import CONFIG, LOST, TAPE, announce, flow, peer, record, says, slash24, up, withdraw
 
-EMPTY_CAPTURE = struct.pack("<IHHIIII", 0xA1B2C3D4, 2, 4, 0, 0, 262144, 101)
-ATTRIBUTES = PATH + bytes.fromhex("400304c6336401")
-START = [b"FSTAPE1\n", record(1, 1), record(2, 1, message(1, OPEN) + message(4, b""))]
-
-
-def update(withdrawn, attributes, announced):
-    body = struct.pack(">H", len(withdrawn)) + withdrawn + struct.pack(">H", len(attributes)) + attributes + announced
-    return record(2, 1, message(2, body))
-
-
-def announce(prefixes):
-    return update(b"", ATTRIBUTES, prefixes)
-
-
-def withdraw(prefixes):
-    return update(prefixes, b"", b"")
-
-
-def flow(nlri):
-    reach = bytes.fromhex("0001 85 00 00") + nlri
-    attributes = b"\x80\x0e" + bytes([len(reach)]) + reach + PATH + bytes.fromhex("c01008 8006fde900000000")
-    return update(b"", attributes, b"")
-
-
-def slash24(number):
-    """The prefix of that number under 10.0.0.0/8, then 11.0.0.0/8, as NLRI."""
-    return bytes([24, 10 + number // 65536, number // 256 % 256, number % 256])
+MOST_TIMES = 4      # what `changes` may take of what `rules` takes of a tape
+START = [TAPE, up()]
 
 
 def with_rules(rules):
     """Rules for one destination each, and a unicast route for each destination."""
     parts = list(START)
     for number in range(rules):
-        parts.append(announce(slash24(number)))
-        parts.append(flow(bytes([5, 1]) + slash24(number)))
+        parts.append(says(announce(slash24(number))))
+        parts.append(says(flow(b"\1" + slash24(number))))
     return b"".join(parts)
 
 
 def with_routes(routes):
     """One rule for 10.0.0.0/7, and routes of one AS under it."""
     parts = list(START)
-    parts.append(announce(bytes([7, 10])))
-    parts.append(flow(bytes([3, 1, 7, 10])))
-    parts += [announce(slash24(number)) for number in range(routes)]
+    parts.append(says(announce(bytes([7, 10])) + flow(bytes([1, 7, 10]))))
+    parts += [says(announce(slash24(number))) for number in range(routes)]
     return b"".join(parts)
 
 
@@ -73,25 +51,15 @@ def changes_of(count):
     parts = []
     for number in range(count // 2):
         host = bytes([32, 10, number // 256 % 256, number % 256, 1])
-        parts += [announce(host), withdraw(host)]
+        parts += [says(announce(host)), says(withdraw(host))]
     return b"".join(parts)
-
-
-OTHER = """[[peer]]
-number = 2
-address = "198.51.100.2"
-as = 65001
-"""
 
 
 def peer_in_turn(turn):
     """Another peer comes with a network and a rule for it, and is lost."""
-    def record(kind, payload=b""):
-        return struct.pack(">BHQI", kind, 2, turn, len(payload)) + payload
     if turn % 2:
-        return record(3)
-    given = moments.route_comes(moments.BEFORE) + moments.rule_at(moments.before(0))
-    return record(1) + record(2, message(1, OPEN) + message(4, b"") + given)
+        return record(LOST, b"", 2, turn)
+    return up(2, turn) + says(announce(moments.BEFORE) + flow(b"\1" + moments.before(0)), 2, turn)
 
 
 def shapes_of(rules, items):
@@ -115,8 +83,20 @@ def cost_of(options, folder, front, few, many):
     for tape in front + few, front + many:
         (folder / "tape").write_bytes(tape)
         words = [options.program.resolve(), "changes", folder / "config", folder / "tape"]
-        spent.append(instructions(words) if options.instructions else least_of(options.runs, words) * 1e6)
+        spent.append(instructions(words) if options.instructions else best_of(options.runs, words).processor * 1e6)
     return (spent[1] - spent[0]) / options.items
+
+
+def beside_rules(options, folder, rules):
+    """Whether `changes` takes no more than it may of a tape along which one rule changes often."""
+    items = moments.changes(options.beside_rules, options.beside_rules, moments.CHANGES["of a rule"])
+    (folder / "tape").write_bytes(moments.start(rules) + items)
+    files = [folder / "config", folder / "tape"]
+    ours, theirs = (best_of(options.runs, [options.program.resolve(), command, *files]).processor
+                    for command in ("changes", "rules"))
+    print(f"{rules} rules, {options.beside_rules} changes of one: changes {ours:.2f} s, rules {theirs:.2f} s,"
+          f" {ours / theirs:.1f} times as much", flush=True)
+    return ours <= MOST_TIMES * theirs
 
 
 def main():
@@ -127,11 +107,16 @@ def main():
     parser.add_argument("--rules", default="1000,10000,100000")
     parser.add_argument("--routes", default="1000,100000")
     parser.add_argument("--instructions", action="store_true")
+    parser.add_argument("--beside-rules", type=int, metavar="N")
     options = parser.parse_args()
     unit = "instructions" if options.instructions else "us"
     with tempfile.TemporaryDirectory() as made:
         folder = pathlib.Path(made)
-        (folder / "config").write_text(CONFIG + OTHER)
+        (folder / "config").write_text(CONFIG + peer(2, 65001))
+        if options.beside_rules:
+            if not all([beside_rules(options, folder, int(rules)) for rules in options.rules.split(",")]):
+                sys.exit(f"`changes` takes more than {MOST_TIMES} times what `rules` takes")
+            return
         for rules in map(int, options.rules.split(",")):
             for name, front, few, many in shapes_of(rules, options.items):
                 cost = cost_of(options, folder, front, few, many)

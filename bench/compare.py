@@ -34,6 +34,7 @@ from draws import draw_inputs
 NAMES = ("config", "tape", "capture")
 COMMANDS = {"rules": 2, "list": 2, "shadow": 2, "changes": 2, "enforce": 3}
 KEPT = 400      # draws whose answers are kept for the wrong readings
+LEAST = 50      # draws that are done however long they take: they tell each wrong reading
 
 
 # Running both
@@ -317,7 +318,7 @@ def arguments():
     parser.add_argument("--program", type=pathlib.Path, default=root / "crates/welgutan/out/welgutan")
     parser.add_argument("--draws", type=int, default=300)
     parser.add_argument("--seed", type=int, default=1)
-    parser.add_argument("--seconds", type=float, default=300, help="no draw is begun after so many")
+    parser.add_argument("--seconds", type=float, default=300, help="no draw is begun after so many, but the first ones")
     parser.add_argument("--only", type=int, help="this draw alone, and no wrong reading")
     parser.add_argument("--keep", type=pathlib.Path, help="a folder for the files of the last draw")
     parser.add_argument("--commands", type=lambda text: text.split(","), default=list(COMMANDS))
@@ -330,7 +331,7 @@ def compare_draws(options, folder):
     counts, reached, kept = collections.Counter(), {command: collections.Counter() for command in COMMANDS}, []
     end = time.monotonic() + options.seconds
     for number in range(options.draws) if options.only is None else [options.only]:
-        if time.monotonic() > end:
+        if time.monotonic() > end and number >= LEAST:
             print(f"after {options.seconds:g} seconds: {number} draws of {options.draws}")
             break
         inputs = draw_inputs(options.seed, number)

@@ -9,17 +9,14 @@ that was resident.
 """
 
 import argparse
-import os
 import pathlib
 import struct
 import tempfile
-import time
 
-from enforce import PATH, message
+from timing import best_of
+from wire import HEAD, announce, peer, slash24
 
-CONFIG = "local_as = 65000\nlocal_id = \"192.0.2.254\"\n" + "".join(
-    f"[[peer]]\nnumber = {n}\naddress = \"198.51.100.{n}\"\nas = {65000 + n}\n" for n in (1, 2, 3)
-)
+CONFIG = HEAD + "".join(peer(number, 65000 + number) for number in (1, 2, 3))
 
 
 def mrt(seconds, subtype, peer, body):
@@ -28,15 +25,13 @@ def mrt(seconds, subtype, peer, body):
     return struct.pack(">IHHI", seconds, 16, subtype, len(front) + len(body)) + front + body
 
 
-def update(number):
-    attributes = PATH + bytes.fromhex("400304c6336401")
-    prefix = bytes([24, 10 + number // 65536 % 2, number // 256 % 256, number % 256])
-    return message(2, b"\0\0" + struct.pack(">H", len(attributes)) + attributes + prefix)
+def said(number):
+    return announce(slash24(number % 131072))
 
 
 def block(seconds):
     """Records of a thousand messages and three changes of state."""
-    parts = [mrt(seconds, 4, 1 + number % 3, update(number)) for number in range(1000)]
+    parts = [mrt(seconds, 4, 1 + number % 3, said(number)) for number in range(1000)]
     parts += [mrt(seconds, 5, peer, struct.pack(">HH", 6, 1)) for peer in (1, 2, 3)]
     return b"".join(parts)
 
@@ -47,19 +42,6 @@ def write_dump(path, megabytes):
         for _ in range(max(1, megabytes * 1000000 // len(piece))):
             out.write(piece)
     return path.stat().st_size
-
-
-def run(words, out):
-    """Seconds, and the kilobytes that were resident at most."""
-    begun = time.monotonic()
-    child = os.fork()
-    if child == 0:
-        os.dup2(os.open(out, os.O_WRONLY | os.O_CREAT | os.O_TRUNC), 1)
-        os.execv(words[0], words)
-    _, status, usage = os.wait4(child, 0)
-    if status != 0:
-        raise SystemExit(f"status {os.waitstatus_to_exitcode(status)}")
-    return time.monotonic() - begun, usage.ru_maxrss
 
 
 def main():
@@ -73,10 +55,8 @@ def main():
         (folder / "config").write_text(CONFIG)
         for megabytes in map(int, options.megabytes.split(",")):
             size = write_dump(folder / "dump", megabytes)
-            words = [options.program, "convert", str(folder / "config"), str(folder / "dump")]
-            runs = [run(words, str(folder / "tape")) for _ in range(options.runs)]
-            best = min(seconds for seconds, _ in runs)
-            most = max(kilobytes for _, kilobytes in runs)
+            words = [options.program, "convert", folder / "config", folder / "dump"]
+            best, _, most = best_of(options.runs, words, folder / "tape")
             print(f"{size / 1e6:8.1f} MB  {best:7.3f} s  {size / 1e6 / best:7.1f} MB/s  {most} kB resident")
 
 

@@ -9,7 +9,9 @@ import random
 import struct
 from typing import NamedTuple
 
-MARKER = b"\xff" * 16
+import wire
+from wire import LOST, MARKER, SAYS, TAPE, TIMED_TAPE, UP, message, record
+
 LOCAL_AS = 65000
 AS_NUMBERS = [65001, 65002, 200000, LOCAL_AS, LOCAL_AS]
 SECOND = 10**9
@@ -306,10 +308,6 @@ def update_body(draw, peer, width, subjects):
 # Messages
 
 
-def message(kind, body):
-    return MARKER + struct.pack(">HB", 19 + len(body), kind) + body
-
-
 def open_body(draw, peer, width):
     """RFC 4271 section 4.2, with the capability of four-octet AS numbers where they have four; rarely with a fault."""
     version, hold_time, identifier = 4, draw.choice([0, 3, 180]), draw.choice(IDENTIFIERS)
@@ -370,26 +368,24 @@ class Stream:
 
 # Tapes
 
-UP, RECEIVED, LOST = 1, 2, 3
-
 
 def draw_events(draw, peers):
-    """Kinds, peers and payloads, in their order."""
+    """Kinds, octets and peers, in their order."""
     subjects, streams, events = Subjects(draw), [Stream(draw, peer) for peer in peers], []
     for stream in streams[:-1] if chance(draw, 30) else streams:
-        events.append((UP, stream.peer.number, b""))
+        events.append((UP, b"", stream.peer.number))
         stream.opening(draw)
         if stream is streams[0] or chance(draw, 15):
             stream.base(draw, subjects)
-        events.append((RECEIVED, stream.peer.number, stream.cut(draw)))
+        events.append((SAYS, stream.cut(draw), stream.peer.number))
     for _ in range(draw.randint(4, 40)):
         stream = draw.choice(streams + streams[:1] * 6)
         if chance(draw, 3):
-            events.append((draw.choice([UP, UP, LOST]), stream.peer.number, b""))
+            events.append((draw.choice([UP, UP, LOST]), b"", stream.peer.number))
             stream.opening(draw)
         else:
             stream.say(draw, subjects)
-        events.append((RECEIVED, stream.peer.number, stream.cut(draw)))
+        events.append((SAYS, stream.cut(draw), stream.peer.number))
     return events
 
 
@@ -401,18 +397,13 @@ def moments(draw, count):
                   for _ in range(count))
 
 
-def record(kind, peer, payload, moment=None):
-    told = b"" if moment is None else struct.pack(">Q", moment)
-    return struct.pack(">BH", kind, peer) + told + struct.pack(">I", len(payload)) + payload
-
-
 def draw_tape(draw, peers):
     events = draw_events(draw, peers)
     if chance(draw, 50):
         records = [record(*event) for event in events]
-        return spoil_tape(draw, b"FSTAPE1\n", records, 3)
+        return spoil_tape(draw, TAPE, records, 3)
     records = [record(*event, moment) for event, moment in zip(events, moments(draw, len(events)))]
-    return spoil_tape(draw, b"FSTAPE2\n", records, 11)
+    return spoil_tape(draw, TIMED_TAPE, records, 11)
 
 
 def spoil_tape(draw, magic, records, length_at):
@@ -516,16 +507,11 @@ def pcap_capture(draw, link, frames, times):
     order, nanoseconds = draw.choice("<>"), chance(draw, 50)
     magic = 0xA1B23C4D if nanoseconds else 0xA1B2C3D4
     link |= draw.choice([0, 0x10000])
-    octets = [struct.pack(order + "IHHIIII", magic, 2, 4, 0, 0, 65535, link)]
+    octets = [wire.pcap_head(link, order, magic)]
     for captured, time in zip(frames, times):
-        fraction, size = time % SECOND // (1 if nanoseconds else 1000), len(captured)
-        octets.append(struct.pack(order + "IIII", time // SECOND, fraction, size, size) + captured)
+        fraction = time % SECOND // (1 if nanoseconds else 1000)
+        octets.append(wire.pcap_record(captured, time // SECOND, fraction, order=order))
     return octets, order
-
-
-def block(order, kind, body):
-    body += bytes(-len(body) % 4)
-    return struct.pack(order + "II", kind, 12 + len(body)) + body + struct.pack(order + "I", 12 + len(body))
 
 
 def option(order, code, value):
@@ -538,27 +524,24 @@ def interface_block(draw, order, link):
     options = [(2, b"eth0:"), (9, unit), (9, b"\3\3"), (14, bytes(8))]
     chosen = [option(order, *each) for each in draw.sample(options, draw.randint(0, 3))] if chance(draw, 60) else []
     chosen += [option(order, 0, b"")] if chosen and chance(draw, 70) else []
-    return block(order, 1, struct.pack(order + "HHI", link, 0, draw.choice([0, 30, 262144])) + b"".join(chosen))
+    return wire.interface_block(link, order, draw.choice([0, 30, wire.SNAP]), b"".join(chosen))
 
 
 def packet_block(draw, order, captured, time):
     """A simple packet, or an enhanced one of one of the two interfaces."""
-    size = len(captured)
     if chance(draw, 15):
-        return block(order, 3, struct.pack(order + "I", size) + captured)
+        return wire.block(3, struct.pack(order + "I", len(captured)) + captured, order)
     units = draw.choice([time // 1000, time // 1000, time, time << 10, 2**64 - 1 if rarely(draw, 5) else time])
-    head = struct.pack(order + "IIIII", draw.choice([0, 0, 0, 1]), units >> 32, units & 0xFFFFFFFF, size, size)
-    return block(order, 6, head + captured)
+    return wire.packet_block(captured, units, draw.choice([0, 0, 0, 1]), order=order)
 
 
 def section(draw, order, link, frames, times):
     """A section header, two interfaces, and packets with other blocks among them."""
-    head = struct.pack(order + "IHHq", 0x1A2B3C4D, 1, draw.choice([0, 0, 2]), -1)
-    octets = [block(order, 0x0A0D0D0A, head + draw.choice([b"", option(order, 4, b"draws")]))]
+    octets = [wire.section_block(order, draw.choice([0, 0, 2]), draw.choice([b"", option(order, 4, b"draws")]))]
     octets += [interface_block(draw, order, link), interface_block(draw, order, draw.choice([147, link]))]
     for captured, time in zip(frames, times):
         octets.append(packet_block(draw, order, captured, time))
-        octets += [block(order, draw.choice([4, 5, 0xBAD]), bytes(8))] * chance(draw, 5)
+        octets += [wire.block(draw.choice([4, 5, 0xBAD]), bytes(8), order)] * chance(draw, 5)
     return octets
 
 

@@ -13,25 +13,13 @@ draw is the same in each run, so that results compare.
 import argparse
 import os
 import pathlib
-import resource
 import struct
-import subprocess
 import sys
 import tempfile
-import time
 
-CONFIG = """local_as = 65000
-local_id = "192.0.2.254"
-[[peer]]
-number = 1
-address = "198.51.100.1"
-as = 65001
-"""
+from timing import best_of
+from wire import CONFIG, TAPE, announce, flow, ipv4, packet, says, up, write_capture
 
-MARKER = b"\xff" * 16
-PATH = bytes.fromhex("40010100 400206 02010000fde9")
-OPEN = bytes.fromhex("04 fde9 00b4 c6336401 08 0206 41040000fde9")
-UNICAST = bytes.fromhex("0000 0014 40010100 400206 02010000fde9 400304c6336401 18c00002")
 FIRST_PORT = 1000
 ATTACKED = bytes([192, 0, 2, 9])
 # Ports from which servers reflect more than they are sent.
@@ -39,37 +27,18 @@ REFLECTORS = (17, 19, 53, 111, 123, 137, 161, 389, 520, 1434, 1900, 5353, 11211,
 SERVICES = (22, 25, 53, 80, 443, 8080)
 
 
-def message(kind, body):
-    return MARKER + struct.pack(">HB", 19 + len(body), kind) + body
-
-
-def flow_update(port):
-    """An UPDATE that discards TCP to one port of 192.0.2.0/24."""
-    return discard(bytes.fromhex("0118c00002 038106 0591") + struct.pack(">H", port))
-
-
-def discard(nlri):
-    """An UPDATE of a rule that discards."""
-    reach = bytes.fromhex("0001 85 00 00") + bytes([len(nlri)]) + nlri
-    attributes = (
-        b"\x80\x0e" + bytes([len(reach)]) + reach + PATH + bytes.fromhex("c01008 8006fde900000000")
-    )
-    return message(2, b"\0\0" + struct.pack(">H", len(attributes)) + attributes)
-
-
-def record(kind, peer, payload=b""):
-    return struct.pack(">BHI", kind, peer, len(payload)) + payload
+def flow_to(port):
+    """Discards TCP to one port of 192.0.2.0/24."""
+    return flow(bytes.fromhex("0118c00002 038106 0591") + struct.pack(">H", port))
 
 
 def tape(rules):
-    return tape_of(flow_update(FIRST_PORT + rule) for rule in range(rules))
+    return tape_of(flow_to(FIRST_PORT + rule) for rule in range(rules))
 
 
 def tape_of(updates):
-    parts = [b"FSTAPE1\n", record(1, 1), record(2, 1, message(1, OPEN) + message(4, b""))]
-    parts.append(record(2, 1, message(2, UNICAST)))
-    parts += [record(2, 1, update) for update in updates]
-    return b"".join(parts)
+    parts = [TAPE, up(), says(announce(bytes([24, 192, 0, 2])))]
+    return b"".join(parts + [says(update) for update in updates])
 
 
 def draws():
@@ -78,16 +47,6 @@ def draws():
     while True:
         state = (state * 6364136223846793005 + 1442695040888963407) % 2**64
         yield state >> 33
-
-
-def packet(destination, port):
-    return ipv4(b"\xcb\x00\x71\x05", destination, 6, 50000, port, 40)
-
-
-def ipv4(source, destination, protocol, source_port, port, length):
-    """The first 40 octets of a packet, of TCP with SYN."""
-    ip = struct.pack(">BBHIBBH", 0x45, 0, length, 0, 64, protocol, 0) + source + destination
-    return ip + struct.pack(">HH", source_port, port) + bytes.fromhex("00000000 00000000 50022000 00000000")
 
 
 def operators(kind, *pairs):
@@ -139,26 +98,7 @@ def attacked(rules):
     while len(matched) < rules:
         value, fields = attack(drawn)
         matched[value] = fields
-    return [discard(value) for value in matched], list(matched.values())
-
-
-def write_capture(path, packets, rules):
-    write_packets(path, port_packets(packets, rules))
-
-
-def write_packets(path, packets):
-    with open(path, "wb") as out:
-        out.write(struct.pack("<IHHIIII", 0xA1B2C3D4, 2, 4, 0, 0, 262144, 101))
-        for number, octets in enumerate(packets):
-            out.write(struct.pack("<IIII", number // 1000, number % 1000, len(octets), len(octets)))
-            out.write(octets)
-
-
-def run_once(command, folder):
-    start = time.monotonic()
-    with open(folder / "lines", "wb") as lines:
-        status = subprocess.run(command, stdout=lines, check=False).returncode
-    return status, time.monotonic() - start
+    return [flow(value) for value in matched], list(matched.values())
 
 
 def main():
@@ -180,26 +120,19 @@ def main():
         if options.mix == "atk":
             updates, matched = attacked(options.rules)
             (folder / "tape").write_bytes(tape_of(updates))
-            write_packets(folder / "capture", attack_packets(options.packets, matched))
+            write_capture(folder / "capture", attack_packets(options.packets, matched))
         else:
             (folder / "tape").write_bytes(tape(options.rules))
-            write_capture(folder / "capture", options.packets, options.rules)
-        words = [str(folder / name) for name in ("config", "tape", "capture")]
-        best = None
-        for _ in range(options.runs):
-            status, seconds = run_once([str(options.program.resolve()), "enforce", *words], folder)
-            if status != 0:
-                sys.exit(f"enforce ended with status {status}")
-            best = seconds if best is None else min(best, seconds)
-        with open(folder / "lines", "rb") as lines:
-            text = lines.read()
+            write_capture(folder / "capture", port_packets(options.packets, options.rules))
+        words = [options.program.resolve(), "enforce", *(folder / name for name in ("config", "tape", "capture"))]
+        best, _, peak = best_of(options.runs, words, folder / "lines")
+        text = (folder / "lines").read_bytes()
         size = os.path.getsize(folder / "capture")
 
     count = text.count(b"\n")
     discarded = text.count(b" discard")
     if count != options.packets:
         sys.exit(f"{count} lines for {options.packets} packets")
-    peak = resource.getrusage(resource.RUSAGE_CHILDREN).ru_maxrss
     print(f"packets {options.packets}, rules {options.rules}, discarded {discarded}")
     print(f"seconds {best:.3f} (best of {options.runs})")
     print(f"packets per second {options.packets / best:,.0f}, capture MB per second {size / best / 1e6:,.1f}")

@@ -8,22 +8,21 @@ the whole run: as many steps of the tape and as many packets are made and judged
 """
 
 import argparse
-import os
-import subprocess
+import pathlib
 import sys
+import tempfile
+
+from timing import run
 
 COUNTS = [1_000, 100_000, 1_000_000]
 
 
-def run_once(program, count):
-    """What one run writes, its processor seconds and its peak of memory in kilobytes."""
-    with subprocess.Popen([program, "gen", str(count)], stdout=subprocess.PIPE) as running:
-        text = running.stdout.read().decode()
-        _, status, used = os.wait4(running.pid, 0)
-        running.returncode = os.waitstatus_to_exitcode(status)
-    if running.returncode != 0:
-        sys.exit(f"gen {count} ended with status {running.returncode}")
-    return text.strip(), used.ru_utime + used.ru_stime, used.ru_maxrss
+def runs_of(program, count, runs, path):
+    """Of each run what it writes, and what it takes."""
+    for _ in range(runs):
+        with open(path, "wb") as out:
+            taken = run([program, "gen", count], out)
+        yield path.read_text().strip(), taken
 
 
 def main():
@@ -35,15 +34,16 @@ def main():
 
     print("| line | seconds | steps and packets a second | peak MB |")
     print("|---|---|---|---|")
-    for count in options.counts or COUNTS:
-        runs = [run_once(options.program, count) for _ in range(options.runs)]
-        lines = {line for line, _, _ in runs}
-        if len(lines) != 1:
-            sys.exit(f"gen {count} wrote different lines: {lines}")
-        seconds = min(seconds for _, seconds, _ in runs)
-        peak = max(peak for _, _, peak in runs)
-        rate = count / seconds if seconds else float("inf")
-        print(f"| `{runs[0][0]}` | {seconds:.3f} | {rate:,.0f} | {peak / 1024:.1f} |", flush=True)
+    with tempfile.TemporaryDirectory() as name:
+        for count in options.counts or COUNTS:
+            runs = list(runs_of(options.program, count, options.runs, pathlib.Path(name) / "line"))
+            lines = {line for line, _ in runs}
+            if len(lines) != 1:
+                sys.exit(f"gen {count} wrote different lines: {lines}")
+            seconds = min(taken.processor for _, taken in runs)
+            peak = max(taken.peak for _, taken in runs)
+            rate = count / seconds if seconds else float("inf")
+            print(f"| `{runs[0][0]}` | {seconds:.3f} | {rate:,.0f} | {peak / 1024:.1f} |", flush=True)
 
 
 if __name__ == "__main__":

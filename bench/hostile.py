@@ -9,52 +9,33 @@ the ratio is about 2; one above 2.3 is marked.
 """
 
 import argparse
-import os
 import pathlib
 import struct
-import subprocess
-import sys
 import tempfile
 
-from enforce import CONFIG, OPEN, PATH, attack_packets, attacked, draws, message, packet, record, tape_of
+import wire
+from enforce import attack_packets, attacked, draws, tape_of
+from timing import best_of
+from wire import (DROP, EMPTY_CAPTURE, HEAD, HOP, LOST, ORIGIN, PATH, TAPE, V4_RULES, attribute, capture_of, frame, packet,
+                  pcap_record, reach, record, says, up)
 
-ATTRIBUTES = PATH + bytes.fromhex("400304c6336401")
-MAGIC = b"FSTAPE1\n"
-DROP = bytes.fromhex("c01008 8006fde900000000")
 LIMIT = 2.3
-EMPTY_CAPTURE = struct.pack("<IHHIIII", 0xA1B2C3D4, 2, 4, 0, 0, 262144, 101)
-
-
-def up(peer):
-    return record(1, peer) + record(2, peer, message(1, OPEN) + message(4, b""))
 
 
 def lost(peer):
-    return record(3, peer)
+    return record(LOST, b"", peer)
 
 
 def update(withdrawn, attributes, announced, peer=1):
-    body = struct.pack(">H", len(withdrawn)) + withdrawn + struct.pack(">H", len(attributes)) + attributes + announced
-    return record(2, peer, message(2, body))
+    return says(wire.update(withdrawn, attributes, announced), peer)
 
 
 def announce(prefix, peer=1):
-    return update(b"", ATTRIBUTES, prefix, peer)
-
-
-def frame(value):
-    """A rule's value with its length before it (RFC 8955, section 4.1)."""
-    size = bytes([len(value)]) if len(value) < 240 else struct.pack(">H", 0xF000 + len(value))
-    return size + value
-
-
-def attribute(kind, value, flags=0x90):
-    return bytes([flags, kind]) + struct.pack(">H", len(value)) + value
+    return says(wire.announce(prefix), peer)
 
 
 def flow(value, peer=1):
-    reach = bytes.fromhex("0001 85 00 00") + frame(value)
-    return update(b"", attribute(14, reach) + PATH + DROP, b"", peer)
+    return says(wire.flow(value), peer)
 
 
 def host(number):
@@ -74,11 +55,8 @@ def drawn_order(count):
 
 
 def peers(count):
-    text = CONFIG.split("[[peer]]", 1)[0] + "allow_no_destination = true\n"
-    for number in range(1, count + 1):
-        address = f"198.51.{number // 256}.{number % 256}"
-        text += f'[[peer]]\nnumber = {number}\naddress = "{address}"\nas = 65001\n'
-    return text
+    tables = (wire.peer(number, 65001, f"198.51.{number // 256}.{number % 256}") for number in range(1, count + 1))
+    return HEAD + "allow_no_destination = true\n" + "".join(tables)
 
 
 def nested(count):
@@ -112,14 +90,10 @@ def no_destination(count):
     return b"".join(parts), EMPTY_CAPTURE
 
 
-def capture_of(packets):
-    return EMPTY_CAPTURE + b"".join(struct.pack("<IIII", 0, 0, len(octets), len(octets)) + octets for octets in packets)
-
-
 def packets_to_one_destination(count):
     """Packets to a host under attack, for which as many rules are."""
     updates, matched = attacked(count)
-    return tape_of(updates)[len(MAGIC):], capture_of(attack_packets(100000, matched))
+    return tape_of(updates)[len(TAPE):], capture_of(attack_packets(100000, matched))
 
 
 def packets_of_no_destination(count):
@@ -135,8 +109,10 @@ def and_group(count):
     pairs = b"".join(bytes([0x46, number % 200]) for number in range(count - 1))
     value = bytes([1, 24, 192, 0, 2]) + b"\x05" + b"\x06\xff" + pairs[2:] + bytes([0xC1, 7])
     octets = packet(bytes([192, 0, 2, 1]), 250)
-    capture = [EMPTY_CAPTURE] + [struct.pack("<IIII", 0, 0, len(octets), len(octets)) + octets] * 200000
-    return b"".join([up(1), announce(bytes([24, 192, 0, 2])), flow(value)]), b"".join(capture)
+    return b"".join([up(1), announce(bytes([24, 192, 0, 2])), flow(value)]), capture_of([octets] * 200000)
+
+
+RAW_IPV6 = 229
 
 
 def header_chains(count):
@@ -144,9 +120,7 @@ def header_chains(count):
     chain = b"\x3c\x00" + bytes(6)
     octets = b"\x60\x00\x00\x00" + struct.pack(">H", min(8 * count + 8, 65535)) + b"\x3c\x40" + bytes(32)
     octets += chain * (count - 1) + b"\x11\x00" + bytes(6) + bytes(8)
-    one = struct.pack("<IIII", 0, 0, len(octets), len(octets)) + octets
-    capture = struct.pack("<IHHIIII", 0xA1B2C3D4, 2, 4, 0, 0, 262144, 229) + one * 400
-    return b"".join([up(1), flow(b"\x03\x81\x06")]), capture
+    return b"".join([up(1), flow(b"\x03\x81\x06")]), capture_of([octets] * 400, RAW_IPV6)
 
 
 def never_held(count):
@@ -156,7 +130,7 @@ def never_held(count):
     for number in range(count):
         frames += frame(bytes([1]) + host(number) + port(number))
         if len(frames) > 3900 or number == count - 1:
-            parts.append(update(b"", attribute(15, bytes.fromhex("0001 85") + frames), b""))
+            parts.append(update(b"", attribute(15, V4_RULES + frames), b""))
             frames = b""
     return b"".join(parts), EMPTY_CAPTURE
 
@@ -231,7 +205,7 @@ def rules_for(network, count):
 def two_paths_in_turn(count):
     """Two paths of one network in turn, with an ORIGIN each, which no validity reads, beside as many rules for it."""
     network = bytes([24, 192, 0, 2])
-    incomplete = update(b"", bytes.fromhex("40010102") + ATTRIBUTES[4:], network)
+    incomplete = update(b"", bytes.fromhex("40010102") + (PATH + HOP)[4:], network)
     parts = [up(1)] + rules_for(network, count) + [announce(network), incomplete] * (count // 2)
     return b"".join(parts), EMPTY_CAPTURE
 
@@ -270,10 +244,6 @@ def nothing(count):
     return b"".join(parts) + update(b"", b"", b"") * count, EMPTY_CAPTURE
 
 
-ORIGIN = bytes.fromhex("40010100")
-AS_PATH = bytes.fromhex("400206 02010000fde9")
-
-
 def of_size(part, size):
     """The part again and again, up to the size."""
     return part * (size // len(part))
@@ -286,8 +256,8 @@ LONG_TYPES = (1, 2, 3, 5, 8, 9, 14, 15, 16, 255)
 LONG_VALUES = {
     2: (of_size(b"\x02\xff" + bytes.fromhex("0000fde9") * 255, 3900), ORIGIN + DROP),
     8: (bytes(3900), PATH + DROP),
-    14: (bytes.fromhex("0001 85 00 00") + of_size(frame(b"\x03\x81\x06"), 3800), PATH + DROP),
-    15: (bytes.fromhex("0001 85") + of_size(frame(b"\x03\x81\x06"), 3800), PATH + DROP),
+    14: (V4_RULES + b"\0\0" + of_size(frame(b"\x03\x81\x06"), 3800), PATH + DROP),
+    15: (V4_RULES + of_size(frame(b"\x03\x81\x06"), 3800), PATH + DROP),
     16: (of_size(bytes.fromhex("8006fde900000000"), 3896), PATH),
 }
 
@@ -295,9 +265,9 @@ LONG_VALUES = {
 def long_attribute(kind):
     """An UPDATE of one rule with an attribute of this type of nearly 4096 octets."""
     value, beside = LONG_VALUES.get(kind, (bytes(3900), PATH + DROP))
-    reach = b"" if kind == 14 else attribute(14, bytes.fromhex("0001 85 00 00") + frame(b"\x03\x81\x06"))
+    rule = b"" if kind == 14 else reach(V4_RULES, frame(b"\x03\x81\x06"))
     flags = 0x50 if kind in WELL_KNOWN else 0x90
-    return update(b"", reach + beside + attribute(kind, value, flags), b"")
+    return update(b"", rule + beside + attribute(kind, value, flags), b"")
 
 
 def long_attributes(count):
@@ -327,13 +297,13 @@ def many_lists(count):
 
 def empty_records(count):
     """Records of a capture without octets."""
-    return up(1), EMPTY_CAPTURE + struct.pack("<IIII", 0, 0, 0, 65535) * count
+    return up(1), EMPTY_CAPTURE + pcap_record(b"", length=65535) * count
 
 
 def longest_records(count):
     """Records of a capture of 262144 octets."""
     octets = packet(bytes([192, 0, 2, 1]), 25).ljust(262144, b"\0")
-    return up(1), EMPTY_CAPTURE + (struct.pack("<IIII", 0, 0, len(octets), len(octets)) + octets) * count
+    return up(1), EMPTY_CAPTURE + pcap_record(octets) * count
 
 
 SHAPES = [
@@ -383,20 +353,10 @@ OF_ONE_SIZE = (
 
 def seconds_of(program, folder, made, runs, command="enforce"):
     tape, capture = made
-    (folder / "tape").write_bytes(MAGIC + tape)
+    (folder / "tape").write_bytes(TAPE + tape)
     (folder / "capture").write_bytes(capture)
     names = ("config", "tape", "capture") if command == "enforce" else ("config", "tape")
-    words = [str(folder / name) for name in names]
-    best = None
-    for _ in range(runs):
-        child = subprocess.Popen([program, command, *words], stdout=subprocess.DEVNULL)
-        _, status, usage = os.wait4(child.pid, 0)
-        child.returncode = os.waitstatus_to_exitcode(status)
-        if child.returncode != 0:
-            sys.exit(f"{command} ended with status {child.returncode}")
-        seconds = usage.ru_utime + usage.ru_stime
-        best = seconds if best is None else min(best, seconds)
-    return best
+    return best_of(runs, [program, command, *(folder / name for name in names)]).processor
 
 
 def main():

@@ -10,9 +10,9 @@ left to a second veth, and those frames have to come that no line discards, with
 the first seed mistakes are planted in `tools/welgutan`, one after the other, and each has to be told. With `--measure` it
 tells instead what the rules that a tape leaves take a frame of a capture, beside no rules.
 
-All happens in a network namespace of this process alone, which goes with it. Where there is no root, `ip`, `nft` or
-such a namespace it is skipped. Frames are drawn as the kernel wants them: whole headers, a length that ends where the
-frame does, at most one tag and one fragment header, no authentication header; no rate is so low that it limits them.
+All happens in a network namespace of this process alone, which goes with it. Where there is no root, `ip`, `nft`, scapy
+(Debian's python3-scapy, which writes the frames: `headers.py`) or such a namespace it is skipped. No rate is so low that it
+limits the frames.
 """
 
 import argparse
@@ -36,21 +36,15 @@ ROOT = pathlib.Path(__file__).resolve().parent.parent
 sys.path.append(str(ROOT / "tools"))
 
 import draws
-from plain_packets import (AUTHENTICATION, EXTENSIONS, FRAGMENT_HEADER, extension_length, read_capture, view,
-                           walk_headers)
+import headers
+import wire
+from headers import TARGET
+from plain_packets import read_capture, view
 from plain_rules import Malformed, Octets, Short, matches, read_frame
 from welgutan import flowspec, parts, ruleset
 from welgutan.parts import Options
 
-CONFIG = """allow_no_destination = true
-local_as = 65000
-local_id = "192.0.2.254"
-[[peer]]
-number = 1
-address = "198.51.100.1"
-as = 65001
-"""
-PEER = draws.Peer(1, "198.51.100.1", 65001, 0)
+CONFIG = "allow_no_destination = true\n" + wire.CONFIG
 TABLE = "welgutan"
 
 
@@ -61,15 +55,11 @@ class Inputs(NamedTuple):
 
     def files(self, folder):
         """The paths of files with the configuration, the tape and a capture of the frames."""
-        contents = {"config": self.config, "tape": self.tape, "capture": capture(self.frames)}
+        capture = wire.capture_of([each.octets for each in self.frames], wire.ETHERNET)
+        contents = {"config": self.config, "tape": self.tape, "capture": capture}
         for name, octets in contents.items():
             (folder / name).write_bytes(octets)
         return [str(folder / name) for name in contents]
-
-
-def capture(frames):
-    head = struct.pack("<IHHIIII", 0xA1B2C3D4, 2, 4, 0, 0, 65535, 1)
-    return head + b"".join(struct.pack("<IIII", 0, 0, len(each), len(each)) + each for each in frames)
 
 
 # Rules and the tape that announces them
@@ -106,84 +96,21 @@ def draw_rules(draw, count):
     return rules
 
 
-def update(draw, attributes, announced=b""):
-    path = {1: b"\0", 2: draws.segment(2, [PEER.asn], 4), 3: bytes([198, 51, 100, 1])}
-    joined = b"".join(draws.attribute(draw, kind, value) for kind, value in (path | attributes).items() if value)
-    return draws.message(2, b"\0\0" + struct.pack(">H", len(joined)) + joined + announced)
-
-
-def draw_tape(draw, rules):
+def tape_of(rules):
     """One peer that originates all addresses, so that all of its rules are admitted."""
-    opening = draws.message(1, draws.open_body(draw, PEER, 4)) + draws.message(4, b"")
-    messages = [opening, update(draw, {}, b"\0"), update(draw, {14: draws.multiprotocol((2, 1), b"\0", bytes(16))})]
+    v6_route = wire.attribute(14, b"\0\2\1\x10" + bytes(17) + b"\0")
+    parts = [wire.announce(b"\0"), wire.update(b"", v6_route + wire.PATH)]
     for rule, (frame, actions) in rules.items():
-        reach = draws.multiprotocol((1 if rule.family == 4 else 2, 133), frame, b"")
-        messages.append(update(draw, {14: reach, 16: actions}))
-    records = [draws.record(2, PEER.number, each) for each in messages]
-    return b"FSTAPE1\n" + draws.record(1, PEER.number, b"") + b"".join(records)
-
-
-# Frames
-
-TARGET = b"\2\1\0\0\0\0"       # the address to which they go, which is no device's
-
-
-def has_whole_headers(packet):
-    """Of IPv6: whether the kernel finds the transport where the RFC has it, behind whole headers."""
-    following, octets, fragments = packet[6], packet[40:], 0
-    while following in EXTENSIONS:
-        size = extension_length(following, octets[1]) if len(octets) > 1 else 2
-        fragments += following == FRAGMENT_HEADER
-        if len(octets) < size or following == AUTHENTICATION or fragments > 1:
-            return False
-        if following == FRAGMENT_HEADER and octets[2:4] >= b"\0\x08":
-            return True
-        following, octets = octets[0], octets[size:]
-    return True
-
-
-def is_well_formed(packet):
-    if packet[0] >> 4 == 4:
-        return packet[0] & 0x0F >= 5 and struct.unpack_from(">H", packet, 2)[0] == len(packet)
-    length = struct.unpack_from(">H", packet, 4)[0]
-    return length == len(packet) - 40 and (length or packet[6]) and has_whole_headers(packet)
-
-
-def transport_size(packet):
-    if packet[0] >> 4 == 4:
-        return len(packet) - (packet[0] & 0x0F) * 4
-    return len(walk_headers(packet[6], packet[40:])[3])
-
-
-def shortened(draw, packet):
-    """The packet without the end of its transport, and with a length that says so."""
-    size = len(packet) - draw.randint(0, transport_size(packet))
-    place, length = (2, size) if packet[0] >> 4 == 4 else (4, size - 40)
-    return packet[:place] + struct.pack(">H", length) + packet[place + 2:size]
-
-
-def draw_packet(draw):
-    make = draw.choice([draws.ipv4_packet, draws.ipv6_packet])
-    packet = make(draw)
-    while not is_well_formed(packet):
-        packet = make(draw)
-    shorter = shortened(draw, packet) if draws.chance(draw, 10) else packet
-    return shorter if is_well_formed(shorter) else packet
-
-
-def draw_frame(draw, number):
-    """The source address holds the number, by which the frame is known when it comes."""
-    packet = draw_packet(draw)
-    tag = draw.choice([b"\x81\0\0\5", b"\x88\xa8\0\5"]) if draws.chance(draw, 15) else b""
-    kind = (b"\x08\x00" if packet[0] >> 4 == 4 else b"\x86\xdd") if draws.chance(draw, 98) else b"\x88\xb5"
-    return TARGET + b"\2\0" + struct.pack(">I", number) + tag + kind + packet
+        reach = wire.reach(wire.V4_RULES if rule.family == 4 else wire.V6_RULES, frame)
+        parts.append(wire.update(b"", reach + wire.PATH + (wire.attribute(16, actions, 0xC0) if actions else b"")))
+    return wire.TAPE + wire.up() + b"".join(map(wire.says, parts))
 
 
 def draw_inputs(seed, rules, frames):
     draw = random.Random(f"kernel {seed}")
     draw.has_faults = False
-    tape = draw_tape(draw, draw_rules(draw, rules))
-    return Inputs(CONFIG.encode(), tape, [draw_frame(draw, number) for number in range(frames)])
+    tape = tape_of(draw_rules(draw, rules))
+    return Inputs(CONFIG.encode(), tape, [headers.draw_frame(draw, number) for number in range(frames)])
 
 
 # What the program says
@@ -294,7 +221,7 @@ def send_all(first, last, frames):
     came = {}
     for begin in range(0, len(frames), BATCH):
         for frame in frames[begin:begin + BATCH]:
-            first.send(frame)
+            first.send(frame.octets)
         came |= received(last)
     deadline = time.monotonic() + 60
     while frames_counted() < len(frames) and time.monotonic() < deadline:
@@ -339,20 +266,9 @@ class Kernel:
         return send_all(self.first, self.last, frames)
 
 
-def family_of(frame):
-    """4 or 6, and None where it is no frame of IP; behind a tag too."""
-    place = 16 if frame[12:14] in (b"\x81\0", b"\x88\xa8") else 12
-    return {b"\x08\x00": 4, b"\x86\xdd": 6}.get(frame[place:place + 2])
-
-
-def dscp(frame):
-    place = 18 if frame[12:14] in (b"\x81\0", b"\x88\xa8") else 14
-    return struct.unpack_from(">H", frame, place)[0] >> (2 if family_of(frame) == 4 else 6) & 0x3F
-
-
 def count_differences(told, frames, counts):
     """In words: each rule whose counter isn't the number of lines that walk it."""
-    walked = collections.Counter((family_of(frame), number)
+    walked = collections.Counter((frame.family, number)
                                  for frame, line in zip(frames, told.lines) for number in line.rules)
     for each, words in zip(told.rules, told.words):
         key = each.family, each.number
@@ -361,20 +277,19 @@ def count_differences(told, frames, counts):
 
 
 def frame_differences(told, frames, left):
-    """In words: each frame that is left and shouldn't be, or isn't and should, or has another DSCP."""
+    """In words: each frame that is left and shouldn't be, or isn't and should, or carries anything but the DSCP that its
+    line tells in what it carried."""
     for number, (frame, line) in enumerate(zip(frames, told.lines)):
         if line.discards == (number in left):
             yield f"{described(told, number, frame)} {'passes' if line.discards else 'is dropped'}"
-        elif number in left and family_of(frame):
-            wanted = dscp(frame) if line.mark is None else line.mark
-            if dscp(left[number]) != wanted:
-                yield f"{described(told, number, frame)} has DSCP {dscp(left[number])} and not {wanted}"
+        elif number in left and frame.family and not left[number].endswith(frame.with_dscp(line.mark)):
+            yield f"{described(told, number, frame)} is {left[number].hex()} and has not DSCP {line.mark} alone"
 
 
 def described(told, number, frame):
     words = {(each.family, each.number): words for each, words in zip(told.rules, told.words)}
-    walked = "; ".join(f"'{words[family_of(frame), rule]}'" for rule in told.lines[number].rules)
-    return f"frame {number + 1} {frame.hex()}, which walks {walked or 'no rule'},"
+    walked = "; ".join(f"'{words[frame.family, rule]}'" for rule in told.lines[number].rules)
+    return f"frame {number + 1} {frame.octets.hex()}, which walks {walked or 'no rule'},"
 
 
 def differences(kernel, told, frames):
@@ -394,11 +309,11 @@ def pair_to_turn(rules, told, frames):
     """Places of two rules of one destination, of which the first ends the walk of a frame that the other matches."""
     places = {(each.family, each.number): place for place, each in enumerate(rules)}
     for frame, line in zip(frames, told.lines):
-        first = places[family_of(frame), line.rules[-1]] if line.rules else len(rules)
+        first = places[frame.family, line.rules[-1]] if line.rules else len(rules)
         for other in range(first + 1, len(rules)):
             if rules[first].rule.destination() != rules[other].rule.destination():
                 break
-            if not flowspec.goes_on(rules[first].actions) and matches(plain_rule(rules[other]), view(1, frame)):
+            if not flowspec.goes_on(rules[first].actions) and matches(plain_rule(rules[other]), view(1, frame.octets)):
                 return first, other
     raise RuntimeError("no frame tells two rules apart")
 
@@ -504,7 +419,7 @@ def arguments():
     parser.add_argument("--seed", type=int, default=1, help="the first one")
     parser.add_argument("--seconds", type=float, default=600, help="no seed is begun after so many")
     parser.add_argument("--rules", type=int, default=400)
-    parser.add_argument("--frames", type=int, default=20000)
+    parser.add_argument("--frames", type=int, default=5000)
     parser.add_argument("--measure", nargs=3, metavar=("CONFIG", "TAPE", "CAPTURE"))
     return parser.parse_args()
 
@@ -566,8 +481,7 @@ def main():
     if not os.access(options.program, os.X_OK):
         print(f"the program isn't there: {options.program}")
         return 2
-    lacks = lacking()
-    if lacks:
+    if lacks := lacking() or headers.is_missing and "python3-scapy is missing":
         print(f"skipped, since {lacks}: bench/kernel.py")
         return 0
     if options.measure:

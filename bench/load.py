@@ -22,23 +22,21 @@ IPv4 whose tests are four ranges.
 """
 
 import argparse
-import os
 import pathlib
-import subprocess
-import sys
 import tempfile
 
-from changes import EMPTY_CAPTURE, PATH, START, announce, changes_of, flow, slash24, update, with_rules
-from enforce import CONFIG
+from changes import START, changes_of, with_rules
+from timing import best_of
+from wire import (CONFIG, EMPTY_CAPTURE, HOP, ORIGIN, PATH, V4_RULES, V6_RULES, announce, attribute, flow, frame, reach, says,
+                  slash24, update)
 
 PORTS = 65536
-TIME = "/usr/bin/time"
 LISTED = 24  # octets of an entry in the list of admitted rules
 ODD = 40503  # multiplied by it, the ports come once each and in no order
 
 
 def with_prefixes(routes):
-    return b"".join(START + [announce(slash24(number)) for number in range(routes)])
+    return b"".join(START + [says(announce(slash24(number))) for number in range(routes)])
 
 
 def port_of(number):
@@ -47,13 +45,13 @@ def port_of(number):
 
 
 def to_one(rules):
-    parts = START + [announce(slash24(0))]
-    parts += [flow(b"\x09\x01" + slash24(0) + port_of(number)) for number in range(rules)]
+    parts = START + [says(announce(slash24(0)))]
+    parts += [says(flow(b"\x01" + slash24(0) + port_of(number))) for number in range(rules)]
     return b"".join(parts)
 
 
 def to_none(rules):
-    return b"".join(START + [flow(b"\x04" + port_of(number)) for number in range(rules)])
+    return b"".join(START + [says(flow(port_of(number))) for number in range(rules)])
 
 
 def in_messages(parts, most):
@@ -67,52 +65,48 @@ def in_messages(parts, most):
     yield joined
 
 
-def wide_attribute(kind, value):
-    return bytes([0x90, kind]) + len(value).to_bytes(2, "big") + value
+def dense_rules(values, path=PATH, most=4000):
+    return [update(b"", reach(V4_RULES, octets) + path) for octets in in_messages(map(frame, values), most)]
 
 
-def dense_rules(frames):
-    return [update(b"", wide_attribute(14, b"\0\1\x85\0\0" + octets) + PATH, b"") for octets in in_messages(frames, 4000)]
+def dense_routes(count, path=PATH, most=4000):
+    return [update(b"", path + HOP, octets) for octets in in_messages(map(slash24, range(count)), most)]
 
 
-LONG_PATH = bytes.fromhex("40010100") + wide_attribute(2, b"".join(b"\2\xfa" + bytes.fromhex("0000fde9") * 250 for _ in range(2)))
+def to_each(count):
+    return (b"\1" + slash24(number) for number in range(count))
+
+
+LONG_PATH = ORIGIN + attribute(2, (b"\2\xfa" + bytes.fromhex("0000fde9") * 250) * 2, 0x40)
 DENSE = [
-    ("unicast routes of four octets", [announce(octets) for octets in in_messages(map(slash24, range(200000)), 4000)]),
-    ("rules to a destination each, six octets", dense_rules(b"\5\1" + slash24(number) for number in range(200000))),
-    ("rules without a destination, five octets", dense_rules(b"\4" + port_of(number) for number in range(PORTS))),
-    ("unicast routes behind a path of 500 numbers", [
-        update(b"", LONG_PATH + bytes.fromhex("400304c6336401"), octets) for octets in in_messages(map(slash24, range(20000)), 1900)]),
-    ("rules behind a path of 500 numbers", [
-        update(b"", wide_attribute(14, b"\0\1\x85\0\0" + octets) + LONG_PATH, b"")
-        for octets in in_messages((b"\5\1" + slash24(number) for number in range(20000)), 1900)]),
+    ("unicast routes of four octets", dense_routes(200000)),
+    ("rules to a destination each, six octets", dense_rules(to_each(200000))),
+    ("rules without a destination, five octets", dense_rules(map(port_of, range(PORTS)))),
+    ("unicast routes behind a path of 500 numbers", dense_routes(20000, LONG_PATH, 1900)),
+    ("rules behind a path of 500 numbers", dense_rules(to_each(20000), LONG_PATH, 1900)),
 ]
 
 
 def v4_rule(number):
-    return flow(bytes([5, 1]) + slash24(number))
+    return flow(b"\1" + slash24(number))
 
 
 def full_rule(number):
     """With a protocol, a destination port and a length beside the destination: four ranges."""
-    return flow(bytes([5 + 11, 1]) + slash24(number) + bytes.fromhex("03 81 06 05 91 0019 0a 91 0028"))
+    return flow(b"\1" + slash24(number) + bytes.fromhex("03 81 06 05 91 0019 0a 91 0028"))
 
 
 def listing_rule(number):
     """With ports that are no single range, behind the destination."""
-    return flow(bytes([5 + 5, 1]) + slash24(number) + bytes.fromhex("04 01 50 81 bb"))
-
-
-def reach(octets):
-    return update(b"", b"\x80\x0e" + bytes([len(octets)]) + octets + PATH, b"")
+    return flow(b"\1" + slash24(number) + bytes.fromhex("04 01 50 81 bb"))
 
 
 def v6_rule(number):
-    destination = bytes.fromhex("01 40 00 20010db8") + number.to_bytes(4, "big")
-    return reach(bytes.fromhex("0002 85 00 00") + bytes([len(destination)]) + destination)
+    return flow(bytes.fromhex("01 40 00 20010db8") + number.to_bytes(4, "big"), b"", V6_RULES)
 
 
 V4_ROUTE = announce(bytes([3, 0]))  # up to 31.255.255.255
-V6_ROUTE = reach(bytes.fromhex("0002 01 10 20010db8000000000000000000000001 00 20 20010db8"))
+V6_ROUTE = update(b"", PATH + attribute(14, bytes.fromhex("0002 01 10 20010db8000000000000000000000001 00 20 20010db8")))
 COMPILED = [
     ("IPv4 rules", V4_ROUTE, v4_rule),
     ("IPv4 rules of four ranges", V4_ROUTE, full_rule),
@@ -124,19 +118,8 @@ COMPILED = [
 def spent(program, folder, tape, runs):
     """The least seconds of some runs, and the peak of memory in octets."""
     (folder / "tape").write_bytes(tape)
-    used_most = folder / "peak"
-    words = [TIME, "-f", "%M", "-o", str(used_most), program, "enforce"]
-    words += [str(folder / name) for name in ("config", "tape", "capture")]
-    seconds, peak = [], 0
-    for _ in range(runs):
-        child = subprocess.Popen(words, stdout=subprocess.DEVNULL)
-        _, status, used = os.wait4(child.pid, 0)
-        child.returncode = os.waitstatus_to_exitcode(status)
-        if child.returncode != 0:
-            sys.exit(f"enforce ended with status {child.returncode}")
-        seconds.append(used.ru_utime + used.ru_stime)
-        peak = max(peak, int(used_most.read_text()) * 1024)
-    return min(seconds), peak
+    taken = best_of(runs, [program, "enforce", *(folder / name for name in ("config", "tape", "capture"))])
+    return taken.processor, taken.peak * 1024
 
 
 def report(name, count, with_them, without):
@@ -169,7 +152,7 @@ def main():
 
         nothing = measure(b"".join(START))
         for name, updates in DENSE if options.dense else []:
-            tape = b"".join(START + updates)
+            tape = b"".join(START + list(map(says, updates)))
             octets = measure(tape)[1] - nothing[1]
             print(f"{name}: {octets / len(tape):.1f} octets of memory an octet of tape, {octets >> 20} MiB in all", flush=True)
         if options.dense:
@@ -184,8 +167,8 @@ def main():
             print(f"beside these: {options.changes / seconds:,.0f} unicast changes per second", flush=True)
         for size in sizes:
             for name, route, rule in COMPILED:
-                rules = b"".join(rule(number) for number in range(size))
-                admitted, none = measure(b"".join(START) + route + rules), measure(b"".join(START) + rules)
+                rules = b"".join(says(rule(number)) for number in range(size))
+                admitted, none = measure(b"".join(START) + says(route) + rules), measure(b"".join(START) + rules)
                 octets = (admitted[1] - none[1]) / size
                 print(f"{name} {size}: {octets:,.0f} octets compiled, {octets - LISTED:,.0f} in the matcher", flush=True)
         for size in groups:

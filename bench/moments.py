@@ -18,61 +18,24 @@ in turn, and whether they write the same lines.
 import argparse
 import hashlib
 import pathlib
-import resource
-import struct
-import subprocess
 import sys
 import tempfile
-import time
 
-from enforce import CONFIG, OPEN, PATH, message
-
-HOP = bytes.fromhex("400304c6336401")
-DROP = bytes.fromhex("c01008 8006fde900000000")
-
-
-def record(kind, moment, payload=b""):
-    return struct.pack(">BHQI", kind, 1, moment, len(payload)) + payload
-
-
-def update(withdrawn, attributes, announced):
-    body = struct.pack(">H", len(withdrawn)) + withdrawn + struct.pack(">H", len(attributes)) + attributes + announced
-    return message(2, body)
-
-
-def attribute(kind, value):
-    return struct.pack(">BBB", 0x80, kind, len(value)) + value
-
-
-def destination(number):
-    """The /24 of that number under 10.0.0.0/8, then 11.0.0.0/8, as NLRI."""
-    return bytes([24, 10 + number // 65536, number // 256 % 256, number % 256])
-
-
-def flow_of(number):
-    return bytes([5, 1]) + destination(number)
+from timing import best_of
+from wire import (CONFIG, TIMED_TAPE, announce, flow, no_flow, packet, says, slash24, up, withdraw, write_capture)
 
 
 def rule_comes(number):
-    return update(b"", attribute(14, bytes.fromhex("0001850000") + flow_of(number)) + PATH + DROP, b"")
+    return flow(b"\1" + slash24(number))
 
 
 def rule_goes(number):
-    return update(b"", attribute(15, bytes.fromhex("000185") + flow_of(number)), b"")
-
-
-def route_comes(prefix):
-    return update(b"", PATH + HOP, prefix)
-
-
-def route_goes(prefix):
-    return update(prefix, b"", b"")
+    return no_flow(b"\1" + slash24(number))
 
 
 def start(rules):
-    parts = [b"FSTAPE2\n", record(1, 0), record(2, 0, message(1, OPEN) + message(4, b""))]
-    for number in range(rules):
-        parts.append(record(2, 0, route_comes(destination(number)) + rule_comes(number)))
+    parts = [TIMED_TAPE, up(moment=0)]
+    parts += [says(announce(slash24(number)) + rule_comes(number), moment=0) for number in range(rules)]
     return b"".join(parts)
 
 
@@ -84,7 +47,7 @@ def moments(packets, items):
 def churn(packets, items):
     elsewhere = bytes([24, 203, 0, 113])
     return b"".join(
-        record(2, moment, route_comes(elsewhere) if turn % 2 == 0 else route_goes(elsewhere))
+        says(announce(elsewhere) if turn % 2 == 0 else withdraw(elsewhere), moment=moment)
         for turn, moment in enumerate(moments(packets, items))
     )
 
@@ -98,24 +61,24 @@ def before(number):
 
 
 def rule_at(place):
-    return update(b"", attribute(14, bytes.fromhex("00018500000501") + place) + PATH + DROP, b"")
+    return flow(b"\1" + place)
 
 
 def no_rule_at(place):
-    return update(b"", attribute(15, bytes.fromhex("0001850501") + place), b"")
+    return no_flow(b"\1" + place)
 
 
 CHANGES = {
     "of a rule": lambda turn: no_rule_at(before(0)) if turn % 2 else rule_at(before(0)),
     "of a rule elsewhere": lambda turn: no_rule_at(before(turn // 2)) if turn % 2 else rule_at(before(turn // 2)),
-    "of a route": lambda turn: route_comes(BEFORE) if turn % 2 else route_goes(BEFORE),
+    "of a route": lambda turn: announce(BEFORE) if turn % 2 else withdraw(BEFORE),
 }
 
 
 def changes(packets, items, told):
     """A rule under 9.0.0.0/8, and items that change what holds there."""
-    parts = [record(2, 0, route_comes(BEFORE) + rule_at(before(65535)))]
-    return b"".join(parts + [record(2, moment, told(turn)) for turn, moment in enumerate(moments(packets, items))])
+    parts = [says(announce(BEFORE) + rule_at(before(65535)), moment=0)]
+    return b"".join(parts + [says(told(turn), moment=moment) for turn, moment in enumerate(moments(packets, items))])
 
 
 def day(packets, items, rules):
@@ -124,22 +87,17 @@ def day(packets, items, rules):
     for turn, moment in enumerate(moments(packets, items)):
         state = (state * 6364136223846793005 + 1442695040888963407) % 2**64
         number = (state >> 32) % rules
-        away, comes, goes = (bare, route_comes, route_goes) if turn % 100 == 99 else (gone, rule_comes, rule_goes)
-        told = destination(number) if away is bare else number
-        parts.append(record(2, moment, comes(told) if number in away else goes(told)))
+        away, comes, goes = (bare, announce, withdraw) if turn % 100 == 99 else (gone, rule_comes, rule_goes)
+        told = slash24(number) if away is bare else number
+        parts.append(says(comes(told) if number in away else goes(told), moment=moment))
         away ^= {number}
     return b"".join(parts)
 
 
 def day_of(program, folder):
-    """The seconds and the peak of memory in kilobytes, by GNU time, and a sum of what was written."""
-    words = [str(folder / name) for name in ("config", "tape", "capture")]
-    with open(folder / "lines", "wb") as lines:
-        told = subprocess.run(["/usr/bin/time", "-f", "%e %M", program, "enforce", *words], stdout=lines, stderr=subprocess.PIPE)
-    if told.returncode != 0:
-        sys.exit(f"status {told.returncode}")
-    seconds, peak = told.stderr.split()[-2:]
-    return float(seconds), int(peak), hashlib.sha256((folder / "lines").read_bytes()).hexdigest()
+    """What a run takes, and a sum of what it writes."""
+    taken = best_of(1, [program, "enforce", *(folder / name for name in ("config", "tape", "capture"))], folder / "lines")
+    return taken.clock, taken.peak, hashlib.sha256((folder / "lines").read_bytes()).hexdigest()
 
 
 def one_day(programs, packets, runs, folder):
@@ -158,31 +116,18 @@ def one_day(programs, packets, runs, folder):
 
 
 def capture(path, packets, rules):
-    with open(path, "wb") as out:
-        out.write(struct.pack("<IHHIIII", 0xA1B2C3D4, 2, 4, 0, 0, 262144, 101))
+    def destinations():
         state = 1
-        for n in range(packets):
+        for _ in range(packets):
             state = (state * 6364136223846793005 + 1442695040888963407) % 2**64
-            to = destination((state >> 32) % (2 * rules))[1:] + b"\x09"
-            octets = bytes.fromhex("45000028 00000000 40060000 cb007105") + to + bytes.fromhex(
-                "c3500019 00000000 00000000 50022000 00000000"
-            )
-            out.write(struct.pack("<IIII", n // 1000000, n % 1000000, len(octets), len(octets)) + octets)
+            yield slash24((state >> 32) % (2 * rules))[1:] + b"\x09"
+    write_capture(path, (packet(destination, 25) for destination in destinations()))
 
 
 def seconds_of(program, folder, tape, runs):
-    """The least seconds of the clock and of the processor of so many runs."""
+    """What so many runs take at least."""
     (folder / "tape").write_bytes(tape)
-    words = [str(folder / name) for name in ("config", "tape", "capture")]
-    times = []
-    for _ in range(runs):
-        begin, used = time.monotonic(), resource.getrusage(resource.RUSAGE_CHILDREN)
-        done = subprocess.run([program, "enforce", *words], stdout=subprocess.DEVNULL)
-        took, uses = time.monotonic() - begin, resource.getrusage(resource.RUSAGE_CHILDREN)
-        if done.returncode != 0:
-            sys.exit(f"status {done.returncode}")
-        times.append((took, uses.ru_utime + uses.ru_stime - used.ru_utime - used.ru_stime))
-    return [min(each) for each in zip(*times)]
+    return best_of(runs, [program, "enforce", *(folder / name for name in ("config", "tape", "capture"))])
 
 
 def main():
@@ -203,15 +148,15 @@ def main():
         for rules in [int(word) for word in asked.rules.split(",")]:
             capture(folder / "capture", asked.packets, rules)
             front = start(rules)
-            alone, _ = seconds_of(asked.program, folder, front, asked.runs)
-            churned, _ = seconds_of(asked.program, folder, front + churn(asked.packets, asked.items), asked.runs)
-            print(f"{rules} rules: {asked.packets / alone:.0f} packets a second without items,", end=" ")
-            print(f"{asked.packets / churned:.0f} with {asked.items} items that change no validity", flush=True)
+            alone = seconds_of(asked.program, folder, front, asked.runs)
+            churned = seconds_of(asked.program, folder, front + churn(asked.packets, asked.items), asked.runs)
+            print(f"{rules} rules: {asked.packets / alone.clock:.0f} packets a second without items,", end=" ")
+            print(f"{asked.packets / churned.clock:.0f} with {asked.items} items that change no validity", flush=True)
             items = min(asked.items, max(200, 20000000 // max(rules, 1) // 10))
             for name, told in CHANGES.items():
                 none = seconds_of(asked.program, folder, front + changes(asked.packets, 0, told), asked.runs)
                 all_of = seconds_of(asked.program, folder, front + changes(asked.packets, items, told), asked.runs)
-                print(f"    {items} changes {name}: {(all_of[1] - none[1]) / items * 1e6:.1f} us each", flush=True)
+                print(f"    {items} changes {name}: {(all_of.processor - none.processor) / items * 1e6:.1f} us each", flush=True)
 
 
 if __name__ == "__main__":

@@ -13,30 +13,27 @@ import argparse
 import pathlib
 import tempfile
 
-from convert import run
-from enforce import CONFIG
+from timing import best_of
+from wire import CONFIG, frame, slash24
 
 HEAD = "id = \"198.51.100.1\"\nas_path = [65001]\n"
 
 
 def nlri_of(number):
-    prefix = bytes([1, 24, 10 + number // 65536 % 2, number // 256 % 256, number % 256])
-    nlri = prefix + bytes.fromhex("038106") + bytes.fromhex("048119")
-    return bytes([len(nlri)]).hex() + nlri.hex()
+    return frame(b"\1" + slash24(number % 131072) + bytes.fromhex("038106 048119")).hex()
 
 
 def rule(number):
     return f"[[rule]]\nfamily = \"v4\"\nnlri = \"{nlri_of(number)}\"\nactions = \"8006fde900000000\"\n"
 
 
-def best_of(program, folder, rules, runs):
+def over_loopback(program, folder, rules, runs):
     (folder / "rules").write_text(HEAD + "".join(map(rule, range(rules))))
-    words = [program, "pair", str(folder / "config"), str(folder / "rules")]
-    times = [run(words, str(folder / "listing")) for _ in range(runs)]
+    taken = best_of(runs, [program, "pair", folder / "config", folder / "rules"], folder / "listing")
     lines = (folder / "listing").read_text().count("\nv4 ")
     if lines != rules:
         raise SystemExit(f"{lines} rules listed of {rules}")
-    return min(seconds for seconds, _ in times), max(kilobytes for _, kilobytes in times)
+    return taken
 
 
 def case_of(rules):
@@ -52,16 +49,16 @@ def case_of(rules):
 
 def in_memory(program, folder, rules, runs):
     (folder / "case").write_text(case_of(rules))
-    times = [run([program, str(folder / "case")], str(folder / "told")) for _ in range(runs)]
+    taken = best_of(runs, [program, folder / "case"], folder / "told")
     if "1 cases, 0 differ" not in (folder / "told").read_text():
         raise SystemExit((folder / "told").read_text()[:400])
-    return min(seconds for seconds, _ in times), max(kilobytes for _, kilobytes in times)
+    return taken
 
 
-def tell(kind, rules, seconds, base, most):
-    net = max(seconds - base, 1e-9)
-    pace = f"{rules / seconds:9.0f} rules/s  {rules / net:9.0f} net"
-    print(f"{kind} {rules:8} rules  {seconds:7.3f} s  {pace}  {most} kB resident")
+def tell(kind, rules, taken, none):
+    net = max(taken.clock - none.clock, 1e-9)
+    pace = f"{rules / taken.clock:9.0f} rules/s  {rules / net:9.0f} net"
+    print(f"{kind} {rules:8} rules  {taken.clock:7.3f} s  {pace}  {taken.peak} kB resident")
 
 
 def main():
@@ -74,14 +71,12 @@ def main():
     with tempfile.TemporaryDirectory() as name:
         folder = pathlib.Path(name)
         (folder / "config").write_text(CONFIG)
-        base, _ = best_of(options.program, folder, 0, options.runs)
+        none = over_loopback(options.program, folder, 0, options.runs)
         for rules in map(int, options.rules.split(",")):
-            seconds, most = best_of(options.program, folder, rules, options.runs)
-            tell("loopback", rules, seconds, base, most)
+            tell("loopback", rules, over_loopback(options.program, folder, rules, options.runs), none)
             if options.memory:
-                start, _ = in_memory(options.memory, folder, 0, options.runs)
-                seconds, most = in_memory(options.memory, folder, rules, options.runs)
-                tell("memory  ", rules, seconds, start, most)
+                start = in_memory(options.memory, folder, 0, options.runs)
+                tell("memory  ", rules, in_memory(options.memory, folder, rules, options.runs), start)
 
 
 if __name__ == "__main__":

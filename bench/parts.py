@@ -21,9 +21,8 @@ import sys
 import tempfile
 import time
 
-from changes import EMPTY_CAPTURE
-from enforce import CONFIG
 from moments import CHANGES, capture, changes, start
+from wire import CONFIG, EMPTY_CAPTURE
 
 TOOL = str(pathlib.Path(__file__).resolve().parent.parent / "tools" / "verdicts.py")
 JUDGE = "./welgutan enforce peers.toml sessions.tape {}"

@@ -1,8 +1,9 @@
 #!/usr/bin/env python3
-"""peer.py PROGRAM: a BGP speaker on loopback that PROGRAM listens to and announces to, in ways that a router may take.
+"""peer.py PROGRAM [--quick]: a BGP speaker on loopback that PROGRAM listens to and announces to, in ways that a router may take.
 
-Each case lasts some seconds at most, on a port that was free, and checks what the program wrote, its status, and what
-reached the peer. A listing has to be that of `rules` on a tape of the same octets. The last line counts the cases.
+Each case has a port that was free, and checks what the program wrote, its status, and what reached the peer. A listing
+has to be that of `rules` on a tape of the same octets. The last line counts the cases, which run side by side for some
+three minutes: so long the program waits for a peer that never reads. With --quick that one is left out.
 """
 import pathlib
 import socket
@@ -13,21 +14,14 @@ import tempfile
 import threading
 import time
 
-from draws import MARKER, message, record
+import wire
+from wire import KEEPALIVE, MARKER, ORIGIN, TAPE, UP, V4_RULES, frame, message, reach, record, update
 
 PROGRAM = str(pathlib.Path(sys.argv[1] if len(sys.argv) > 1 else "crates/welgutan/out/welgutan").resolve())
-PATIENCE = 120
-CONFIG = """local_as = 65000
-local_id = "192.0.2.254"
-allow_no_destination = true
-hold_time = {}
-[[peer]]
-number = 1
-address = "198.51.100.1"
-as = 65001
-"""
+PATIENCE = 400
+CONFIG = "allow_no_destination = true\nhold_time = {}\n" + wire.CONFIG
 RULES = 'id = "198.51.100.1"\nas_path = [65001]\n'
-KEEPALIVE, CEASE = message(4, b""), message(3, bytes([6, 2]))
+CEASE = message(3, bytes([6, 2]))
 
 
 def open_message(asn, hold_time=0):
@@ -40,9 +34,7 @@ def open_message(asn, hold_time=0):
 def rule_update(port):
     """UPDATE of one rule, UDP to a port, by MP_REACH_NLRI (RFC 4760 section 3, RFC 8955 section 4)."""
     rule = bytes.fromhex("0381110591") + struct.pack(">H", port)
-    reach = struct.pack(">HBBB", 1, 133, 0, 0) + bytes([len(rule)]) + rule
-    attributes = bytes.fromhex("400101004002040201fde9") + bytes([0x80, 14, len(reach)]) + reach
-    return message(2, struct.pack(">HH", 0, len(attributes)) + attributes)
+    return update(b"", ORIGIN + bytes.fromhex("4002040201fde9") + reach(V4_RULES, frame(rule)))
 
 
 UPDATES = b"".join(rule_update(port) for port in (53, 123, 389))
@@ -71,7 +63,7 @@ def listing(octets, hold_time=0):
     with tempfile.TemporaryDirectory() as folder:
         path = pathlib.Path(folder)
         (path / "config").write_text(CONFIG.format(hold_time))
-        (path / "tape").write_bytes(b"FSTAPE1\n" + record(1, 1, b"") + record(2, 1, octets))
+        (path / "tape").write_bytes(TAPE + record(UP) + wire.says(octets))
         run = subprocess.run([PROGRAM, "rules", "config", "tape"], cwd=path, capture_output=True, timeout=PATIENCE)
         return run.stdout.decode(), run.returncode
 
@@ -121,17 +113,19 @@ def listened(behave, hold_time=0, host="127.0.0.1", family=socket.AF_INET):
     return run.end()
 
 
-def announced(behave, rules=1, hold_time=0):
-    """What the program says that announces, and what the peer answers that behaves so."""
+def announced(behave, rules=1, hold_time=0, stays=False):
+    """What the program says that announces, and what the peer answers that behaves so, and closes then unless it stays."""
     with socket.create_server(("127.0.0.1", 0)) as server:
         server.settimeout(PATIENCE)
         server.setsockopt(socket.SOL_SOCKET, socket.SO_RCVBUF, 4096)  # so that the rules don't all fit on the way
         run = Run(["announce", "config", "rules", f"127.0.0.1:{server.getsockname()[1]}"], hold_time, rules)
         end, _ = server.accept()
-        end.settimeout(PATIENCE)
-        seen = behave(end)
-        end.close()
-        return run.end(), seen
+        with end:
+            end.settimeout(PATIENCE)
+            seen = behave(end)
+            if not stays:
+                end.close()
+            return run.end(), seen
 
 
 def updates_in(octets):
@@ -174,6 +168,11 @@ def slowly(end):
     return updates_in(heard(end))
 
 
+def reads_nothing(end):
+    """Takes the session up, and reads nothing at all."""
+    end.sendall(REPLY)
+
+
 def dripping(end):
     """Reads all, and goes on sending an octet at a time for some seconds."""
     end.sendall(REPLY)
@@ -199,6 +198,15 @@ def refuses(asn):
     return behave
 
 
+def heard_last(octets):
+    """A peer that says this, and hears the program out: the last message that it hears."""
+    def behave(end):
+        end.sendall(octets)
+        came = heard(end)
+        return came[came.rindex(MARKER):]
+    return behave
+
+
 def case_silent():
     """A peer that is silent for longer than the hold time, and says something then (RFC 4271 section 6.5)."""
     def behave(end):
@@ -217,14 +225,14 @@ def case_refused():
 
 def case_keepalive_due():
     """A close more than a third of the hold time behind the last KEEPALIVE: the answer that is due meets no reader."""
-    octets = open_message(65001, 3) + KEEPALIVE + UPDATES
+    octets = open_message(65001, 30) + KEEPALIVE + UPDATES
 
     def behave(end):
         end.sendall(octets)
         heard(end, 60)
-        time.sleep(1.5)
+        time.sleep(10.5)
         end.close()
-    return listened(behave, hold_time=3) == listing(octets, 3)
+    return listened(behave, hold_time=30) == listing(octets, 30)
 
 
 CASES = {
@@ -243,6 +251,14 @@ CASES = {
     "a reset in answer to the OPEN": lambda: announced(reset)[0] == ("session ended\n", 8),
     "a wrong AS": lambda: announced(refuses(65000))[0] == ("session notified 2/2\n", 8),
     "a wrong AS at both ends": lambda: announced(refuses(65009))[0] == ("session 2/2\n", 8),
+    "a wrong AS is told": lambda: announced(heard_last(open_message(65009))) == (("session 2/2\n", 8), message(3, b"\2\2")),
+    "a wrong message is told": lambda: announced(heard_last(KEEPALIVE)) == (("session 5/0\n", 8), message(3, b"\5\0")),
+}
+
+
+# The system keeps all of these rules on the way.
+LONG_CASES = {
+    "3,000 rules to a peer that never reads": lambda: announced(reads_nothing, 3000, stays=True)[0] == ("sent 3000\n", 0),
 }
 
 
@@ -255,18 +271,18 @@ def tried(name, case, outcomes):
 
 
 def main():
-    outcomes = {}
-    threads = [threading.Thread(target=tried, args=(name, case, outcomes)) for name, case in CASES.items()]
+    outcomes, cases = {}, CASES | ({} if "--quick" in sys.argv[2:] else LONG_CASES)
+    threads = [threading.Thread(target=tried, args=(name, case, outcomes)) for name, case in cases.items()]
     for thread in threads:
         thread.start()
     for thread in threads:
         thread.join()
-    for name in CASES:
+    for name in cases:
         if not outcomes[name]:
             print(f"not as it should be: {name}")
     passed = sum(outcomes.values())
-    print(f"{passed} passed, {len(CASES) - passed} failed")
-    return 0 if passed == len(CASES) else 1
+    print(f"{passed} passed, {len(cases) - passed} failed")
+    return 0 if passed == len(cases) else 1
 
 
 if __name__ == "__main__":

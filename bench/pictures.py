@@ -12,7 +12,6 @@ Figures are printed as they are measured. A picture whose tool, gnuplot or tcpdu
 """
 
 import argparse
-import os
 import pathlib
 import random
 import shutil
@@ -22,9 +21,10 @@ import sys
 import tempfile
 
 import moments
-from changes import EMPTY_CAPTURE, START, with_rules
-from enforce import CONFIG, OPEN, PATH, message
+from changes import START, with_rules
 from load import spent
+from timing import best_of
+from wire import CONFIG, EMPTY_CAPTURE, TIMED_TAPE, announce, flow, no_flow, pcap_record, says, slash24, up
 
 ROOT = pathlib.Path(__file__).resolve().parent.parent
 DOCS = ROOT / "docs"
@@ -100,31 +100,27 @@ def second_of(number, drawn):
 
 def write_attack(path, drawn):
     with open(path, "wb") as out:
-        out.write(struct.pack("<IHHIIII", 0xA1B2C3D4, 2, 4, 0, 0, 262144, 101))
+        out.write(EMPTY_CAPTURE)
         for number in range(60 * MINUTES):
             packets = second_of(number, drawn)
             for place, octets in enumerate(packets):
                 micros = place * 1000000 // len(packets)
                 length = struct.unpack(">H", octets[2:4])[0]
-                out.write(struct.pack("<IIII", BEGIN + number, micros, len(octets), length) + octets)
+                out.write(pcap_record(octets, BEGIN + number, micros, length))
 
 
 def changes_of(rule):
     """The UPDATEs with which a rule comes and goes, each with its second."""
     comes, goes, value, community = rule
-    nlri = bytes([len(value)]) + value
-    actions = bytes.fromhex("c010 08") + community
-    reach = moments.attribute(14, bytes.fromhex("0001850000") + nlri)
-    yield comes, moments.update(b"", reach + PATH + actions, b"")
-    yield goes, moments.update(b"", moments.attribute(15, bytes.fromhex("000185") + nlri), b"")
+    yield comes, flow(value, bytes.fromhex("c010 08") + community)
+    yield goes, no_flow(value)
 
 
 def attack_tape():
-    parts = [b"FSTAPE2\n", moments.record(1, 0), moments.record(2, 0, message(1, OPEN) + message(4, b""))]
-    parts.append(moments.record(2, 0, moments.route_comes(bytes([24, 192, 0, 2]))))
+    parts = [TIMED_TAPE, up(moment=0), says(announce(bytes([24, 192, 0, 2])), moment=0)]
     changes = [change for rule in RULES for change in changes_of(rule)]
     for second, update in sorted(changes, key=lambda change: change[0]):
-        parts.append(moments.record(2, (BEGIN + second) * 10**9, update))
+        parts.append(says(update, moment=(BEGIN + second) * 10**9))
     return b"".join(parts)
 
 
@@ -143,29 +139,16 @@ def verdicts(options, folder):
 # Speed beside tcpdump
 
 
-def processor_seconds(words, runs):
-    """The least user and system seconds of some runs of a command."""
-    found = []
-    for _ in range(runs):
-        child = subprocess.Popen(words, stdout=subprocess.DEVNULL, stderr=subprocess.DEVNULL)
-        _, status, used = os.wait4(child.pid, 0)
-        child.returncode = os.waitstatus_to_exitcode(status)
-        if child.returncode != 0:
-            sys.exit(f"{words[0]} ended with status {child.returncode}")
-        found.append(used.ru_utime + used.ru_stime)
-    return min(found)
-
-
 def rate(words, options, folder):
     """Packets a second of a command whose word CAPTURE stands for the packets, and then for none."""
     with_packets, without = (
-        processor_seconds([str(folder / name) if word == "CAPTURE" else word for word in words], options.runs)
+        best_of(options.runs, [folder / name if word == "CAPTURE" else word for word in words]).processor
         for name in ("capture", "empty"))
     return options.packets / max(with_packets - without, 1e-9)
 
 
 def filter_of(rules):
-    nets = (".".join(map(str, moments.destination(number)[1:])) for number in range(rules))
+    nets = (".".join(map(str, slash24(number)[1:])) for number in range(rules))
     return "not (" + " or ".join(f"dst net {net}.0/24" for net in nets) + ")"
 
 

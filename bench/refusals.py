@@ -16,20 +16,16 @@ import collections
 import os
 import pathlib
 import socket
-import struct
 import subprocess
 import sys
 import tempfile
 import threading
 
 from convert import mrt
-from enforce import OPEN, PATH, UNICAST, message, packet, record
-from pcapng import block
+from wire import (EMPTY_CAPTURE, HEAD, KEEPALIVE, OPENING, TAPE, TIMED_TAPE, announce, flow, interface_block, message, packet,
+                  packet_block, pcap_record, peer, says, section_block, up)
 
-CONFIG = "local_as = 65000\nlocal_id = \"192.0.2.254\"\n" + "".join(
-    f"[[peer]]\nnumber = {n}\naddress = \"198.51.100.{n}\"\nas = {number}\n"
-    for n, number in ((1, 65001), (2, 65002), (3, 65000))
-)
+CONFIG = HEAD + peer(1, 65001) + peer(2, 65002) + peer(3, 65000)
 RULES = """id = "198.51.100.1"
 as_path = [65001]
 [[rule]]
@@ -45,43 +41,26 @@ HIDDEN = bytes.fromhex("09 0118c00002 03910011")
 CAPABILITIES = bytes.fromhex("20 021e 010400010001 010400010085 010400020001 010400020085")
 ANNOUNCER = message(1, bytes.fromhex("04 fde9 0000 c6336401") + CAPABILITIES + bytes.fromhex("41040000fde9"))
 RECEIVER = message(1, bytes.fromhex("04 fde8 0000 c00002fe") + CAPABILITIES + bytes.fromhex("41040000fde8"))
-KEEPALIVE = message(4, b"")
-NETWORK = message(2, UNICAST)
+NETWORK = announce(bytes([24, 192, 0, 2]))
 TEXT = "v4 dst 192.0.2.0/24 proto =6 port =25 then bytes 65001:00000000"
 
 
-def flow(nlri):
-    reach = bytes.fromhex("0001 85 00 00") + nlri
-    attributes = b"\x80\x0e" + bytes([len(reach)]) + reach + PATH + bytes.fromhex("c01008 8006fde900000000")
-    return message(2, b"\0\0" + struct.pack(">H", len(attributes)) + attributes)
-
-
-def later(kind, seconds, payload=b""):
-    """A record of a tape of version 2, of peer 1."""
-    return struct.pack(">BHQI", kind, 1, seconds * 10**9, len(payload)) + payload
-
-
 def write_inputs(folder):
-    start = message(1, OPEN) + KEEPALIVE
     octets = packet(bytes([192, 0, 2, 9]), 25)
-    header = struct.pack("<IHHIIII", 0xA1B2C3D4, 2, 4, 0, 0, 262144, 101)
-    early, caught = (struct.pack("<IIII", seconds, 0, len(octets), len(octets)) + octets for seconds in (0, 1))
-    head = struct.pack("<IIIII", 0, 0, 10**6, len(octets), len(octets))
+    one, start = flow(MAIL[1:]), OPENING + NETWORK
     files = {
         "peers.toml": CONFIG.encode(),
         "rules.toml": RULES.encode(),
-        "first.tape": b"FSTAPE1\n" + record(1, 1) + record(2, 1, start + NETWORK + flow(MAIL)),
-        "hiding.tape": b"FSTAPE1\n" + record(1, 1) + record(2, 1, start + NETWORK + flow(HIDING) + flow(HIDDEN)),
-        "late.tape": b"FSTAPE2\n" + later(1, 0) + later(2, 0, start + NETWORK) + later(2, 1, flow(MAIL)),
-        "mail.pcap": header + caught,
-        "two.pcap": header + early + caught,
-        "mail.pcapng": block(0x0A0D0D0A, struct.pack("<IHHq", 0x1A2B3C4D, 1, 0, -1))
-        + block(1, struct.pack("<HHI", 101, 0, 262144)) + block(6, head + octets),
-        "seen.mrt": mrt(1, 4, 1, NETWORK) + mrt(2, 4, 1, flow(MAIL)),
+        "first.tape": TAPE + up() + says(NETWORK + one),
+        "hiding.tape": TAPE + up() + says(NETWORK + flow(HIDING[1:]) + flow(HIDDEN[1:])),
+        "late.tape": TIMED_TAPE + up(moment=0) + says(NETWORK, moment=0) + says(one, moment=10**9),
+        "mail.pcap": EMPTY_CAPTURE + pcap_record(octets, 1),
+        "two.pcap": EMPTY_CAPTURE + pcap_record(octets) + pcap_record(octets, 1),
+        "mail.pcapng": section_block() + interface_block() + packet_block(octets, 10**6),
+        "seen.mrt": mrt(1, 4, 1, NETWORK) + mrt(2, 4, 1, one),
     }
     for name, content in files.items():
         (folder / name).write_bytes(content)
-    return start
 
 
 class Other:
@@ -137,7 +116,7 @@ class Runs:
     def __init__(self, program, folder):
         self.program = program
         self.folder = folder
-        self.start = write_inputs(folder)
+        write_inputs(folder)
         self.preload = str(folder / "refusals.so")
         source = pathlib.Path(__file__).resolve().with_name("refusals.c")
         subprocess.run(["cc", "-O2", "-shared", "-fPIC", "-o", self.preload, str(source), "-ldl"], check=True)
@@ -146,7 +125,7 @@ class Runs:
         """The status of a run, and what it wrote."""
         other = None
         if words[0] in ("announce", "listen"):
-            said = RECEIVER + KEEPALIVE if words[0] == "announce" else self.start + NETWORK + flow(MAIL)
+            said = RECEIVER + KEEPALIVE if words[0] == "announce" else OPENING + NETWORK + flow(MAIL[1:])
             other = Other(words[0], said)
             words = [*words, f"127.0.0.1:{other.address[1]}"]
         named = {**os.environ, "LD_PRELOAD": self.preload, **variables}

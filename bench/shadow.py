@@ -9,43 +9,15 @@ one, for UDP to a port. `rules` plays the same tape and lists the rules, so that
 """
 
 import argparse
-import os
 import pathlib
 import struct
-import subprocess
 import sys
 import tempfile
 
-CONFIG = """local_as = 65000
-local_id = "192.0.2.254"
-[[peer]]
-number = 1
-address = "198.51.100.1"
-as = 65001
-"""
+from timing import best_of
+from wire import CONFIG, TAPE, announce, flow, says, up
 
 COUNTS = [1_000, 100_000]
-MARKER = b"\xff" * 16
-PATH = bytes.fromhex("40010100 400206 02010000fde9")
-OPEN = bytes.fromhex("04 fde9 00b4 c6336401 08 0206 41040000fde9")
-UNICAST = bytes.fromhex("0000 0014 40010100 400206 02010000fde9 400304c6336401 080a")
-
-
-def message(kind, body):
-    return MARKER + struct.pack(">HB", 19 + len(body), kind) + body
-
-
-def record(kind, peer, payload=b""):
-    return struct.pack(">BHI", kind, peer, len(payload)) + payload
-
-
-def flow_update(components):
-    nlri = bytes([len(components)]) + components
-    reach = bytes.fromhex("0001 85 00 00") + nlri
-    attributes = b"\x80\x0e" + bytes([len(reach)]) + reach + PATH
-    return message(2, b"\0\0" + struct.pack(">H", len(attributes)) + attributes)
-
-
 def rules(count):
     """The components of so many rules, two of every tenth destination."""
     made = 0
@@ -64,34 +36,19 @@ def rules(count):
 
 def tape(count):
     """The tape, and how many of its rules can never act."""
-    parts = [b"FSTAPE1\n", record(1, 1), record(2, 1, message(1, OPEN) + message(4, b""))]
-    parts.append(record(2, 1, message(2, UNICAST)))
+    parts = [TAPE, up(), says(announce(b"\x08\x0a"))]
     covered = 0
     for components in rules(count):
         covered += components.endswith(bytes.fromhex("03910011"))
-        parts.append(record(2, 1, flow_update(components)))
+        parts.append(says(flow(components, b"")))
     return b"".join(parts), covered
 
 
-def run_once(program, word, folder):
-    """What one run writes, its processor seconds and its peak of memory in kilobytes."""
-    command = [program, word, folder / "peers.toml", folder / "rules.tape"]
-    with subprocess.Popen(command, stdout=subprocess.PIPE) as running:
-        text = running.stdout.read()
-        _, status, used = os.wait4(running.pid, 0)
-        running.returncode = os.waitstatus_to_exitcode(status)
-    if running.returncode != 0:
-        sys.exit(f"{word} ended with status {running.returncode}")
-    return text, used.ru_utime + used.ru_stime, used.ru_maxrss
-
-
 def best(program, word, folder, runs):
-    outcomes = [run_once(program, word, folder) for _ in range(runs)]
-    return (
-        outcomes[0][0],
-        min(seconds for _, seconds, _ in outcomes),
-        max(peak for _, _, peak in outcomes),
-    )
+    """What a run writes, the least processor seconds, and the peak of memory in kilobytes."""
+    words = [program, word, folder / "peers.toml", folder / "rules.tape"]
+    _, seconds, peak = best_of(runs, words, folder / "told")
+    return (folder / "told").read_bytes(), seconds, peak
 
 
 def main():

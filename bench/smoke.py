@@ -4,7 +4,8 @@
     bench/smoke.py PROGRAM [--only WORDS]
 
 What they print is no figure of anything. A script that ends otherwise than with 0 is told with what it said, and the
-status is 1 then. What lacks a tool is skipped with a line.
+status is 1 then; so it is where a script beside this one is run neither here nor by `.ci/run`. What lacks a tool is
+skipped with a line.
 """
 
 import argparse
@@ -35,8 +36,15 @@ RUNS = [
     ("pictures.py --into FOLDER --only load --rules 10000,20000 --runs 1", ["gnuplot"]),
     ("refusals.py --only shadow", ["cc"]),
     ("shadow.py --runs 1 20", []),
-    ("verdicts.py --packets 1000 --rules 10", ["/usr/bin/time"]),
+    ("verdicts.py --packets 1000 --rules 10", []),
 ]
+
+
+def run_by_nothing():
+    """The scripts beside this one that neither `.ci/run` nor this one runs; `compare.py` calls what `plain.py` does."""
+    told = "bench/plain.py " + (BENCH.parent / ".ci" / "run").read_text() + "".join(f"bench/{line}" for line, _ in RUNS)
+    return [path.name for path in sorted(BENCH.glob("*.py"))
+            if "__main__" in path.read_text() and f"bench/{path.name} " not in told]
 
 
 def ends_well(program, folder, line):
@@ -54,7 +62,10 @@ def main():
     parser.add_argument("program", type=pathlib.Path)
     parser.add_argument("--only", default="")
     options = parser.parse_args()
-    are_well = True
+    unrun = run_by_nothing()
+    if unrun:
+        print(f"run by nothing: {', '.join(unrun)}")
+    are_well = not unrun
     with tempfile.TemporaryDirectory() as name:
         for line, tools in RUNS:
             missing = [tool for tool in tools if shutil.which(tool) is None]

@@ -9,31 +9,18 @@ Reported are packets per processor second, start and end included, and the peak,
 import argparse
 import pathlib
 import subprocess
-import sys
 import tempfile
 
-from enforce import CONFIG, tape, write_capture
+from enforce import port_packets, tape
+from timing import best_of
+from wire import CONFIG, write_capture
 
 TOOL = str(pathlib.Path(__file__).resolve().parent.parent / "tools" / "verdicts.py")
-TIME = "/usr/bin/time"
-
-
-def spent(words, folder, runs):
-    """The least processor seconds of some runs, and the peak of memory in kilobytes."""
-    told = folder / "told"
-    seconds, peak = [], 0
-    for _ in range(runs):
-        if subprocess.run([TIME, "-f", "%U %S %M", "-o", told, *words], stdout=subprocess.DEVNULL).returncode != 0:
-            sys.exit(f"{words[0]} ended with another status than 0")
-        user, system, kilobytes = told.read_text().split()
-        seconds.append(float(user) + float(system))
-        peak = max(peak, int(kilobytes))
-    return min(seconds), peak
 
 
 def measure(program, packets, options, folder):
     capture, lines = folder / "capture", folder / "lines"
-    write_capture(capture, packets, options.rules)
+    write_capture(capture, port_packets(packets, options.rules))
     with open(lines, "wb") as out:
         subprocess.run([program, "enforce", folder / "config", folder / "tape", capture], stdout=out, check=True)
     ways = {
@@ -43,7 +30,7 @@ def measure(program, packets, options, folder):
         "join": [TOOL, "--join", f"{lines}={capture}"],
     }
     for name, words in ways.items():
-        seconds, peak = spent(words, folder, options.runs)
+        _, seconds, peak = best_of(options.runs, words)
         print(f"{name}: {packets} packets, {seconds:.2f} s, {packets / seconds:,.0f} a second, {peak / 1024:.1f} MB",
               flush=True)
 

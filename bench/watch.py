@@ -16,10 +16,10 @@ import sys
 import tempfile
 from typing import Callable, NamedTuple
 
-import enforce
 import hostile
 import moments
-from timing import Ended, processor_seconds
+from timing import Ended, run as timed
+from wire import CONFIG, KEEPALIVE, TAPE, says, up
 
 
 class Run(NamedTuple):
@@ -32,7 +32,7 @@ class Run(NamedTuple):
 def changes(name, rules, items):
     """Items between packets, one before each, beside so many rules."""
     def write(folder):
-        (folder / "config").write_text(enforce.CONFIG)
+        (folder / "config").write_text(CONFIG)
         tape = moments.start(rules) + moments.changes(items, items, moments.CHANGES[name])
         (folder / "tape").write_bytes(tape)
         moments.capture(folder / "capture", items, rules)
@@ -41,9 +41,8 @@ def changes(name, rules, items):
 
 def keepalives(rules, items):
     def write(folder):
-        (folder / "config").write_text(enforce.CONFIG)
-        message = enforce.message(4, b"")
-        items_of = (moments.record(2, moment, message) for moment in moments.moments(items, items))
+        (folder / "config").write_text(CONFIG)
+        items_of = (says(KEEPALIVE, moment=moment) for moment in moments.moments(items, items))
         (folder / "tape").write_bytes(moments.start(rules) + b"".join(items_of))
         moments.capture(folder / "capture", items, rules)
     return write
@@ -54,7 +53,7 @@ def shape(make, count):
     def write(folder):
         tape, capture = make(count)
         (folder / "config").write_text(hostile.peers(4))
-        (folder / "tape").write_bytes(hostile.MAGIC + tape)
+        (folder / "tape").write_bytes(TAPE + tape)
         (folder / "capture").write_bytes(capture)
     return write
 
@@ -63,8 +62,8 @@ def two_paths(rules, turns):
     """Two paths of one network in turn, beside so many rules for it, of which no validity changes."""
     def made(_):
         front, capture = hostile.two_paths_in_turn(2)
-        shown = len(hostile.up(1)) + sum(map(len, hostile.rules_for(NETWORK, 2)))
-        return hostile.up(1) + b"".join(hostile.rules_for(NETWORK, rules)) + front[shown:] * (turns // 2), capture
+        shown = len(up()) + sum(map(len, hostile.rules_for(NETWORK, 2)))
+        return up() + b"".join(hostile.rules_for(NETWORK, rules)) + front[shown:] * (turns // 2), capture
     return shape(made, turns)
 
 
@@ -83,7 +82,7 @@ FILES = {"enforce": ("config", "tape", "capture"), "changes": ("config", "tape")
 def has_changes(program, folder):
     """Whether the program has the command: words that are none end with 2."""
     try:
-        processor_seconds([program, "changes", folder / "none", folder / "none"], status=2)
+        timed([program, "changes", folder / "none", folder / "none"], status=2)
     except Ended:
         return True
     return False
@@ -96,7 +95,7 @@ def over_limit(program, run, folder, factor, commands):
     for command in (each for each in run.commands if each in commands):
         limit = run.limit * factor
         try:
-            spent = processor_seconds([program, command, *(folder / name for name in FILES[command])], limit)
+            spent = timed([program, command, *(folder / name for name in FILES[command])], limit=limit).processor
             told, is_over = f"{spent:.2f} of {limit:g} processor seconds", spent > limit
         except Ended as ended:
             told, is_over = f"{ended}, of {limit:g}", True
