@@ -22,11 +22,12 @@ check:
 install:
 	@test -x $(PROGRAM) || { echo "$(PROGRAM) isn't there: run make first, with the kit's rt on the path" >&2; exit 1; }
 	install -D -m 755 $(PROGRAM) $(BIN)/welgutan
-	install -d -m 755 $(SHARE)/tools/welgutan $(SHARE)/units $(MAN) $(DOC)/docs
+	install -d -m 755 $(SHARE)/tools/welgutan $(SHARE)/units $(SHARE)/grafana $(MAN) $(DOC)/docs
 	install -m 755 tools/verdicts.py tools/nft.py $(SHARE)/tools
 	install -m 644 tools/captures.py $(SHARE)/tools
 	install -m 644 $(PACKAGE) $(SHARE)/tools/welgutan
 	install -m 644 tools/units/welgutan.service $(SHARE)/units
+	install -m 644 tools/grafana/welgutan.json $(SHARE)/grafana
 	ln -sf ../share/welgutan/tools/verdicts.py $(BIN)/welgutan-verdicts
 	ln -sf ../share/welgutan/tools/nft.py $(BIN)/welgutan-nft
 	tools/man.py $(MAN)

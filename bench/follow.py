@@ -9,7 +9,8 @@ them, in batches. At some moments frames go through a device with the follower's
 of `tools/nft.py`: each rule's counter, summed over the moments, and the frames that are left, octet for octet, have to
 be the same. The places and words of lines come from the plain reading. Mistakes are planted, and have to be told. Then
 the command is tried by itself: who owns the table, what becomes of it at each end, devices that go, output that nobody
-reads, lines that don't fit, what a service manager is told. With --measure it tells what a change and a frame take.
+reads, lines that don't fit, what a service manager is told; and `--with-ends`, by records that are made up. With --measure
+it tells what a change and a frame take.
 
 It judges what happens, and not how soon. All happens in a network namespace of this process alone, which goes with it.
 Where there is no root, `ip`, `nft` or such a namespace it is skipped.
@@ -27,7 +28,9 @@ from types import SimpleNamespace
 from unittest import mock
 
 import follow_command
+import follow_ends
 import follow_measure
+import headers
 import kernel
 import plain
 import plain_rules
@@ -66,7 +69,7 @@ def draw_prefix(draw, family, address, lengths):
 def draw_plain(draw, frame):
     """Words of a rule that can be an element and that the frame matches, or None where it has no ports."""
     try:
-        packet = view(1, frame)
+        packet = view(1, frame.octets)
     except Unread:
         return None
     if packet.protocol is None:
@@ -194,7 +197,7 @@ class Pairs:
             came = {}
             for begin in range(0, len(frames), kernel.BATCH):
                 for frame in frames[begin:begin + kernel.BATCH]:
-                    first.send(frame)
+                    first.send(frame.octets)
                 came |= kernel.received(last)
             left.append((last, came))
         time.sleep(0.05)
@@ -213,7 +216,7 @@ class Sequence:
         self.draw = random.Random(f"follow {seed}")
         self.draw.has_faults = False
         self.pairs, self.check = pairs, check
-        self.frames = [kernel.draw_frame(self.draw, number) for number in range(400)]
+        self.frames = [headers.draw_frame(self.draw, number) for number in range(400)]
         self.pool = draw_pool(self.draw, 60, self.frames)
         self.standing, self.wanted = Standing(), collections.Counter()
         self.lists = follower.Lists()
@@ -264,7 +267,7 @@ class Sequence:
                 found = self.table.asked_counts(held)[0] if held.acts() else 0
                 self.compared += 1
                 if found != self.wanted[rule]:
-                    yield f"{held.words()} counted {found} and not {self.wanted[rule]}, as {held.state}"
+                    yield f"{held.words} counted {found} and not {self.wanted[rule]}, as {held.state}"
 
 
 # Mistakes that are planted
@@ -359,7 +362,7 @@ def unknown_expression(right):
     """Of one rule the octets that no kernel knows."""
     def wrong(self, line, held):
         octets = right(self, line, held)
-        return expressions.expression("unheard", b"") + octets if held.words() == REFUSED else octets
+        return expressions.expression("unheard", b"") + octets if held.words == REFUSED else octets
     return wrong
 
 
@@ -393,7 +396,7 @@ def command(options):
         follow_command.try_all(pathlib.Path(folder), options.step)
 
 
-PARTS = {"sequences": sequences, "refusal": refusal, "command": command}
+PARTS = {"sequences": sequences, "refusal": refusal, "command": command, "ends": follow_ends.try_ends}
 
 
 def main():
@@ -406,7 +409,10 @@ def main():
         return follow_measure.measure()
     try:
         for name in options.part or PARTS:
-            PARTS[name](options)
+            if name == "sequences" and headers.is_missing:
+                print("skipped, since python3-scapy is missing: the sequences of bench/follow.py")
+            else:
+                PARTS[name](options)
     except Wrong as error:
         print(f"not as it should be: {error}")
         return 1

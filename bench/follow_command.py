@@ -243,7 +243,7 @@ def want_second_refused():
 
 
 def without_owner(folder, stream):
-    running = begun(folder, stream, "--without-owner", line=LINED)
+    running = begun(folder, stream, "--without-owner", "--counters", folder / "counts", "--each", "0.1", line=LINED)
     second = subprocess.run([*COMMAND, kernel.HOOKED, "--follow", "--without-owner"], capture_output=True, text=True,
                             check=False, stdin=subprocess.DEVNULL)
     want(second.returncode == 1 and "another instance" in second.stderr, f"a second instance: {second}")
@@ -251,9 +251,12 @@ def without_owner(folder, stream):
                   ["flush", "chain", "netdev", kernel.TABLE, "v4"]):
         running.path.write_text("")
         time.sleep(1.2)         # a look at the lines that were made
+        counted = counts_told(folder)
         nft(*words)
         running.told("is made anew")
         stream.drops(" ".join(words))
+        wait(lambda: counts_told(folder) > counted, "counts aren't carried")
+        want(counts_told(folder) >= counted, f"counts fall from {counted}")
     want(running.end(signal.SIGTERM) == 0 and not is_there(), "SIGTERM leaves the table")
     print("without an owner: a second instance is refused, and what others flush is made anew", flush=True)
 
@@ -304,7 +307,13 @@ def wrong_lines(folder, stream):
         running.told(f"a line doesn't fit, and nothing after it is done: .*{words}")
         want(f"+ {BESIDE}" not in running.path.read_text(), f"what follows is done: {line}")
         wait(lambda: not is_there(), "a wrong line leaves the table")
-    print(f"{len(WRONG)} lines that don't fit end the run with status 3, and the table", flush=True)
+    running = begun(folder, stream, "--at-end", "keep")
+    since = time.monotonic()
+    running.say(f"1 - 2 {BESIDE}")
+    want(running.process.wait(PATIENCE) == 3, "a wrong line under keep: another status")
+    stream.all_dropped(since, "a wrong line under keep")
+    nft("delete", "table", "netdev", kernel.TABLE)
+    print(f"{len(WRONG)} lines that don't fit end the run with status 3, and the table where it isn't to be kept", flush=True)
 
 
 def unread(folder, stream):
@@ -331,12 +340,45 @@ def tells_manager(folder, stream):
         said = {b"WATCHDOG=1"}
         while b"READY=1" not in said:
             said.add(end.recv(100))
-        stream.drops("READY")
+        since = stream.drops("READY")
+        try_stopped(running, end)
+        stream.all_dropped(since, "a process that was stopped")
         running.end()
-    print("a service manager is told WATCHDOG while the kernel answers, and READY once the first lines act", flush=True)
+    print("a service manager is told WATCHDOG while the kernel answers, and READY once the first lines act; of a process "
+          "that is stopped nothing, and its rules act", flush=True)
 
 
-SERIES = re.compile(r'(# (HELP|TYPE) welgutan_\w+ .+|welgutan_\w+(\{\w+="[^"\\]*"\})? [0-9.]+)')
+def try_stopped(running, end):
+    """A process that hangs says nothing."""
+    running.process.send_signal(signal.SIGSTOP)
+    end.settimeout(2)
+    said = 0
+    try:
+        while said < 4:     # what was on its way
+            end.recv(100)
+            said += 1
+    except TimeoutError:
+        pass
+    want(said < 4, "a process that is stopped says WATCHDOG")
+    running.process.send_signal(signal.SIGCONT)
+    want(end.recv(100) == b"WATCHDOG=1", "a process that goes on doesn't say WATCHDOG")
+
+
+LABEL = r'\w+="[^"\\]*"'
+SERIES = re.compile(rf'(# (HELP|TYPE) (welgutan_\w+) .+|welgutan_\w+\{{{LABEL}(, {LABEL})?\}} [0-9.]+)')
+DASHBOARD = ROOT / "tools/grafana/welgutan.json"
+BESIDE_OURS = {"node_textfile_mtime_seconds"}       # what node_exporter itself says of the file
+
+
+def try_dashboard(named):
+    """It asks for all that the follower writes, and for nothing that isn't there; its panels don't lie on each other."""
+    dashboard = json.loads(DASHBOARD.read_text())
+    places = [panel["gridPos"] for panel in dashboard["panels"]]
+    taken = [(place["x"] + x, place["y"] + y) for place in places for x in range(place["w"]) for y in range(place["h"])]
+    want(len(set(taken)) == len(taken) and max(x for x, _ in taken) < 24, "panels lie on each other")
+    asked = {name for panel in dashboard["panels"] for target in panel["targets"]
+             for name in re.findall(r"\b(?:welgutan|node)_\w+", target["expr"])}
+    want(asked == named | BESIDE_OURS, f"the dashboard asks for {sorted(asked ^ (named | BESIDE_OURS))} alone, or not")
 
 
 def files(folder, stream):
@@ -347,9 +389,12 @@ def files(folder, stream):
     wait(lambda: counts_told(folder) > counted + 5, "FILE.json doesn't count")
     told = json.loads((folder / "counts.json").read_text())
     want([rule["acts"] for rule in told["rules"]] == [True, True, False], f"FILE.json: {told}")
-    for line in (folder / "counts.prom").read_text().splitlines():
+    acts = f'welgutan_acts{{device="{kernel.HOOKED}"}} 1'
+    wait(lambda: acts in (folder / "counts.prom").read_text(), "welgutan_acts")
+    lines = (folder / "counts.prom").read_text().splitlines()
+    for line in lines:
         want(SERIES.fullmatch(line), f"FILE.prom: {line}")
-    wait(lambda: "welgutan_acts 1" in (folder / "counts.prom").read_text(), "welgutan_acts")
+    try_dashboard({line.split(" ")[2] for line in lines if line.startswith("# TYPE")})
     want("no packet matches" in (folder / "counts.txt").read_text(), "FILE.txt doesn't say what is left out")
     running.end()
     for line in (RULE, LINED):      # an element and a line
@@ -363,16 +408,18 @@ def files(folder, stream):
 
 
 def policies(folder, stream):
-    (folder / "never").write_text("198.51.100.0/24   # the stream's sources\n2001:db8::/32\n")
-    running = Running(folder, "--never", folder / "never")
-    running.say(f"1 + 1 {RULE}")
-    running.told(r"\+ v4 dst")
-    stream.passes("--never")
-    running.end()
-    running = Running(folder, "--most", "1", "--shortest4", "24", "--allow", "drop,pass")
+    for never in ("198.51.100.0/24   # the stream's sources\n2001:db8::/32\n", f"{TARGET}/32\n"):
+        (folder / "never").write_text(never)
+        running = Running(folder, "--never", folder / "never")
+        running.say(f"1 + 1 {RULE}")
+        running.told(r"\+ v4 dst")
+        stream.passes("--never")
+        running.end()
+    running = Running(folder, "--most", "1", "--shortest4", "24", "--shortest6", "48", "--allow", "drop,pass")
     running.say(f"1 + 1 {RULE}", "1 + 2 v4 dst 192.0.2.11/32 then bytes 0:00000000", f"1 + 3 {BESIDE}",
-                "1 + 3 v4 dst 198.51.100.0/24 then mark 10")
-    for words in ("1 rules act already", "destination shorter than /24", "mark not allowed"):
+                "1 + 3 v4 dst 198.51.100.0/24 then mark 10", "1 + 1 v6 dst 2001:db8:0:0:0:0:0:0/32", "1 + 5 v4 proto =6")
+    for words in ("1 rules act already", "destination shorter than /24", "mark not allowed",
+                  "destination shorter than /48", "no destination"):
         running.told(f"left out: {words}")
     running.say(f"2 - 1 {RULE}")
     running.told(r"\+ v4 dst 192\.0\.2\.11/32 .*let in")
@@ -409,23 +456,24 @@ def limits(folder, stream):
     print(f"of {sent} frames above a limit of 5 a second {came} came while a rule beside it changed", flush=True)
 
 
-LOOKING = "port =25", "dport =25", "dport >=20&<=30,=50", "sport =1", "itype =8", "tcp =02", "frag =02"
+LOOKING = "port =25", "dport =25", "dport >=20&<=30,=50", "sport =1", "itype =8", "icode =1", "tcp =02", "frag =02"
+AGAINST = {"v4": "192.0.2.0/24", "v6": "2001:db8:0:0:0:0:0:0/32"}
 
 
 def protocols(folder, _):
     """No rule makes nft's own listing fail: each protocol beside each component that looks into its header."""
     running = Running(folder, "--most", "100000", "--most-each", "100000")
-    rules = [f"v4 dst 192.0.2.0/24 proto ={number} {words}" for number in range(256)
-             for words in LOOKING]
-    admitted = in_order(rules)
-    running.say(*(f"1 + {place} {words}" for place, words in enumerate(admitted, 1)))
-    running.told(re.escape(admitted[-1]))
+    rules = [f"{family} dst {prefix} proto ={number} {words}" for family, prefix in AGAINST.items()
+             for number in range(256) for words in LOOKING]
+    admitted = {family: in_order(rule for rule in rules if rule.startswith(family)) for family in AGAINST}
+    running.say(*(f"1 + {place} {words}" for each in admitted.values() for place, words in enumerate(each, 1)))
+    running.told(re.escape(admitted["v6"][-1]))
     for words in (["list", "ruleset"], ["-j", "list", "ruleset"], ["list", "table", "netdev", kernel.TABLE]):
         done = nft(*words)
         want(not done.returncode, f"nft {' '.join(words)} ends with {done.returncode} {done.stderr[-300:]}")
     running.end()
-    done = subprocess.run([*COMMAND, kernel.HOOKED], input=listing_of(admitted), capture_output=True, text=True,
-                          check=True)
+    listing = "".join(map(listing_of, admitted.values()))
+    done = subprocess.run([*COMMAND, kernel.HOOKED], input=listing, capture_output=True, text=True, check=True)
     for words in (["-c", "-f", "-"], ["-f", "-"]):
         taken = nft(*words, text=done.stdout)
         want(not taken.returncode, f"nft {' '.join(words)}: {taken.stderr[-300:]}")
@@ -435,9 +483,9 @@ def protocols(folder, _):
 
 
 def listing_of(lines):
-    """What `rules` writes of these rules."""
+    """What `rules` writes of these rules, which are of one family."""
     rules = [flowspec.read_words(words)[0] for words in lines]
-    return "".join(f"v4 {number} {flowspec.rule_octets(rule).hex()} peer 1 actions -\n"
+    return "".join(f"v{rule.family} {number} {flowspec.rule_octets(rule).hex()} peer 1 actions -\n"
                    for number, rule in enumerate(rules, 1))
 
 

@@ -1,11 +1,14 @@
 """What a change and a frame take beside many rules of `tools/nft.py --follow`.
 
-A part of `follow.py`, which says what it is for. Times are of this process, from a line's text to the kernel's answer.
+A part of `follow.py`, which says what it is for. Times are of this process, from a line's text to the kernel's answer:
+by the clock, and of the processor, which a busy machine changes less.
 """
 
+import gc
 import os
 import statistics
 import time
+from typing import NamedTuple
 
 import kernel
 from follow_command import frame
@@ -45,6 +48,12 @@ KINDS = {   # of so many rules the words of one, and an address by which frames 
 }
 
 
+class Took(NamedTuple):
+    """Seconds."""
+    clock: float
+    processor: float
+
+
 class Beside:
     """A table with so many rules of a kind."""
 
@@ -57,35 +66,46 @@ class Beside:
         self.acting.renew([], None)
 
     def do(self, lines):
-        """Seconds that the lines take as one transaction."""
-        begin, last, changes = time.perf_counter(), None, []
+        """Seconds that the lines take as one transaction, by the clock and of the processor."""
+        begin, used, last, changes = time.perf_counter(), time.thread_time(), None, []
         for line in lines:
             last = self.lists.change(line, last, 0)
             changes.append(last)
         self.acting.act(changes)
-        return time.perf_counter() - begin
+        return Took(time.perf_counter() - begin, time.thread_time() - used)
+
+    def do_all(self, lines):
+        """Seconds that the lines take, in transactions of as many as the command does at once."""
+        took = [self.do(lines[begin:begin + follower.MOST_LINES]) for begin in range(0, len(lines), follower.MOST_LINES)]
+        return Took(*map(sum, zip(*took)))
 
     def fill(self):
-        """Seconds that all rules take, in transactions of as many as the command does at once."""
-        lines = [f"0 + {number + 1} {self.words(number)}" for number in range(self.count)]
-        return sum(self.do(lines[begin:begin + follower.MOST_LINES])
-                   for begin in range(0, self.count, follower.MOST_LINES))
+        return self.do_all([f"0 + {number + 1} {self.words(number)}" for number in range(self.count)])
 
     def one_change(self):
-        """Milliseconds: the least and the median of a rule that comes, and of one that goes."""
+        """Of a rule that comes, and of one that goes, what each time took."""
         place = self.count + 1
         line = self.words(self.count)
         times = [(self.do([f"0 + {place} {line}"]), self.do([f"0 - {place} {line}"])) for _ in range(CHANGES)]
-        return [(min(each) * 1000, statistics.median(each) * 1000) for each in zip(*times)]
+        return zip(*times)
 
     def many_changes(self):
-        """Seconds of 10,000 rules that go, in two transactions, and come again."""
+        """What 10,000 rules take that go, in two transactions, and come again."""
         count = min(10000, self.count)
         out = [f"0 - {self.count - number} {self.words(self.count - 1 - number)}" for number in range(count)]
         back = [f"0 + {self.count - count + number + 1} {self.words(self.count - count + number)}"
                 for number in range(count)]
-        return [sum(self.do(lines[begin:begin + follower.MOST_LINES])
-                    for begin in range(0, count, follower.MOST_LINES)) for lines in (out, back)]
+        return self.do_all(out), self.do_all(back)
+
+
+def milliseconds(times):
+    """In words: the least and the median by the clock, and of the processor."""
+    return ", ".join(f"{min(each) * 1000:.2f} to {statistics.median(each) * 1000:.2f} ms{whose}"
+                     for each, whose in zip(zip(*times), ("", " of the processor")))
+
+
+def seconds(took):
+    return f"{took.clock:.2f} s ({took.processor:.2f})"
 
 
 def nanoseconds(to, senders):
@@ -96,17 +116,18 @@ def nanoseconds(to, senders):
 
 
 def measure():
+    gc.disable()        # as the command does
     kernel.make_pair(BARE_FIRST, BARE)
     kernel.run("nft", "-f", "-", text=kernel.drop_all(kernel.HOOKED) + kernel.drop_all(BARE))
     senders = {"bare": kernel.packet_socket(BARE_FIRST), "ruled": kernel.packet_socket(kernel.FIRST)}
-    print(f"load {os.getloadavg()[0]:.0f} on {os.cpu_count()} processors", flush=True)
+    print(f"load {os.getloadavg()[0]:.0f} on {os.cpu_count()} processors; least and median; seconds of the processor in "
+          "brackets", flush=True)
     for count in MANY:
         for name, (words, to) in KINDS.items():
             beside = Beside(words, count)
             filled = beside.fill()
-            comes, goes = beside.one_change()
-            out, back = beside.many_changes()
-            print(f"{count} {name}: all {filled:.1f} s; one comes {comes[0]:.2f} to {comes[1]:.2f} ms (least, median), "
-                  f"goes {goes[0]:.2f} to {goes[1]:.2f}; 10,000 go {out:.2f} s, come {back:.2f}; a frame "
-                  f"{nanoseconds(to, senders):.0f} ns more", flush=True)
+            comes, goes = map(milliseconds, beside.one_change())
+            out, back = map(seconds, beside.many_changes())
+            print(f"{count} {name}: all {seconds(filled)}\n  one comes {comes}\n  goes {goes}\n  10,000 go {out}, come "
+                  f"{back}; a frame {nanoseconds(to, senders):.0f} ns more", flush=True)
             beside.table.end()

@@ -3,7 +3,8 @@
 
     bench/live.py [PROGRAM] [--within MS]
 
-    tail -c +1 -F bird.mrt | tools/nft.py --changes-of peers.toml PROGRAM | tools/nft.py --follow DEVICE
+    tail -c +1 -F bird.mrt | tools/nft.py --with-ends peers.toml | PROGRAM convert peers.toml /dev/stdin |
+      PROGRAM changes peers.toml /dev/stdin | tools/nft.py --follow DEVICE
 
 bird has sessions with exabgp and with a speaker of this script; frames that leave each 5 ms through a veth tell when a
 rule acts and when no more. Tried are rules that come, go, aren't admitted and lose their network, a thousand at once, a
@@ -22,7 +23,6 @@ import re
 import shutil
 import signal
 import socket
-import struct
 import subprocess
 import sys
 import tempfile
@@ -31,7 +31,8 @@ import time
 import follow_command
 import kernel
 from follow_command import Stream, Wrong, nft, wait
-from peer import KEEPALIVE, message, open_message
+from peer import open_message
+from wire import HOP, KEEPALIVE, ORIGIN, V4_RULES, frame, reach, update
 
 ROOT = pathlib.Path(__file__).resolve().parent.parent
 PORT, MANY = 1790, 1000
@@ -63,7 +64,8 @@ ROUTE = "route 192.0.2.0/24 next-hop 192.0.2.1"
 
 
 PIPE = """exec PYTHON ROOT/tools/nft.py --follow DEVICE WORDS < <(tail -c +1 -F bird.mrt 2>/dev/null |
-  PYTHON ROOT/tools/nft.py --changes-of peers.toml PROGRAM)"""
+  PYTHON ROOT/tools/nft.py --with-ends peers.toml | PROGRAM convert peers.toml /dev/stdin |
+  PROGRAM changes peers.toml /dev/stdin)"""
 
 
 def turned(stream, comes, since):
@@ -81,18 +83,14 @@ def turned(stream, comes, since):
     return found[-1] if len(found) >= 3 else None
 
 
-def update(attributes, announced=b""):
-    """UPDATE of AS 65002, whose numbers have two octets."""
-    attributes = bytes.fromhex("400101004002040201fdea") + attributes
-    return message(2, struct.pack(">HH", 0, len(attributes)) + attributes + announced)
+PATH = ORIGIN + bytes.fromhex("4002040201fdea")     # AS 65002, whose numbers have two octets
 
 
 def rule_update(port):
     """UPDATE of a rule that discards UDP to the port of the second peer's address, or with 0 of the first one's."""
     address = socket.inet_aton(OTHER if port else TARGET)
-    rule = b"\1\x20" + address + bytes.fromhex("0381110591") + struct.pack(">H", port or 53)
-    reach = bytes.fromhex("0001850000") + bytes([len(rule)]) + rule
-    return update(bytes.fromhex("c010088006000000000000") + bytes([0x80, 14, len(reach)]) + reach)
+    rule = b"\1\x20" + address + bytes.fromhex("0381110591") + (port or 53).to_bytes(2, "big")
+    return update(b"", PATH + bytes.fromhex("c010088006000000000000") + reach(V4_RULES, frame(rule)))
 
 
 class Speaker:
@@ -101,7 +99,7 @@ class Speaker:
     def __init__(self):
         self.end = wait(self.connected, "bird doesn't listen")
         self.say(open_message(65002) + KEEPALIVE)
-        self.say(update(bytes.fromhex("400304c6336402"), b"\x18" + socket.inet_aton(OTHER)[:3]))
+        self.say(update(b"", PATH + HOP[:-1] + b"\2", b"\x18" + socket.inet_aton(OTHER)[:3]))
 
     @staticmethod
     def connected():
@@ -114,6 +112,9 @@ class Speaker:
         moment = time.monotonic()
         self.end.sendall(octets)
         return moment
+
+    def say_many(self):
+        return self.say(b"".join(map(rule_update, range(1, MANY + 1))))
 
 
 class Trial:
@@ -193,7 +194,7 @@ def first_peer(trial):
 
 
 def second_peer(trial):
-    """A rule for the other peer's network isn't admitted; a thousand come at once."""
+    """A rule for the other peer's network isn't admitted; a thousand come at once, and go with their session."""
     speaker = Speaker()
     speaker.say(rule_update(0))
     trial.stream.to = OTHER, 53
@@ -202,12 +203,16 @@ def second_peer(trial):
     trial.stream.passes("a rule for the other's network acts")
     print("a rule for the other's network isn't admitted", flush=True)
     trial.stream.to = OTHER, MANY
-    begun = speaker.say(b"".join(map(rule_update, range(1, MANY + 1))))
-    trial.turns(False, begun, f"{MANY} rules come")
+    trial.turns(False, speaker.say_many(), f"{MANY} rules come")
+    begun = time.monotonic()
+    speaker.end.close()
+    trial.turns(True, begun, "their session ends")
+    speaker = Speaker()
+    trial.turns(False, speaker.say_many(), "they come again by the next one")
     return speaker
 
 
-def dump_anew(trial):
+def dump_anew(trial, speaker):
     """As the unit does at its start; who restarts under attack keeps the table."""
     if trial.end("live") or is_there():
         raise Wrong("SIGTERM leaves the table, or its status isn't 0")
@@ -215,13 +220,14 @@ def dump_anew(trial):
     trial.follow("--at-end", "keep", "--most", str(2 * MANY))
     since = trial.stream.drops("the pipe is begun anew")
     trial.end("live", signal.SIGKILL)
+    speaker.end.close()
     trial.dump.rename(trial.folder / "old.mrt")
     kernel.run("birdc", "-s", trial.folder / "bird.ctl", "configure")
     wait(trial.dump.exists, "bird writes no other dump")
     trial.follow("--at-end", "keep", "--most", str(2 * MANY), "--settle", "2")
     trial.told("which acts until the lines that come are quiet", "live.err")
     speaker = Speaker()
-    speaker.say(b"".join(map(rule_update, range(1, MANY + 1))))
+    speaker.say_many()
     trial.told(f"the old table is replaced: {MANY} rules act", "live.err")
     trial.stream.all_dropped(since, "a follower is killed, and its successor reads another dump")
     print("a follower is killed, and its successor reads another dump: the rules act on", flush=True)
@@ -251,9 +257,7 @@ def tried(trial, folder):
     begun = time.monotonic()
     try:
         first_peer(trial)
-        speaker = second_peer(trial)
-        speaker.end.close()
-        dump_anew(trial)
+        dump_anew(trial, second_peer(trial))
     except (Wrong, OSError, subprocess.TimeoutExpired) as error:
         print(f"not as it should be: {error}")
         for path in sorted(folder.glob("*.err")) + sorted(folder.glob("live.out")):

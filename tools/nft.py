@@ -10,17 +10,18 @@ to that group. What nftables can't do is told on standard error. If a line is no
 is 1, and nothing is written. `docs/FORMATS.md` says what stands for what. `bench/kernel.py` tries that the kernel then
 does what `enforce` says; nothing of it is proved.
 
-    tail -c +1 -F DUMP | tools/nft.py --changes-of CONFIG [PROGRAM]
+    tail -c +1 -F DUMP | tools/nft.py --with-ends CONFIG
 
-It writes what `changes` says of a dump as it comes, each line once.
+It hands a dump on, with the ends of sessions that bird tells without an address under their peers. Where an end may be
+one of several peers', it tells that and ends with status 3; with 1 where CONFIG can't be read.
 """
 
 import sys
 
-from welgutan import dump
+from welgutan import ends
 from welgutan.command import main
 
 if __name__ == "__main__":
-    if sys.argv[1:2] == ["--changes-of"] and len(sys.argv) in (3, 4):
-        sys.exit(dump.main(*sys.argv[2:]))
+    if sys.argv[1:2] == ["--with-ends"] and len(sys.argv) == 3:
+        sys.exit(ends.main(sys.argv[2]))
     sys.exit(main(__doc__))

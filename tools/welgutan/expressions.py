@@ -1,8 +1,9 @@
 """The parts of rules as the kernel's expressions, and what it tells of them."""
 
+import functools
 import struct
 
-from .netlink import attribute, attributes, long_number, name, nested, number, text_of
+from .netlink import attribute, attributes, long_number, name, nested, number, text_of, value_of
 
 VERDICT_REGISTER, REGISTER, FIRST_OF_KEY = 0, 1, 8      # keys of several fields stand in registers of four octets
 BASES = {"network": 1, "transport": 2}
@@ -20,6 +21,7 @@ def expression(kind, octets):
     return nested(1, name(1, kind) + nested(2, octets))
 
 
+@functools.lru_cache(1 << 8)
 def verdict_data(verdict):
     """The octets of a verdict as data: a word, and a chain where it leads to one."""
     word, *chain = verdict
@@ -70,6 +72,7 @@ def set_mark():
     return expression("meta", number(2, META["mark"]) + number(3, REGISTER))
 
 
+@functools.lru_cache(1 << 8)
 def counter(packets=0, octets=0):
     return expression("counter", long_number(1, octets) + long_number(2, packets))
 
@@ -114,17 +117,23 @@ STEPS = {
 }
 
 
+@functools.lru_cache(1 << 14)
+def of_step(step):
+    """The expressions of a step; rules have the same ones over and over."""
+    return STEPS[step[0]](*step[1:])
+
+
 def of_parts(parts, set_of, counts=(0, 0)):
     """The expressions of a line's parts; `set_of` answers the name of a set with these ranges of so many octets."""
     found = []
     for part in parts:
-        for word, *values in part.steps:
-            if word == "counter":
+        for step in part.steps:
+            if step[0] == "counter":
                 found.append(counter(*counts))
-            elif word == "in":
-                found.append(look_up(set_of(*values), REGISTER, False))
+            elif step[0] == "in":
+                found.append(look_up(set_of(*step[1:]), REGISTER, False))
             else:
-                found.append(STEPS[word](*values))
+                found.append(of_step(step))
     return b"".join(found)
 
 
@@ -144,30 +153,27 @@ def of_key(fields):
 # What the kernel tells
 
 
+COUNTER = name(1, "counter")
+
+
 def counts_in(octets):
     """Packets and octets of a counter among expressions, or None."""
     for _, each in attributes(octets):
-        found = dict(attributes(each))
-        if text_of(found.get(1, b"")) == "counter":
-            values = dict(attributes(found[2]))
-            return int.from_bytes(values[2], "big"), int.from_bytes(values[1], "big")
+        if each.startswith(COUNTER):
+            values = value_of(each, 2)
+            return int.from_bytes(value_of(values, 2), "big"), int.from_bytes(value_of(values, 1), "big")
     return None
 
 
 def counts_of_rule(octets):
-    found = dict(attributes(octets))
-    return counts_in(found.get(4, b""))
+    return counts_in(value_of(octets, 4) or b"")
 
 
 def elements_in(octets):
     """Of each element its key and its counts, which are None where it has none."""
-    for kind, value in attributes(octets):
-        if kind == 3:
-            for _, element in attributes(value):
-                found = dict(attributes(element))
-                key = dict(attributes(found[1])).get(1, b"")
-                expressions = found.get(7)
-                yield key, counts_in(attribute(1, expressions)) if expressions is not None else None
+    for _, element in attributes(value_of(octets, 3) or b""):
+        expressions = value_of(element, 7)
+        yield value_of(value_of(element, 1), 1), None if expressions is None else counts_in(attribute(1, expressions))
 
 
 COMMENT = 0

@@ -22,6 +22,7 @@ from .table import Gone, NotOurs, Table
 
 QUIET = 0.002           # seconds without a line, after which those that came are done
 MOST_LINES = 5000       # of a transaction
+MANY_LINES = 1000       # for which it begins at once; for fewer there is a rest first, as long as the last one took
 PIECE = 1 << 16
 LONGEST_LINE = 1 << 17
 WATCHING = 0.5          # seconds between two looks at the device and the table
@@ -61,7 +62,7 @@ class Lists:
         if found[2] == "-":
             return Change(False, self.without(rules, place, found[4]), None, arrived)
         try:
-            held = Held(*flowspec.read_words(found[4]))
+            held = Held(found[4])
         except flowspec.NoRule as error:
             raise WrongLine(f"no rule in words: {found[4][:200]}") from error
         self.add(rules, place, held)
@@ -72,17 +73,22 @@ class Lists:
     def without(rules, place, words):
         if place >= len(rules):
             raise WrongLine(f"no rule at place {place + 1}, of {len(rules)}")
-        if rules[place].words() != words:
-            raise WrongLine(f"at place {place + 1} stands {rules[place].words()} and not {words[:200]}")
+        if rules[place].words != words:
+            raise WrongLine(f"at place {place + 1} stands {rules[place].words} and not {words[:200]}")
         return rules.pop(place)
 
     def add(self, rules, place, held):
         if place > len(rules):
             raise WrongLine(f"no place {place + 1} among {len(rules)} rules")
         if place and not rules[place - 1].key < held.key or place < len(rules) and not held.key < rules[place].key:
-            raise WrongLine(f"not in the order of rules at place {place + 1}: {held.words()}")
+            raise WrongLine(f"not in the order of rules at place {place + 1}: {held.words}")
         held.arrival = next(self.arrivals)
         rules.insert(place, held)
+
+
+def counted(held):
+    """What a rule that goes has counted, behind `#`; nothing where it didn't act."""
+    return "" if held.reason else f"  # counted {held.counts[0]} packets, {held.counts[1]} octets"
 
 
 class Acting:
@@ -111,8 +117,7 @@ class Acting:
         why = why or policy.why_left_out(self.bounds, held)
         waits = self.why_waiting(held) if why is None else None
         if why or waits:
-            layout.set(held, "state", OUT)
-            layout.set(held, "reason", why or waits)
+            layout.set(held, state=OUT, reason=why or waits)
             if waits:
                 layout.put(self.waiting, held, None)
         else:
@@ -140,7 +145,7 @@ class Acting:
                 break
             if self.layout().why_not(held) is None:
                 self.layout().drop(self.waiting, held)
-                self.layout().set(held, "reason", None)
+                self.layout().set(held, reason=None)
                 self.layout().add_rule(held)
                 found.append(held)
         return found
@@ -256,28 +261,27 @@ class Follower:
     def tell(self, words):
         self.err.tell(f"{moment_words(time.time())} {words}")
 
-    def tell_change(self, sign, held, arrived, now, note):
-        took = f"{(now - arrived) * 1000:.1f} ms "
-        self.out.tell(f"{moment_words(time.time())} {took}{sign} {held.words()}{f'  # {note}' if note else ''}")
-
     def tell_changes(self, changes):
-        now = time.monotonic()
+        now, moment = time.monotonic(), moment_words(time.time())
         for change in changes:
-            held = change.held
-            if change.comes:
-                self.tell_change("+", held, change.arrived, now, self.note_of(held))
-            else:
-                note = f"counted {held.counts[0]} packets, {held.counts[1]} octets" if not held.reason else ""
-                self.tell_change("-", held, change.arrived, now, note)
-        for held in self.acting.let_in:
-            self.tell_change("+", held, now, now, "let in, since there is room now")
+            note = self.note_of(change.held) if change.comes else counted(change.held)
+            took = (now - change.arrived) * 1000
+            self.out.tell(f"{moment} {took:.1f} ms {'+' if change.comes else '-'} {change.held.words}{note}")
+
+    def tell_come(self, rules, note=""):
+        """Of rules that come without a line of their own."""
+        moment = moment_words(time.time())
+        for held in rules:
+            self.out.tell(f"{moment} 0.0 ms + {held.words}{note or self.note_of(held)}")
 
     def note_of(self, held):
+        """What else is to be said of a rule that comes: behind `#`, or nothing."""
         if not held.acts():
-            return f"left out: {held.reason}"
+            return f"  # left out: {held.reason}"
         rates = [parts.rate_words(rate) for rate in flowspec.those_of(held.actions, flowspec.RATES)
                  if not flowspec.discards(rate) and parts.rate_number(rate) is not None]
-        return "; ".join([*parts.untold(held.rule, held.actions, self.options), *rates])
+        words = "; ".join([*parts.untold(held.rule, held.actions, self.options), *rates])
+        return f"  # {words}" if words else ""
 
     # Lines
 
@@ -309,6 +313,7 @@ class Follower:
             self.acting.renew(self.lists.all(), None)
         self.chains = None
         self.tell_changes(changes)
+        self.tell_come(self.acting.let_in, "  # let in, since there is room now")
         self.acting.forget(changes)
         self.manager.ready()
         now = time.monotonic()
@@ -338,8 +343,7 @@ class Follower:
             left_out = [held for held in self.lists.all() if not held.acts()]
             self.tell(f"the old table is replaced: {len(self.lists.all()) - len(left_out)} rules act, "
                       f"{len(left_out)} are left out")
-            for held in left_out:
-                self.tell_change("+", held, now, now, self.note_of(held))
+            self.tell_come(left_out)
             if has_come:
                 self.manager.ready()
 
@@ -402,12 +406,19 @@ class Follower:
 
     # The run
 
+    def due(self):
+        """Seconds until the lines that wait are to be done; None without any."""
+        due = self.input.due(self.settings.window)
+        if due is None or len(self.input.lines) >= MANY_LINES:
+            return due
+        return max(due, self.rest_until - time.monotonic())
+
     def wait(self, wake):
         now = time.monotonic()
         until = [self.watch_at, self.report_at if not self.settling else self.watch_at]
-        due = self.input.due(self.settings.window)
+        due = self.due()
         if due is not None:
-            until.append(max(now + due, self.rest_until))
+            until.append(now + due)
         readable = [wake] + ([0] if not self.input.has_ended and len(self.input.lines) < 2 * MOST_LINES else [])
         writable = [each.file for each in (self.out, self.err) if each.is_waiting()]
         ready = select.select(readable, writable, [], max(0, min(until) - now))
@@ -421,7 +432,7 @@ class Follower:
     def turn(self, wake):
         self.wait(wake)
         now = time.monotonic()
-        if self.status is None and self.input.due(self.settings.window) == 0 and now >= self.rest_until:
+        if self.status is None and self.due() == 0:
             self.do_lines()
         if self.status is None and self.settling:
             self.settle()

@@ -20,11 +20,10 @@ import struct
 from typing import NamedTuple
 
 from . import expressions, parts
-from .flowspec import (DESTINATION, DESTINATION_PORT, EQUAL, MARK, PROTOCOL, SOURCE, SOURCE_PORT, WIDTHS, line_of,
-                       order_key, those_of)
+from .flowspec import (DESTINATION, DESTINATION_PORT, EQUAL, MARK, PROTOCOL, SOURCE, SOURCE_PORT, WIDTHS,
+                       order_key, read_words, those_of)
 from .netlink import (APPEND, CREATE, DELETE_CHAIN, DELETE_ELEMENTS, DELETE_RULE, DELETE_SET, ECHO, NEW_CHAIN,
-                      NEW_ELEMENTS, NEW_RULE, NEW_SET, attribute, long_number, name, nested, number,
-                      text_of)
+                      NEW_ELEMENTS, NEW_RULE, NEW_SET, attribute, long_number, name, nested, number, text_of, value_of)
 
 FIELDS = (PROTOCOL, DESTINATION_PORT, SOURCE_PORT)
 SHAPES = (FIELDS, (PROTOCOL, DESTINATION_PORT), (PROTOCOL, SOURCE_PORT), (PROTOCOL,), ())     # in their order
@@ -74,21 +73,18 @@ def plain_of(rule):
 
 
 class Held:
-    """An admitted rule. It acts as an element or as a line, or is left out for a reason."""
-    __slots__ = ("rule", "actions", "key", "plain", "state", "reason", "line", "chains", "uses", "mark", "counts",
-                 "is_new", "serial",
-                 "counter_line", "rate", "arrival")
+    """An admitted rule, with the line that `list` has for it. It acts as an element or as a line, or is left out for a reason."""
+    __slots__ = ("rule", "actions", "words", "key", "plain", "state", "reason", "line", "others", "chains", "uses", "mark", "counts",
+                 "is_new", "counter_line", "rate", "arrival")
 
-    def __init__(self, rule, actions):
-        self.rule, self.actions, self.key = rule, actions, order_key(rule)
-        self.plain = plain_of(rule)
+    def __init__(self, words):
+        """NoRule where that is no such line."""
+        self.rule, self.actions = read_words(words)
+        self.words, self.key, self.plain = words, order_key(self.rule), plain_of(self.rule)
         self.state, self.reason = None, None    # ELEMENT, LINE or OUT
-        self.line, self.chains, self.uses, self.mark = None, (), (), None
-        self.counts, self.is_new, self.serial = (0, 0), True, 0
+        self.line, self.others, self.chains, self.uses, self.mark = None, (), (), (), None
+        self.counts, self.is_new = (0, 0), True
         self.counter_line, self.rate, self.arrival = None, 0, 0     # octets a second, and a number by which it came
-
-    def words(self):
-        return line_of(self.rule, self.actions)
 
     def acts(self):
         return self.state in (ELEMENT, LINE)
@@ -96,7 +92,7 @@ class Held:
     def forget(self):
         """Where it stood in a table that is gone; what it counted stays."""
         self.state = self.reason = self.line = self.counter_line = self.mark = None
-        self.chains, self.uses, self.is_new = (), (), True
+        self.others, self.chains, self.uses, self.is_new = (), (), (), True
 
 
 ELEMENT, LINE, OUT = "element", "line", "out"
@@ -104,7 +100,7 @@ ELEMENT, LINE, OUT = "element", "line", "out"
 
 def comment_of(held):
     """The rule in words, which name it for whoever reads the table; where they are too long, cut before a hash."""
-    words = held.words()
+    words = held.words
     if len(words) <= expressions.LONGEST_COMMENT:
         return words
     return f"{words[:94]} {hashlib.sha256(words.encode()).hexdigest()[:32]}"
@@ -207,13 +203,19 @@ def look_up_octets(family, found, set_name):
             + expressions.look_up(set_name, expressions.FIRST_OF_KEY, True))
 
 
+def put_back(thing, values):
+    for attribute_name, value in values.items():
+        setattr(thing, attribute_name, value)
+
+
 class Layout:
     """What stands in a table. Each change adds messages to `batch`, and to `owners` the rule that each is for."""
 
     def __init__(self, options, most_each, counts_now):
         self.options, self.most_each, self.counts_now = options, most_each, counts_now
+        self.table_name = name(1, options.table)
         self.families = {family: Family(family) for family in (4, 6)}
-        self.sets, self.set_names, self.marks = {}, {}, {}
+        self.sets, self.set_names, self.marks, self.verdicts = {}, {}, {}, {}
         self.acting = 0
         self.serials = itertools.count(1)
         self.batch, self.owners, self.owner = [], [], None
@@ -238,9 +240,9 @@ class Layout:
         self.journal.append((items.insert, place, items[place]))
         return items.pop(place)
 
-    def set(self, thing, attribute_name, value):
-        self.journal.append((setattr, thing, attribute_name, getattr(thing, attribute_name)))
-        setattr(thing, attribute_name, value)
+    def set(self, thing, **values):
+        self.journal.append((put_back, thing, {each: getattr(thing, each) for each in values}))
+        put_back(thing, values)
 
     def take_back(self):
         """All that was changed since the last batch is as it was."""
@@ -256,8 +258,7 @@ class Layout:
         """After a batch was done: the handles that the kernel told, and of each rule that went what it counted."""
         for place, kind, octets in echoes:
             if kind == NEW_RULE and place in self.new_lines:
-                line, found = self.new_lines[place], dict(expressions.attributes(octets))
-                line.handle = int.from_bytes(found[3], "big")
+                self.new_lines[place].handle = int.from_bytes(value_of(octets, 3), "big")
             elif kind == DELETE_RULE and place in self.ended:
                 counts = expressions.counts_of_rule(octets)
                 if counts:
@@ -269,7 +270,7 @@ class Layout:
         self.begin()
 
     def done_elements(self, octets):
-        set_name = text_of(dict(expressions.attributes(octets)).get(2, b""))
+        set_name = text_of(value_of(octets, 2))
         for key, counts in expressions.elements_in(octets):
             held = self.ended.get((set_name, key))
             if held is not None and counts:
@@ -278,7 +279,7 @@ class Layout:
     # Messages
 
     def add(self, kind, flags, octets):
-        self.batch.append((kind, flags, name(1, self.options.table) + octets))
+        self.batch.append((kind, flags, self.table_name + octets))
         self.owners.append(self.owner)
 
     def add_chain(self, chain):
@@ -289,8 +290,8 @@ class Layout:
             self.ended[len(self.batch)] = ends
         self.add(DELETE_CHAIN, ECHO if ends is not None else 0, name(3, chain))
 
-    def add_line(self, chain, octets, before=None, comment=""):
-        """A line before another one, or at the chain's end."""
+    def add_line(self, chain, octets, before=None, comment="", is_told=True):
+        """A line before another one, or at the chain's end; its handle is told where it may be asked for or go."""
         line = ChainLine(chain, next(self.serials) & 0xFFFFFFFF)
         if before is None:
             place = b""
@@ -298,10 +299,11 @@ class Layout:
             place = long_number(6, before.handle)
         else:
             place = number(10, before.serial)
-        told = attribute(7, expressions.comment(comment)) if comment else b""
-        self.new_lines[len(self.batch)] = line
-        self.add(NEW_RULE, CREATE | ECHO | (APPEND if before is None else 0),
-                 name(2, chain) + number(9, line.serial) + place + nested(4, octets) + told)
+        named = attribute(7, expressions.comment(comment)) if comment else b""
+        if is_told:
+            self.new_lines[len(self.batch)] = line
+        self.add(NEW_RULE, CREATE | (ECHO if is_told else 0) | (APPEND if before is None else 0),
+                 name(2, chain) + number(9, line.serial) + place + nested(4, octets) + named)
         return line
 
     def delete_line(self, line, ends=None):
@@ -372,7 +374,7 @@ class Layout:
             chain = f"dscp_{value}"
             self.add_chain(chain)
             for family in (4, 6):
-                self.add_line(chain, expressions.set_dscp(family, value))
+                self.add_line(chain, expressions.set_dscp(family, value), is_told=False)
             self.add_element("dscps", mark_key(value), ("jump", chain))
 
     def end_mark(self, value):
@@ -411,7 +413,7 @@ class Layout:
         return made
 
     def count_down(self, family, look_up):
-        self.set(look_up, "count", look_up.count - 1)
+        self.set(look_up, count=look_up.count - 1)
         if not look_up.count:
             self.delete_line(look_up.line)
             self.add(DELETE_SET, 0, name(2, look_up.name))
@@ -421,66 +423,67 @@ class Layout:
 
     # A rule as an element
 
-    def verdict_of_element(self, held):
-        found = parts.verdict(held.actions, self.options.check)
-        return found[0].steps[0][1:] if found else ("continue",)
+    def verdict_of_element(self, actions):
+        """The verdict, where besides there is nothing to do but to count; else None. Rules have few different actions."""
+        if actions not in self.verdicts:
+            found = parts.verdict(actions, self.options.check)
+            is_all = not parts.further(actions, self.options) and not parts.log(actions, self.options)
+            self.verdicts[actions] = (found[0].steps[0][1:] if found else ("continue",)) if is_all else None
+        return self.verdicts[actions]
 
     def can_be_element(self, held):
         """Plain, with nothing to do but to count and a verdict, and a look-up that is there or may be."""
-        if held.plain is None or parts.further(held.actions, self.options) or parts.log(held.actions, self.options):
+        if held.plain is None or self.verdict_of_element(held.actions) is None:
             return False
         family = self.families[held.rule.family]
         return rank_of_map(held.plain.map()) in family.look_ups or len(family.ranks) < MOST_LOOK_UPS
 
     def add_as_element(self, held):
         look_up = self.look_up(held.rule.family, rank_of_map(held.plain.map()), held.plain.map())
-        self.set(look_up, "count", look_up.count + 1)
-        self.add_element(look_up.name, held.plain.key, self.verdict_of_element(held), held.counts)
-        self.set(held, "state", ELEMENT)
+        self.set(look_up, count=look_up.count + 1)
+        self.add_element(look_up.name, held.plain.key, self.verdict_of_element(held.actions), held.counts)
+        self.set(held, state=ELEMENT)
 
     def delete_as_element(self, held):
         look_up = self.families[held.rule.family].look_ups[rank_of_map(held.plain.map())]
         self.delete_element(look_up.name, held.plain.key, held)
         self.count_down(held.rule.family, look_up)
-        self.set(held, "state", None)
+        self.set(held, state=None)
 
     # A rule as a line
 
     def add_as_line(self, held, chain, before):
         self.uses = []
-        self.set(held, "serial", next(self.serials))
-        line, chains = parts.rule_lines(held.rule, held.actions, f"r{held.serial}", comment_of(held), self.options)
+        line, chains = parts.rule_lines(held.rule, held.actions, f"r{next(self.serials)}", comment_of(held), self.options)
         marks = [] if self.options.check else those_of(held.actions, (MARK,))[:1]
         if marks:
             self.begin_mark(marks[0][7])
-            self.set(held, "mark", marks[0][7])
+        # A rule that tests nothing but its destination needs no chain of its own
+        lines = chains.pop(line.leads_to()) if len(chains) == 1 and line.leads_to() in chains else [line]
         for each in chains:
             self.add_chain(each)
         counting = None
-        for each, lines in chains.items():
-            for one in lines:
-                added = self.add_line(each, self.octets_of(one, held), comment=one.comment)
+        for each, own in chains.items():
+            for one in own:
+                added = self.add_line(each, self.octets_of(one, held), comment=one.comment, is_told=bool(one.comment))
                 counting = added if one.comment else counting
-        self.set(held, "line", self.add_line(chain, self.octets_of(line, held), before, line.comment))
-        self.set(held, "counter_line", counting or held.line)
-        self.set(held, "chains", tuple(chains))
-        self.set(held, "uses", tuple(self.uses))
-        self.set(held, "state", LINE)
+        first, *others = [self.add_line(chain, self.octets_of(one, held), before, one.comment) for one in lines]
+        self.set(held, line=first, others=tuple(others), counter_line=counting or first, chains=tuple(chains),
+                 uses=tuple(self.uses), mark=marks[0][7] if marks else None, state=LINE)
 
     def octets_of(self, line, held):
         return expressions.of_parts(line.parts, self.set_of, held.counts)
 
     def delete_as_line(self, held):
-        self.delete_line(held.line, held)
+        self.delete_line(held.line, held if held.counter_line is held.line else None)
+        for each in held.others:
+            self.delete_line(each)
         for each in held.chains:
-            self.delete_chain(each, held)
+            self.delete_chain(each, held if each == held.counter_line.chain else None)
         self.end_sets(held.uses)
         if held.mark is not None:
             self.end_mark(held.mark)
-        for attribute_name in ("line", "counter_line", "mark", "state"):
-            self.set(held, attribute_name, None)
-        for attribute_name in ("chains", "uses"):
-            self.set(held, attribute_name, ())
+        self.set(held, line=None, others=(), counter_line=None, mark=None, state=None, chains=(), uses=())
 
     def insert_line(self, rules, keys, held, chain, last):
         """The line of a rule in the chain whose lines are these rules' and then, maybe, another one."""
@@ -526,7 +529,7 @@ class Layout:
         self.owner = held
         family, prefix = self.families[held.rule.family], held.rule.destination()
         self.new_rules.append(held)
-        self.set(self, "acting", self.acting + 1)
+        self.set(self, acting=self.acting + 1)
         if prefix is None:
             self.insert_line(family.others, family.other_keys, held, family.chain, family.last)
             return
@@ -555,26 +558,26 @@ class Layout:
     def to_chain(self, family, destination):
         moved = list(destination.rules)
         for each in moved:
-            self.set(each, "counts", self.counts_now(each))
+            self.set(each, counts=self.counts_now(each))
             self.delete_as_element(each)
         look_up = self.look_up(family, rank_of_chains(destination.prefix.length), None)
-        self.set(look_up, "count", look_up.count + 1)
+        self.set(look_up, count=look_up.count + 1)
         chain = chain_of(family, destination.prefix)
         self.add_chain(chain)
-        self.set(destination, "is_chain", True)
+        self.set(destination, is_chain=True)
         for each in moved:
             self.add_as_line(each, chain, None)
             self.new(each)
         self.add_element(look_up.name, parts.address_key(family, destination.prefix), ("jump", chain))
 
     def new(self, held):
-        self.set(held, "is_new", True)
+        self.set(held, is_new=True)
         self.new_rules.append(held)
 
     def to_elements(self, family, destination):
         moved = list(destination.rules)
         for each in moved:
-            self.set(each, "counts", self.counts_now(each))
+            self.set(each, counts=self.counts_now(each))
             self.delete_as_line(each)
         self.end_chain(family, destination)
         for each in moved:
@@ -585,14 +588,14 @@ class Layout:
         look_up = self.families[family].look_ups[rank_of_chains(destination.prefix.length)]
         self.delete_element(look_up.name, parts.address_key(family, destination.prefix))
         self.delete_chain(chain_of(family, destination.prefix))
-        self.set(destination, "is_chain", False)
+        self.set(destination, is_chain=False)
         self.count_down(family, look_up)
 
     def remove_rule(self, held):
         """Lets a rule that acts act no more."""
         self.owner = held
         family, prefix = self.families[held.rule.family], held.rule.destination()
-        self.set(self, "acting", self.acting - 1)
+        self.set(self, acting=self.acting - 1)
         if prefix is None:
             rules, keys, destination = family.others, family.other_keys, None
         else:

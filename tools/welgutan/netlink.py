@@ -18,6 +18,8 @@ REQUEST, ACKNOWLEDGE, ECHO, DUMP, CREATE, EXCLUSIVE, APPEND = 1, 4, 8, 0x300, 0x
  GET_SET, DELETE_SET, NEW_ELEMENTS, GET_ELEMENTS, DELETE_ELEMENTS) = range(15)
 NESTED, KIND = 0x8000, 0x3FFF
 HEADER, GENERAL = struct.Struct("=IHHII"), struct.Struct(">BBH")
+ATTRIBUTE = struct.Struct("=HH")
+PADDING = b"", b"\0\0\0", b"\0\0", b"\0"     # behind so many octets more than a multiple of four
 PIECES = 1 << 16        # octets that are received at once
 
 
@@ -31,7 +33,7 @@ class Refused(Exception):
 
 def attribute(kind, octets):
     size = 4 + len(octets)
-    return struct.pack("=HH", size, kind) + octets + bytes(-size % 4)
+    return ATTRIBUTE.pack(size, kind) + octets + PADDING[size & 3]
 
 
 def nested(kind, octets):
@@ -39,11 +41,11 @@ def nested(kind, octets):
 
 
 def number(kind, value):
-    return attribute(kind, struct.pack(">I", value & 0xFFFFFFFF))
+    return ATTRIBUTE.pack(8, kind) + (value & 0xFFFFFFFF).to_bytes(4, "big")
 
 
 def long_number(kind, value):
-    return attribute(kind, struct.pack(">Q", value))
+    return ATTRIBUTE.pack(12, kind) + value.to_bytes(8, "big")
 
 
 def name(kind, text):
@@ -53,9 +55,20 @@ def name(kind, text):
 def attributes(octets, place=0):
     """Each attribute's kind and octets."""
     while place + 4 <= len(octets):
-        size, kind = struct.unpack_from("=HH", octets, place)
+        size, kind = ATTRIBUTE.unpack_from(octets, place)
         yield kind & KIND, octets[place + 4:place + size]
         place += max(4, size + 3 & ~3)
+
+
+def value_of(octets, kind):
+    """The octets of the first attribute of a kind, or None."""
+    place, end = 0, len(octets) - 4
+    while place <= end:
+        size, found = ATTRIBUTE.unpack_from(octets, place)
+        if found & KIND == kind:
+            return octets[place + 4:place + size]
+        place += size + 3 & ~3 or 4
+    return None
 
 
 def text_of(octets):

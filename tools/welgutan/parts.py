@@ -32,6 +32,11 @@ class Line(NamedTuple):
     parts: tuple
     comment: str = ""
 
+    def leads_to(self):
+        """The chain that every packet goes to which comes here; None where there is none, or something is tested."""
+        steps = self.parts[0].steps if len(self.parts) == 1 else ()
+        return steps[0][2] if len(steps) == 1 and steps[0][:2] == ("verdict", "jump") else None
+
 
 class Options(NamedTuple):
     device: str

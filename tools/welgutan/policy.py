@@ -1,5 +1,6 @@
 """What the operator lets rules do: a rule that may not is left out, and told."""
 
+import functools
 import ipaddress
 from typing import NamedTuple
 
@@ -16,6 +17,7 @@ class Policy(NamedTuple):
     most_each: int      # of one destination, where they can't be looked up at once
 
 
+@functools.lru_cache(1 << 10)
 def kinds_of(actions):
     """What a rule does to packets, in the policy's words; one that only counts and goes on does nothing."""
     rates = those_of(actions, RATES)

@@ -97,13 +97,13 @@ def as_text(rules, state):
     head = [f"{moment_words(time.time())} {state.options.device}: {'acts' if state.acts else state.why}",
             f"{state.seen} packets seen by the filter, {state.device} received by the device; {state.lines} lines, "
             f"the last one at {moment_words(state.last_line)}"]
-    rows = [f"{held.counts[0]:>12} {held.counts[1]:>15} {parts.grouped(round(held.rate)):>15} octets/s  {held.words()}"
+    rows = [f"{held.counts[0]:>12} {held.counts[1]:>15} {parts.grouped(round(held.rate)):>15} octets/s  {held.words}"
             f"  # {done_words(held, state.options)}; {state_words(held)}" for held in rules]
     return "\n".join(head + rows) + "\n"
 
 
 def as_json(rules, state):
-    rows = [{"rule": held.words(), "packets": held.counts[0], "octets": held.counts[1],
+    rows = [{"rule": held.words, "packets": held.counts[0], "octets": held.counts[1],
              "octets_per_second": round(held.rate), "acts": held.acts(), "reason": held.reason,
              "does": done_words(held, state.options)} for held in rules]
     return json.dumps({"moment": moment_words(time.time()), "device": state.options.device,
@@ -112,18 +112,23 @@ def as_json(rules, state):
                        "device_packets": state.device, "rules": rows}, indent=1) + "\n"
 
 
+def series(name, words, kind, rows):
+    """The lines of a name; each row has labels and a value."""
+    return [f"# HELP welgutan_{name} {words}", f"# TYPE welgutan_{name} {kind}",
+            *(f"welgutan_{name}{{{', '.join(labels)}}} {value}" for labels, value in rows)]
+
+
 def as_series(rules, state):
-    lines = []
-    for name, words, kind, value in state.rows():
-        lines += [f"# HELP welgutan_{name} {words}", f"# TYPE welgutan_{name} {kind}", f"welgutan_{name} {value}"]
+    """The device is a label of all, so that several followers' files may stand side by side."""
+    device = f'device="{state.options.device}"'
+    lines = [line for *head, value in state.rows() for line in series(*head, [([device], value)])]
     acting = sum(held.acts() for held in rules)
-    lines += ["# HELP welgutan_rules admitted rules, and whether they act", "# TYPE welgutan_rules gauge",
-              f'welgutan_rules{{state="acts"}} {acting}', f'welgutan_rules{{state="left out"}} {len(rules) - acting}']
+    lines += series("rules", "admitted rules, and whether they act", "gauge",
+                    [([device, 'state="acts"'], acting), ([device, 'state="left out"'], len(rules) - acting)])
     most = sorted((held for held in rules if held.acts()), key=lambda held: -held.counts[0])[:MOST_SERIES]
     for place, name in enumerate(("packets", "octets")):
-        lines += [f"# HELP welgutan_rule_{name}_total what the rule matched",
-                  f"# TYPE welgutan_rule_{name}_total counter"]
-        lines += [f'welgutan_rule_{name}_total{{rule="{held.words()}"}} {held.counts[place]}' for held in most]
+        lines += series(f"rule_{name}_total", f"{name} that the rule matched", "counter",
+                        [([device, f'rule="{held.words}"'], held.counts[place]) for held in most])
     return "\n".join(lines) + "\n"
 
 
