@@ -2,6 +2,7 @@
 
 ghost use Rattle.std.specs.Prelude.{◌≡◌, ◌≤◌, List, IsTrue, IfOk, MatchResult};
 ghost use Rattle.fs_base.specs.{Files.{OnlySlot}, Outside.{Rose}};
+ghost use Rattle.fs_compile.specs.Matcher.{AreMadeWhereNoted, admitted_in};
 ghost use Rattle.fs_desk.specs.Leaves.{Leaves};
 ghost use Rattle.cmd_stages.specs.{Play.{EndsBy, IsOpenOrDone, until}, Player.{IsUnplayed, Stands}, Refusal.{IsOfTape, answered}};
 ghost use Rattle.fs_tape.specs.Tape.{Timed};
@@ -51,6 +52,8 @@ impl<'a> Following<'a> {
             (λ _. IsOpenOrDone self.new.player.tape self.new.player.ahead)
             (EndsBy self.new.player.tape) }
         ensures compiled { IfOk result (λ _. IsCompiled self.new.player.desk.held self.new.rules) }
+        ensures kept { IfOk result (λ _. AreMadeWhereNoted self.new.player.desk.changes
+            (admitted_in self.new.player.desk.held) self.old.rules self.new.rules) }
 
         ensures played { IsTrue F.tells
             → (items : List Timed)

@@ -1,5 +1,5 @@
 -- An index with the rules of one destination put anew.
-use Rattle.fs_compile.proofs.{Words.{◌≡◌, ℕ, ◌-◌, ◌≤◌, sym, ap, subst, ◌∙◌, Option, List, ◌++◌, take, drop, length, arith, AllByRecursion, splice, length-map, Family, Listed, Fast, StandsFor, AreHoused, HasStretch, Indexed, IsIndexOf, StandForEach, actions_of, IsOfFamily, span_of, spans_of, IsStretch, each_spliced, map_spliced, rules_size}, Indexing.{stand_size}}
+use Rattle.fs_compile.proofs.{Words.{◌≡◌, ℕ, ◌≤◌, sym, ap, subst, ◌∙◌, Option, true, List, [], ◌∷◌, ◌++◌, take, drop, length, arith, AllByRecursion, AllZip, splice, length-map, Family, Listed, Fast, StandsFor, AreHoused, HasStretch, Indexed, IsIndexOf, StandForEach, AreKept, actions_of, IsOfFamily, span_of, spans_of, IsStretch, each_spliced, map_spliced, rules_size}, Indexing.{stand_size}}
 use Rattle.fs_buckets.proofs.Pairing.{each_append as pairs_append, each_dropped as pairs_dropped, each_taken as pairs_taken}
 
 -- the index stands for the rules with the stretch put anew
@@ -37,11 +37,23 @@ all_shared family rules index to h le =
     let a : length index.actions ≡ length rules = ap length h.actions_are ∙ length-map rules (λ r. r.actions) in
     omega (arith, le, z, a)
 
--- the compiled rules with a stretch put anew stand for the rules with it
-pub stand_spliced : (rules news : List Listed) (fasts others : List Fast) (from to : ℕ) → StandForEach rules fasts → StandForEach news others
-    → StandForEach (splice rules from to news) (splice fasts from to others)
-stand_spliced rules news fasts others from to h k =
+-- what holds of each rule and what it was compiled to still does where a stretch of both is put anew
+pub pairs_spliced : (R : Listed → Fast → Type 0) (rules news : List Listed) (fasts others : List Fast) (from to : ℕ) → AllZip R rules fasts → AllZip R news others
+    → AllZip R (splice rules from to news) (splice fasts from to others)
+pairs_spliced R rules news fasts others from to h k =
     pairs_append R (take from rules) (news ++ drop to rules) (take from fasts) (others ++ drop to fasts) (pairs_taken R from rules fasts h)
-    (pairs_append R news (drop to rules) others (drop to fasts) k (pairs_dropped R to rules fasts h)) where
-      R : Listed → Fast → Type 0
-      R r f = StandsFor r.rule f
+    (pairs_append R news (drop to rules) others (drop to fasts) k (pairs_dropped R to rules fasts h))
+
+-- what holds of these rules whatever they are compiled to
+any_form : (R S : Listed → Fast → Type 0) (news : List Listed) (others : List Fast) → AllZip R news others
+    → AllByRecursion (λ r. (fast : Fast) → S r fast) news → AllZip S news others
+any_form R S [] [] h k = tt
+any_form R S [] (f ∷ fs) h k = absurd h
+any_form R S (r ∷ rs) [] h k = absurd h
+any_form R S (r ∷ rs) (f ∷ fs) h k = (k.0 f, any_form R S rs fs h.1 k.1)
+
+pub kept_spliced : (rules news : List Listed) (fasts others : List Fast) (from to : ℕ) → StandForEach news others
+    → AreKept news rules (splice rules from to news) fasts (splice fasts from to others)
+kept_spliced rules news fasts others from to k = λ holds anew was.
+    pairs_spliced (λ r fast. holds r fast ≡ true) rules news fasts others from to was
+    (any_form (λ r fast. StandsFor r.rule fast) (λ r fast. holds r fast ≡ true) news others k anew)

@@ -175,6 +175,11 @@ pub no_more_rules : (rules : Family → List Listed) (compiled : Compiled) (most
 no_more_rules rules compiled most h e V4 = let size : length compiled.v4.rules ≡ length (rules V4) = stand_size (rules V4) compiled.v4.rules h.v4.stands in omega (arith, e, size)
 no_more_rules rules compiled most h e V6 = let size : length compiled.v6.rules ≡ length (rules V6) = stand_size (rules V6) compiled.v6.rules h.v6.stands in omega (arith, e, size)
 
+pub most_rules : (rules : Family → List Listed) (compiled : Compiled) (most : ℕ) → StandsForLists rules compiled → most ≡ max (length compiled.v4.rules) (length compiled.v6.rules)
+    → most ≡ max (length (rules V4)) (length (rules V6))
+most_rules rules compiled most h e =
+    e ∙ ap₂ max (stand_size (rules V4) compiled.v4.rules h.v4.stands) (stand_size (rules V6) compiled.v6.rules h.v6.stands)
+
 -- behind the last rule nothing is found
 pub none_behind : (view : Viewed) (rules : List Listed) (index : Indexed) (family : Family) (n : ℕ) → IsIndexOf family rules index → length index.rules ≤ n → None ≡ next_from n view rules
 none_behind view rules index family n h past = sym (ap (first_from n view) (drop_of_length-le rules short)) where

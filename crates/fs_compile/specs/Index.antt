@@ -1,5 +1,5 @@
 -- What the index of a family's rules stands for.
-use Rattle.std.specs.{Prelude.{◌≡◌, ℕ, List, map}, List.{AllByRecursion, AllZip}}
+use Rattle.std.specs.{Prelude.{◌≡◌, ℕ, Bool, true, List, map}, List.{AllByRecursion, AllZip}}
 use Rattle.fs_base.specs.declared.prefix.Family.{Family}
 use Rattle.fs_rules.specs.Lent.{Listed}
 use Rattle.fs_buckets.specs.{declared.Buckets.{Buckets}, Destinations.{spans_of, IsOfFamily}, Housed.{AreHoused}}
@@ -24,3 +24,16 @@ pub record IsIndexOf (family : Family) (rules : List Listed) (index : Indexed) :
   pub housed : AreHoused (spans_of rules) index.buckets
   pub each : AllByRecursion (IsOfFamily family) rules
   pub actions_are : index.actions ≡ actions_of rules
+
+-- Whatever holds of each rule with what it was compiled to holds still, but for these rules, which were compiled anew.
+abbrev pub AreKept : (news rules all : List Listed) → (old new : List Fast) → Type 0
+AreKept news rules all old new =
+    (holds : Listed → Fast → Bool)
+    → AllByRecursion (λ r. (fast : Fast) → holds r fast ≡ true) news
+    → AllZip (λ r fast. holds r fast ≡ true) rules old
+    → AllZip (λ r fast. holds r fast ≡ true) all new
+
+-- the index with these rules put anew among the others
+pub record IsMended (family : Family) (news rules all : List Listed) (old new : Indexed) : Type 0 where
+  pub stands : IsIndexOf family all new
+  pub kept : AreKept news rules all old.rules new.rules

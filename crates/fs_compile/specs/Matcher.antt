@@ -1,15 +1,33 @@
 -- What a compiled matcher stands for, and the walk that is taken with it (RFC 8955 sections 5.1 and 7.3).
-use Rattle.std.specs.Prelude.{ℕ, ◌≡◌, ◌+◌, Option, Some, None, List, [], ◌∷◌, drop, get_or, if◌then◌else◌}
+use Rattle.std.specs.{Prelude.{ℕ, ◌≡◌, ◌+◌, ◌||◌, Bool, true, Option, Some, None, List, [], ◌∷◌, drop, get_or, if◌then◌else◌}, List.{AllByRecursion, AllZip}}
 use Rattle.fs_base.specs.declared.prefix.Family.{Family, TheVariants.{V4, V6}}
 use Rattle.fs_packet.specs.Fields.{Viewed}
 pub use Rattle.fs_buckets.specs.Mending.{admitted_in}
-use Rattle.fs_rules.specs.{Lent.{Listed}, Walk.{first_from, goes_on, walk_from}}
-use Rattle.fs_compile.specs.{declared.compiled.Compiled.{Compiled}, Index.{IsIndexOf}}
+use Rattle.fs_ranges.specs.declared.Fast.{Fast}
+use Rattle.fs_rules.specs.{Changes.{Noted, is_noted}, Lent.{Listed}, Walk.{first_from, goes_on, walk_from}}
+use Rattle.fs_compile.specs.{declared.compiled.Compiled.{Compiled}, Index.{AreKept, IsIndexOf}}
 
 -- it stands for these rules of each family, which are numbered from 0
 pub record StandsForLists (rules : Family → List Listed) (compiled : Compiled) : Type 0 where
   pub v4 : IsIndexOf V4 (rules V4) compiled.v4
   pub v6 : IsIndexOf V6 (rules V6) compiled.v6
+
+-- what the rules of a family were compiled to, in order
+abbrev pub compiled_in : Compiled → Family → List Fast
+compiled_in compiled V4 = compiled.v4.rules
+compiled_in compiled V6 = compiled.v6.rules
+
+-- it stands for rules of which these were put anew among the others
+pub record ArePut (news : List Listed) (rules all : Family → List Listed) (old new : Compiled) : Type 0 where
+  pub stands : StandsForLists all new
+  pub kept : (family : Family) → AreKept news (rules family) (all family) (compiled_in old family) (compiled_in new family)
+
+-- Each rule's compiled form is one of those before, but where the rule was noted: whatever held of all still holds of it.
+abbrev pub AreMadeWhereNoted : Noted → (rules : Family → List Listed) → (old new : Compiled) → Type 0
+AreMadeWhereNoted noted rules old new =
+    (family : Family) (holds : Fast → Bool)
+    → AllByRecursion (λ fast. holds fast ≡ true) (compiled_in old family)
+    → AllZip (λ r fast. (is_noted noted r.rule || holds fast) ≡ true) (rules family) (compiled_in new family)
 
 -- the least number from n on of a rule that matches the packet
 abbrev pub next_from : ℕ → Viewed → List Listed → Option ℕ

@@ -1,9 +1,9 @@
 //! The admitted rules of a table, compiled.
 
-ghost use Rattle.std.specs.{Prelude.{◌≡◌, ◌≤◌, ◌+◌, IfOk, List, OnOk, length}, List.{AllByRecursion}};
-ghost use Rattle.fs_base.specs.declared.prefix.Family.{Family};
+ghost use Rattle.std.specs.{Prelude.{◌≡◌, ◌≤◌, ◌+◌, IfOk, List, OnOk, length, max}, List.{AllByRecursion}};
+ghost use Rattle.fs_base.specs.declared.prefix.Family.{Family, TheVariants.{V4, V6}};
 ghost use Rattle.fs_rules.specs.{Changes.{Covers}, Lent.{Listed, all_admitted}, Table.{Held}};
-ghost use Rattle.fs_compile.specs.{Index.{IsIndexOf, actions_of}, Mending.{AreOwn, put_in, replaced}, Matcher.{StandsForLists, WalksByNext, admitted_in, next_from}, Matches.{AreMatchesOf}, Reach.{reaching}};
+ghost use Rattle.fs_compile.specs.{Index.{IsIndexOf, actions_of}, Mending.{AreOwn, put_in, replaced}, Matcher.{AreMadeWhereNoted, ArePut, StandsForLists, WalksByNext, admitted_in, next_from}, Matches.{AreMatchesOf}, Reach.{reaching}};
 ghost use Rattle.fs_buckets.specs.Destinations.{IsOfFamily, spans_of, AreTo, target_of};
 
 use crate::index::Index;
@@ -37,8 +37,9 @@ impl Compiled {
         })
     }
 
-    /// Compiles anew the rules that the table admits at the places that were noted, or all where all may have changed.
-    /// What it holds then is what `build` makes. Behind an error it is of no use.
+    /// Compiles anew the rules that the table admits at the places that were noted, or all where all may have changed;
+    /// of the others it keeps what they were compiled to. What it holds then is what `build` makes. Behind an error it
+    /// is of no use.
     ///
     /// # Errors
     ///
@@ -55,6 +56,7 @@ impl Compiled {
             × Covers base changes.now table.now }
         ensures stands { OnOk result (StandsForLists (admitted_in table.now) self.new) }
         ensures own { OnOk result (AreOwn (admitted_in table.now)) }
+        ensures kept { OnOk result (AreMadeWhereNoted changes.now (admitted_in table.now) self.old self.new) }
     {
         if changes.are_all() {
             *self = Compiled::build(alloc, table)?;
@@ -75,10 +77,10 @@ impl Compiled {
         requires some { (rules : Family → List Listed) × StandsForLists rules self.old }
         ensures { OnOk result ((rules : Family → List Listed)
             → StandsForLists rules self.old
-            → StandsForLists
+            → ArePut (all_admitted list.now) rules
             (put_in place.family
             (replaced (target_of place.destination) (all_admitted list.now) (rules place.family)) rules)
-            self.new) }
+            self.old self.new) }
     {
         match place.family {
             Family::V4 => self.v4.replace(alloc, place, list),
@@ -97,10 +99,13 @@ impl Compiled {
 
     /// As many rules as the family with more of them has: no walk has more.
     pub fn most(&self) -> usize
-        ensures { (rules : Family → List Listed)
+        ensures most { (rules : Family → List Listed)
             → StandsForLists rules self.now
             → (family : Family)
             → length (rules family) ≤ result }
+        ensures exact { (rules : Family → List Listed)
+            → StandsForLists rules self.now
+            → result ≡ max (length (rules V4)) (length (rules V6)) }
     {
         self.v4.len().max(self.v6.len())
     }

@@ -6,7 +6,7 @@ ghost use Rattle.fs_packet.specs.Fields.{Viewed};
 ghost use Rattle.fs_rules.specs.Lent.{Listed, all_admitted};
 ghost use Rattle.fs_buckets.specs.{Addresses.{number_of}, Housed.{AreSound}, Destinations.{AreTo, IsOfFamily, IsStretch, spans_of, target_of}, Runs.{AreNesting}};
 ghost use Rattle.fs_ranges.specs.{Facts.{AreFacts}, declared.Fast.{Fast}};
-ghost use Rattle.fs_compile.specs.{Filters.{AreFilters, IsFilter}, Index.{IsIndexOf, StandForEach, actions_of}, Mending.{replaced}, Matcher.{next_from}, Reach.{reaching_behind, reaching_from}, Search.{Starts, behind_hit, hit_number}};
+ghost use Rattle.fs_compile.specs.{Filters.{AreFilters, IsFilter}, Index.{IsIndexOf, IsMended, StandForEach, actions_of}, Mending.{replaced}, Matcher.{next_from}, Reach.{reaching_behind, reaching_from}, Search.{Starts, behind_hit, hit_number}};
 
 use crate::filters::{FEW_RULES, Filter, Filters};
 use crate::search::{Cursor, Hit, climb, place_behind, place_from};
@@ -81,7 +81,8 @@ impl Index {
         requires some { (rules : List Listed) × IsIndexOf place.family rules self.old }
         ensures { OnOk result ((rules : List Listed)
             → IsIndexOf place.family rules self.old
-            → IsIndexOf place.family (replaced (target_of place.destination) (all_admitted list.now) rules) self.new) }
+            → IsMended place.family (all_admitted list.now) rules
+            (replaced (target_of place.destination) (all_admitted list.now) rules) self.old self.new) }
     {
         let none = Vec::new(alloc);
         let index = replace(self, Index::of(alloc, place.family, &none)?);
@@ -97,7 +98,8 @@ impl Index {
         ensures { IfOk result (λ index.
             (rules : List Listed)
             → IsIndexOf place.family rules self
-            → IsIndexOf place.family (replaced (target_of place.destination) (all_admitted list.now) rules) index) }
+            → IsMended place.family (all_admitted list.now) rules
+            (replaced (target_of place.destination) (all_admitted list.now) rules) self index) }
     {
         let (from, to) = self.stretch(place.destination);
         if list.len() > MOST - (self.rules.len() - (to - from)) {
@@ -142,7 +144,7 @@ impl Index {
             (rules : List Listed)
             → IsIndexOf place.family rules self
             → IsStretch (spans_of rules) (target_of place.destination) from to
-            → IsIndexOf place.family (splice rules from to (all_admitted list.now)) index) }
+            → IsMended place.family (all_admitted list.now) rules (splice rules from to (all_admitted list.now)) self index) }
     {
         let old = self.buckets;
         let mut rules = self.rules;

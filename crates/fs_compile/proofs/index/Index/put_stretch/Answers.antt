@@ -1,4 +1,4 @@
-use Rattle.fs_compile.proofs.{Words.{◌≡◌, ℕ, ◌+◌, ◌-◌, ◌^◌, ◌<◌, ◌≤◌, List, length, sym, ap, ap₂, subst, ◌∙◌, arith, splice, all_admitted, Fast, AreFilters, Indexed, StandForEach, target_of, AreSound, sound_more, map_spliced, spliced_size}, Indexing.{stand_size}, IndexMending.{has_stretch, index_spliced, stand_spliced}}
+use Rattle.fs_compile.proofs.{Words.{◌≡◌, ℕ, ◌+◌, ◌-◌, ◌^◌, ◌<◌, ◌≤◌, List, length, sym, ap, ap₂, subst, ◌∙◌, arith, splice, all_admitted, Fast, StandsFor, AreKept, AreFilters, Indexed, StandForEach, target_of, AreSound, sound_more, map_spliced, spliced_size}, Indexing.{stand_size}, IndexMending.{has_stretch, index_spliced, kept_spliced, pairs_spliced}}
 use Rattle.fs_compile.proofs.index.Index.put_stretch.Goals as goal
 
 -- how many rules there are
@@ -55,13 +55,17 @@ invariant_of-result c = (subst (AreSound c.in_ok-buckets.buckets) (sym (size ∙
       (target_of c.args.place.destination) c.args.from c.args.to c.self.view_is c.self.invariant.0.few c.requires.some.1 c.requires.some.2)).sound
 
 pub returns : goal.returns
-returns c = λ rules h s.
-    index_spliced c.args.place.family rules (all_admitted c.args.list.now) c.args.from c.args.to (record { buckets = c.in_ok-buckets.buckets; rules = c.put_between-2.new.items.items; actions = c.put_between.new.items.items }) h.each c.requires.each
-    (subst (StandForEach (splice rules c.args.from c.args.to (all_admitted c.args.list.now))) (sym c.in_ok-put_between-2.ensures)
-    (stand_spliced rules (all_admitted c.args.list.now) c.self.inside.rules.items c.in_ok-compiled_rules.field-0.items c.args.from c.args.to
-    (subst (λ (x : Indexed). StandForEach rules x.rules) (sym c.self.view_is) h.stands) c.in_ok-compiled_rules.ensures.stand))
-    (c.in_ok-put_between.ensures ∙ ap₂ (λ xs ys. splice xs c.args.from c.args.to ys) (ap (λ (x : Indexed). x.actions) c.self.view_is ∙ h.actions_are) c.in_ok-shared_actions.ensures
-    ∙ sym (map_spliced (λ r. r.actions) rules (all_admitted c.args.list.now) c.args.from c.args.to))
-    ((c.in_ok-buckets.ensures rules
-    (has_stretch c.args.place.family rules (record { buckets = c.self.inside.buckets; rules = c.self.inside.rules.items; actions = c.self.inside.actions.items }) c.args.self (target_of c.args.place.destination) c.args.from c.args.to c.self.view_is
-    c.self.invariant.0.few h s)).housed)
+returns c = λ rules h s. record {
+  kept = subst (λ fasts. AreKept (all_admitted c.args.list.now) rules (splice rules c.args.from c.args.to (all_admitted c.args.list.now)) c.args.self.rules fasts) (sym c.in_ok-put_between-2.ensures)
+      (subst (λ (x : Indexed). AreKept (all_admitted c.args.list.now) rules (splice rules c.args.from c.args.to (all_admitted c.args.list.now)) x.rules (splice c.self.inside.rules.items c.args.from c.args.to c.in_ok-compiled_rules.field-0.items))
+      c.self.view_is (kept_spliced rules (all_admitted c.args.list.now) c.self.inside.rules.items c.in_ok-compiled_rules.field-0.items c.args.from c.args.to c.in_ok-compiled_rules.ensures.stand));
+  stands = index_spliced c.args.place.family rules (all_admitted c.args.list.now) c.args.from c.args.to (record { buckets = c.in_ok-buckets.buckets; rules = c.put_between-2.new.items.items; actions = c.put_between.new.items.items }) h.each c.requires.each
+      (subst (StandForEach (splice rules c.args.from c.args.to (all_admitted c.args.list.now))) (sym c.in_ok-put_between-2.ensures)
+      (pairs_spliced (λ r fast. StandsFor r.rule fast) rules (all_admitted c.args.list.now) c.self.inside.rules.items c.in_ok-compiled_rules.field-0.items c.args.from c.args.to
+      (subst (λ (x : Indexed). StandForEach rules x.rules) (sym c.self.view_is) h.stands) c.in_ok-compiled_rules.ensures.stand))
+      (c.in_ok-put_between.ensures ∙ ap₂ (λ xs ys. splice xs c.args.from c.args.to ys) (ap (λ (x : Indexed). x.actions) c.self.view_is ∙ h.actions_are) c.in_ok-shared_actions.ensures
+      ∙ sym (map_spliced (λ r. r.actions) rules (all_admitted c.args.list.now) c.args.from c.args.to))
+      ((c.in_ok-buckets.ensures rules
+      (has_stretch c.args.place.family rules (record { buckets = c.self.inside.buckets; rules = c.self.inside.rules.items; actions = c.self.inside.actions.items }) c.args.self (target_of c.args.place.destination) c.args.from c.args.to c.self.view_is
+      c.self.invariant.0.few h s)).housed);
+}

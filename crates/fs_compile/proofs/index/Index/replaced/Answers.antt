@@ -1,4 +1,4 @@
-use Rattle.fs_compile.proofs.{Words.{length, sym, ap, subst, ◌∙◌, arith, all_admitted, Indexed, IsIndexOf, target_of}, IndexMending.{all_shared, stretch_bounds}}
+use Rattle.fs_compile.proofs.{Words.{length, sym, ap, subst, ◌∙◌, arith, all_admitted, Indexed, IsMended}, IndexMending.{all_shared, stretch_bounds}}
 use Rattle.fs_buckets.proofs.Replaced.{replaced_is}
 use Rattle.std.proofs.lemmas.Result.{IfOk-weaker}
 use Rattle.fs_compile.proofs.index.Index.replaced.Goals as goal
@@ -28,5 +28,5 @@ returns c =
     IfOk-weaker c.put_stretch.result _ _
     (λ x stands. λ rules h.
     let s = c.stretch-from.ensures.stretch c.args.place.family rules h in
-    subst (λ rs. IsIndexOf c.args.place.family rs x) (sym (replaced_is rules (all_admitted c.args.list.now) _ _ _ s)) (stands rules h s))
+    subst (λ rs. IsMended c.args.place.family (all_admitted c.args.list.now) rules rs c.args.self x) (sym (replaced_is rules (all_admitted c.args.list.now) _ _ _ s)) (stands rules h s))
     c.put_stretch.ensures
