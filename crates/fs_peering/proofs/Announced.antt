@@ -1,5 +1,5 @@
 -- How what an announcing end says over a wire follows from how it stands.
-use Rattle.fs_peering.{proofs.{Words.{Announcing, Closed, Config, Lined, Machine, Peer, Phase, Sending, Told, WireEnds, is_established, machine_in, open_sent, state_in, text_sent, ◌≡◌, ◌<◌, ◌≤◌, ℕ, ◌+◌, ◌-◌, List, [], ◌++◌, length, IsTrue, Bool, true, false, if◌then◌else◌, Option, Some, None, refl, ap, sym, ◌∙◌, subst, arith, append_assoc, append-nil, flat_map, is_some, length-map, take_all, none_there, EndsSo, HeardOut, HearsOut, Part, Pieces, Spoken, Stance, moments_in, octets_in, Stopped, All, Over, Ending, Done, AtLimit, course, CountsTo, SaysUpTo, ClosesSo, HasHeard, ahead_of, before_all, is_settled, rules_of, Teller, Tells, TellsOver, TellsSo, answers_to, begins_with}, Composing.{part_then}, WrittenInParts.{told_and}, Counting.{Opens, ends_by, met_by, opens_so}, Hearing.{no_rules, unsettled}, Sending.{says_start}, Settled.{settled_up, state_open, state_shut}}, specs.{declared.{listening.Stopped.TheVariants.{AtLimit as MetIt}, tell.Ending.TheVariants.{Ended, Closed as HasClosed}}, Teller.{is_over}, Tell.{SaidAll}}}
+use Rattle.fs_peering.{proofs.{Words.{Announcing, Closed, Config, Lined, Machine, Peer, Phase, Sending, TakesIn, Told, WireEnd, WireEnds, is_established, machine_in, open_sent, state_in, text_sent, ◌≡◌, ◌<◌, ◌≤◌, ℕ, ◌+◌, ◌-◌, List, [], ◌++◌, length, IsTrue, Bool, true, false, if◌then◌else◌, Option, Some, None, refl, ap, sym, ◌∙◌, subst, arith, append_assoc, append-nil, flat_map, is_some, length-map, take_all, none_there, EndsSo, HeardOut, HearsOut, IsInTime, Part, Pieces, Spoken, Stance, moments_in, octets_in, Stopped, All, Over, Ending, Done, AtLimit, course, CountsTo, SaysUpTo, ClosesSo, HasHeard, ahead_of, before_all, is_settled, rules_of, Teller, Tells, TellsOver, TellsSo, answers_to, begins_with}, Composing.{part_then, same_stance}, WrittenInParts.{told_and}, Counting.{Opens, ends_by, met_by, opens_so}, Hearing.{no_rules, unsettled}, Sending.{says_start}, Settled.{settled_up, state_open, state_shut}}, specs.{declared.{listening.Stopped.TheVariants.{AtLimit as MetIt}, tell.Ending.TheVariants.{Ended, Closed as HasClosed}}, Teller.{is_over}, Tell.{SaidAll, farewell_to}}}
 
 -- whose it is
 pub record IsOf (end : Announcing) (config : Config) (peer : Peer) (sending : Sending) : Type 0 where
@@ -56,6 +56,7 @@ module _ (end : Announcing) (started : Bool) (count : ℕ) (heard : Pieces) (sai
         record {
           phase = opens.phase;
           behind = opens.behind;
+          alive = h.alive alive;
           found = opens.found;
           up = opens.up ∙ sym (state_open end.line alive) ∙ up;
           within = omega (arith, c, within);
@@ -72,17 +73,34 @@ module _ (end : Announcing) (started : Bool) (count : ℕ) (heard : Pieces) (sai
         all : rules_of end ≡ flat_map (text_sent end.config end.peer end.line.phase.four end.sending) end.sending.rules
         all = ap (flat_map (text_sent end.config end.peer end.line.phase.four end.sending)) (take_all end.appended end.sending.rules (sub_none (if started then 0 else 1) (length end.sending.rules) end.appended left))
 
+-- what an end said, and then this
+abbrev pub Leaves : Stance → List ℕ → Stance
+Leaves stance text heard said = (earlier : List ℕ) × ((said ≡ earlier ++ text) × stance heard earlier)
+
+leaving : (stance : Stance) (text : List ℕ) (b c : WireEnds) → TakesIn 1 text b c → Spoken stance (Leaves stance text) 1 b c
+leaving stance text b c took = record {
+  out = text;
+  part = record {
+    stands = λ earlier spoken s. (spoken, (refl, same_stance stance _ _ spoken spoken (sym (append-nil earlier)) refl s));
+    read = sym (ap (λ (e : WireEnd). e.left) took.wrote);
+    wrote = ap (λ (e : WireEnd). e.written) took.wrote;
+    tied = ap (λ (e : WireEnd). e.joined) took.wrote;
+    other = took.other;
+  };
+}
+
 -- what was said first, what was heard and said then, and what was said last
-record Whole (s0 s3 : Stance) (given : List ℕ) (before now : WireEnds) : Type 0 where
+record Whole (s0 s3 : Stance) (limit : ℕ) (given : List ℕ) (before now : WireEnds) : Type 0 where
   heard : Pieces
   said : List ℕ
   part : Part s0 s3 1 heard said before now
   asked : moments_in heard ≡ given
   some : 0 < length heard
+  within : length (octets_in heard) ≤ limit
 
-first_heard : (heard : Stopped) (s0 s1 s2 : Stance) (over : Bool) (count limit : ℕ) (given : List ℕ) (a b c : WireEnds) → Spoken s0 s1 1 a b → HeardOut heard s1 s2 over count 1 limit given b c
-    → Whole s0 s2 given a c
-first_heard heard s0 s1 s2 over count limit given a b c first later = record {
+first_heard : (heard : Stopped) (s0 s1 s2 : Stance) (over : Bool) (begun count limit : ℕ) (given : List ℕ) (a b c : WireEnds) → Spoken s0 s1 1 a b
+    → HeardOut heard s1 s2 over begun count 1 limit given b c → Whole s0 s2 limit given a c
+first_heard heard s0 s1 s2 over begun count limit given a b c first later = record {
   heard = later.listened.heard;
   said = first.out ++ later.listened.said;
   part = part_then s0 s1 s2 1 [] later.listened.heard first.out later.listened.said a b c first.part later.listened.part;
@@ -90,15 +108,17 @@ first_heard heard s0 s1 s2 over count limit given a b c first later = record {
   some =
       let e : length later.listened.heard ≡ length given = sym (length-map later.listened.heard (λ (p : ℕ × List ℕ). p.0)) ∙ ap (λ (z : List ℕ). length z) later.listened.asked in
       omega (arith, e, later.some);
+  within = let few = later.within in omega (arith, few);
 }
 
-said_last : (s0 s1 s2 : Stance) (given : List ℕ) (a b c : WireEnds) (w : Whole s0 s1 given a b) → Spoken s1 s2 1 b c → Whole s0 s2 given a c
-said_last s0 s1 s2 given a b c w last = record {
+said_last : (s0 s1 s2 : Stance) (limit : ℕ) (given : List ℕ) (a b c : WireEnds) (w : Whole s0 s1 limit given a b) → Spoken s1 s2 1 b c → Whole s0 s2 limit given a c
+said_last s0 s1 s2 limit given a b c w last = record {
   heard = w.heard ++ [];
   said = w.said ++ last.out;
   part = part_then s0 s1 s2 1 w.heard [] w.said last.out a b c w.part last.part;
   asked = ap moments_in (append-nil w.heard) ∙ w.asked;
   some = subst (λ (z : Pieces). 0 < length z) (sym (append-nil w.heard)) w.some;
+  within = subst (λ (z : Pieces). length (octets_in z) ≤ limit) (sym (append-nil w.heard)) w.within;
 }
 
 -- the clause, from how the end stands
@@ -107,7 +127,7 @@ module _ (ending : Ending) (config : Config) (peer : Peer) (sending : Sending) (
   own left heard said = TellsSo ending end.config end.peer end.sending limit heard said left
 
   told_so : (given : List ℕ) (s0 : Stance) (a b : WireEnds) → s0 [] [] → ((heard : Pieces) (said : List ℕ) → 0 < length heard → SaysUpTo false end started count heard said → own b.second.left heard said)
-      → Whole s0 (SaysUpTo on end started count) given a b → Tells ending config peer sending limit given a b
+      → Whole s0 (SaysUpTo on end started count) limit given a b → Tells ending config peer sending limit given a b
   told_so given s0 a b start ends w =
       let h : SaysUpTo false end started count w.heard w.said = subst (λ (x : Bool). SaysUpTo x end started count w.heard w.said) off (w.part.stands [] [] start) in
       subst (λ (c : Config). Tells ending c peer sending limit given a b) of.config_is
@@ -116,10 +136,31 @@ module _ (ending : Ending) (config : Config) (peer : Peer) (sending : Sending) (
         heard = w.heard;
         said = w.said;
         read = w.part.read;
+        within = w.within;
         wrote = w.part.wrote;
         asked = w.asked;
         listened = h.0.listened;
         ends = ends w.heard w.said w.some h;
+      })))
+
+  -- and so where this was said last
+  told_leaving : (text : List ℕ) (given : List ℕ) (s0 : Stance) (a b : WireEnds) → s0 [] []
+      → ((heard : Pieces) (said : List ℕ) → 0 < length heard → SaysUpTo false end started count heard said → own b.second.left heard (said ++ text))
+      → Whole s0 (Leaves (SaysUpTo on end started count) text) limit given a b → Tells ending config peer sending limit given a b
+  told_leaving text given s0 a b start ends w =
+      let stood = w.part.stands [] [] start in
+      let h : SaysUpTo false end started count w.heard stood.0 = subst (λ (x : Bool). SaysUpTo x end started count w.heard stood.0) off stood.1.1 in
+      subst (λ (c : Config). Tells ending c peer sending limit given a b) of.config_is
+      (subst (λ (p : Peer). Tells ending end.config p sending limit given a b) of.peer_is
+      (subst (λ (s : Sending). Tells ending end.config end.peer s limit given a b) of.sending_is (record {
+        heard = w.heard;
+        said = w.said;
+        read = w.part.read;
+        within = w.within;
+        wrote = w.part.wrote;
+        asked = w.asked;
+        listened = h.0.listened;
+        ends = subst (own b.second.left w.heard) (sym stood.1.0) (ends w.heard stood.0 w.some h);
       })))
 
 -- what stays of an end
@@ -159,60 +200,73 @@ module _ (config : Config) (peer : Peer) (sending : Sending) (limit : ℕ) (firs
       (subst (λ (x : Bool). SaysUpTo x spoke.announcer spoke.started spoke.count [] ([] ++ f.out)) off_spoke (f.part.stands [] [] start)).0.none
       (unsettled spoke.announcer.line (subst (λ (x : Bool). is_over x spoke.announcer.line ≡ false) off_spoke open_before)).1
 
-  pub at_end : (ending : Ending) (heard : Stopped) (over : Bool) (so_far : ℕ) → HearsOut heard s1 s2 over so_far 1 limit t1 t2 answers answers'
+  pub at_end : (ending : Ending) (heard : Stopped) (over : Bool) (begun so_far : ℕ) → HearsOut heard s1 s2 over begun so_far 1 limit t1 t2 answers answers'
       → end.appended ≡ spoke.announcer.appended
       → ((pieces : Pieces) (said left : List ℕ) → end.appended ≡ 0 → EndsSo heard over so_far limit left → 0 < length pieces → SaysUpTo false end now.started now.count pieces said
       → TellsSo ending end.config end.peer end.sending limit pieces said left)
       → TellsOver ending config peer sending limit t0 t2 answers answers'
-  at_end ending heard over so_far hears same ends = record {
+  at_end ending heard over begun so_far hears same ends = record {
     given = hears.given;
     grew = hears.grew;
-    told = told_and (Spoken s0 s1 1) (HeardOut heard s1 s2 over so_far 1 limit hears.given) (Tells ending config peer sending limit hears.given)
+    told = told_and (Spoken s0 s1 1) (HeardOut heard s1 s2 over begun so_far 1 limit hears.given) (Tells ending config peer sending limit hears.given)
         (λ a b c f l.
         told_so ending config peer sending limit now.hears_on end now.started now.count off (is_of end first.announcer config peer sending (ap (λ (t : Teller). t.announcer) (own_now ∙ own_spoke)) e) hears.given s0 a c start
         (λ pieces said some h. ends pieces said c.second.left (same ∙ unsent a b f) l.ends some h)
-        (first_heard heard s0 s1 s2 over so_far limit hears.given a b c f l))
+        (first_heard heard s0 s1 s2 over begun so_far limit hears.given a b c f l))
         t0 t1 t2 told hears.told;
   }
 
-  pub over_so : (why : Closed) (over : Bool) (so_far : ℕ) → HearsOut Over s1 s2 over so_far 1 limit t1 t2 answers answers' → end.appended ≡ spoke.announcer.appended
-      → end.line.closed ≡ Some why → TellsOver (HasClosed why) config peer sending limit t0 t2 answers answers'
-  over_so why over so_far hears same shut =
-      at_end (HasClosed why) Over over so_far hears same (λ pieces said left none e some h. closed_so end now.started now.count pieces said h.0 h.1 why some shut)
+  pub over_so : (why : Closed) (over : Bool) (begun so_far : ℕ) → HearsOut Over s1 s2 over begun so_far 1 limit t1 t2 answers answers' → end.line.closed ≡ Some why
+      → (t3 : Option WireEnds) → Told (TakesIn 1 (farewell_to why)) t2 t3 → TellsOver (HasClosed why) config peer sending limit t0 t3 answers answers'
+  over_so why over begun so_far hears shut t3 leaves = record {
+    given = hears.given;
+    grew = hears.grew;
+    told = told_and (Whole s0 s2 limit hears.given) (TakesIn 1 (farewell_to why)) (Tells (HasClosed why) config peer sending limit hears.given)
+        (λ a b c w l.
+        told_leaving (HasClosed why) config peer sending limit now.hears_on end now.started now.count off (is_of end first.announcer config peer sending (ap (λ (t : Teller). t.announcer) (own_now ∙ own_spoke)) e) (farewell_to why) hears.given s0 a c start
+        (λ pieces said some h. let c = closed_so end now.started now.count pieces said h.0 h.1 why some shut in
+        (c.0, (c.1.0, ap (λ (z : List ℕ). z ++ farewell_to why) c.1.1)))
+        (said_last s0 s2 (Leaves s2 (farewell_to why)) limit hears.given a b c w (leaving s2 (farewell_to why) b c l)))
+        t0 t2 t3
+        (told_and (Spoken s0 s1 1) (HeardOut Over s1 s2 over begun so_far 1 limit hears.given) (Whole s0 s2 limit hears.given)
+        (λ a b c f l. first_heard Over s0 s1 s2 over begun so_far limit hears.given a b c f l)
+        t0 t1 t2 told hears.told)
+        leaves;
+  }
 
   limit_end : (alive : end.line.closed ≡ None) → limit ≤ now.count → (pieces : Pieces) (said left : List ℕ) → end.appended ≡ 0 → 0 < length pieces → SaysUpTo false end now.started now.count pieces said
       → TellsSo AtLimit end.config end.peer end.sending limit pieces said left
   limit_end alive met pieces said left none some h =
-      (met_by (opens end now.started now.count pieces said h.0 h.1 alive) limit met, said_none end now.started now.count pieces said h.0 h.1 some none)
+      (met_by (opens end now.started now.count pieces said h.0 h.1 alive) limit met, (said_none end now.started now.count pieces said h.0 h.1 some none, h.0.alive alive))
 
-  pub over_limit : (over : Bool) (so_far : ℕ) → HearsOut Over s1 s2 over so_far 1 limit t1 t2 answers answers' → end.appended ≡ spoke.announcer.appended
+  pub over_limit : (over : Bool) (begun so_far : ℕ) → HearsOut Over s1 s2 over begun so_far 1 limit t1 t2 answers answers' → end.appended ≡ spoke.announcer.appended
       → end.line.closed ≡ None → limit ≤ now.count → TellsOver AtLimit config peer sending limit t0 t2 answers answers'
-  over_limit over so_far hears same alive met =
-      at_end AtLimit Over over so_far hears same (λ pieces said left none e some h. limit_end alive met pieces said left none some h)
+  over_limit over begun so_far hears same alive met =
+      at_end AtLimit Over over begun so_far hears same (λ pieces said left none e some h. limit_end alive met pieces said left none some h)
 
-  pub limit_so : (over : Bool) (so_far : ℕ) → HearsOut MetIt s1 s2 over so_far 1 limit t1 t2 answers answers' → end.appended ≡ spoke.announcer.appended
+  pub limit_so : (over : Bool) (begun so_far : ℕ) → HearsOut MetIt s1 s2 over begun so_far 1 limit t1 t2 answers answers' → end.appended ≡ spoke.announcer.appended
       → over ≡ is_settled end.line → so_far ≡ now.count → TellsOver AtLimit config peer sending limit t0 t2 answers answers'
-  limit_so over so_far hears same o k =
-      at_end AtLimit MetIt over so_far hears same
+  limit_so over begun so_far hears same o k =
+      at_end AtLimit MetIt over begun so_far hears same
       (λ pieces said left none e some h. limit_end (unsettled end.line (sym o ∙ e.0)).0 (subst (λ (n : ℕ). limit ≤ n) k e.1) pieces said left none some h)
 
-  pub ended_so : (over : Bool) (so_far : ℕ) → HearsOut All s1 s2 over so_far 1 limit t1 t2 answers answers' → end.appended ≡ spoke.announcer.appended
+  pub ended_so : (over : Bool) (begun so_far : ℕ) → HearsOut All s1 s2 over begun so_far 1 limit t1 t2 answers answers' → end.appended ≡ spoke.announcer.appended
       → over ≡ is_settled end.line → so_far ≡ now.count → TellsOver Ended config peer sending limit t0 t2 answers answers'
-  ended_so over so_far hears same o k =
-      at_end Ended All over so_far hears same
+  ended_so over begun so_far hears same o k =
+      at_end Ended All over begun so_far hears same
       (λ pieces said left none e some h.
       let alive = unsettled end.line (sym o ∙ e.0) in (
         ends_by (opens end now.started now.count pieces said h.0 h.1 alive.0) limit left (sym (state_open end.line alive.0) ∙ alive.1) (subst (λ (n : ℕ). n < limit) k e.1.0) e.1.1,
-        said_none end now.started now.count pieces said h.0 h.1 some none,
+        (said_none end now.started now.count pieces said h.0 h.1 some none, h.0.alive alive.0),
       ))
 
 -- and when its rules were said
 pub done_so : (config : Config) (peer : Peer) (sending : Sending) (limit : ℕ) (s0 s1 s2 : Stance) (heard : Lined) (on : Bool) (end : Announcing) (started : Bool) (count : ℕ)
     (t0 t1 t2 t3 : Option WireEnds) (answers answers' : Option (List ℕ)) → s0 [] [] → Told (Spoken s0 s1 1) t0 t1 → on ≡ false → IsOf end config peer sending
-    → (over : Bool) (so_far : ℕ) → HearsOut Over s1 s2 over so_far 1 limit t1 t2 answers answers' → Told (Spoken s2 (SaysUpTo on end started count) 1) t2 t3
+    → (over : Bool) (begun_at so_far : ℕ) → HearsOut Over s1 s2 over begun_at so_far 1 limit t1 t2 answers answers' → Told (Spoken s2 (SaysUpTo on end started count) 1) t2 t3
     → over ≡ is_settled heard → heard.closed ≡ None → is_some end.line.closed ≡ is_some heard.closed → is_settled end.line ≡ is_settled heard → count < limit
     → (IsTrue (is_settled heard) → ahead_of end started ≡ 0) → TellsOver Done config peer sending limit t0 t3 answers answers'
-done_so config peer sending limit s0 s1 s2 heard on end started count t0 t1 t2 t3 answers answers' start first off of over so_far hears last o alive shut ready within ahead = record {
+done_so config peer sending limit s0 s1 s2 heard on end started count t0 t1 t2 t3 answers answers' start first off of over begun_at so_far hears last o alive shut ready within ahead = record {
   given = hears.given;
   grew = hears.grew;
   told = told_and Before (Spoken s2 (SaysUpTo on end started count) 1) (Tells Done config peer sending limit hears.given)
@@ -220,13 +274,13 @@ done_so config peer sending limit s0 s1 s2 heard on end started count t0 t1 t2 t
       let open_end : end.line.closed ≡ None = none_there end.line.closed (shut ∙ ap is_some alive) in
       told_so Done config peer sending limit on end started count off of hears.given s0 a c start
       (λ pieces said some h. said_all end started count pieces said h.0 h.1 open_end limit some within (settled_up end.line open_end (ready ∙ w.1)) (ahead w.1))
-      (said_last s0 s2 (SaysUpTo on end started count) hears.given a b c w.0 l))
+      (said_last s0 s2 (SaysUpTo on end started count) limit hears.given a b c w.0 l))
       t0 t2 t3
-      (told_and (Spoken s0 s1 1) (HeardOut Over s1 s2 over so_far 1 limit hears.given) Before
-      (λ a b c f l. (first_heard Over s0 s1 s2 over so_far limit hears.given a b c f l, sym o ∙ l.ends))
+      (told_and (Spoken s0 s1 1) (HeardOut Over s1 s2 over begun_at so_far 1 limit hears.given) Before
+      (λ a b c f l. (first_heard Over s0 s1 s2 over begun_at so_far limit hears.given a b c f l, sym o ∙ l.ends))
       t0 t1 t2 first hears.told)
       last;
 }
   where
     Before : WireEnds → WireEnds → Type 0
-    Before a c = Whole s0 s2 hears.given a c × (is_settled heard ≡ true)
+    Before a c = Whole s0 s2 limit hears.given a c × (is_settled heard ≡ true)

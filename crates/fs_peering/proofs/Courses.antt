@@ -1,6 +1,6 @@
 -- One piece more.
-use Rattle.fs_peering.proofs.Words.{Closed, Expires, Fault, Handed, Keeps, Machine, Point, Quiet, Tick, Times, at_moment, first_point, hand, handed, message_text, point, runs_by, tick_at, ticked, ticks, written_now, ◌≡◌, ◌⊎◌, inl, inr, ℕ, suc, zero, ◌+◌, List, [], ◌∷◌, ◌++◌, length, take, Option, Some, None, refl, ap, sym, ◌∙◌, subst, arith, append_assoc, append-nil, length-append, flat_map-append, map-append, none-some, closed_hand, ticked_by, Pieces, moments_in, octets_in, after, hears, course, course_from}
-use Rattle.std.proofs.Math.Seq.{take-append_seam}
+use Rattle.fs_peering.proofs.Words.{Closed, Expires, Fault, Handed, Keeps, Machine, Point, Quiet, Tick, Times, at_moment, first_point, hand, handed, message_text, point, runs_by, tick_at, ticked, ticks, written_now, ◌≡◌, ◌⊎◌, inl, inr, ℕ, suc, zero, ◌+◌, List, [], ◌∷◌, ◌++◌, length, drop, take, Option, Some, None, refl, ap, sym, ◌∙◌, subst, arith, append_assoc, append-nil, length-append, flat_map-append, map-append, none-some, closed_hand, ticked_by, Pieces, moments_in, octets_in, after, hears, course, course_from}
+use Rattle.std.proofs.Math.Seq.{drop-append_seam, take-append_seam}
 
 -- so many KEEPALIVEs
 abbrev pub keepalives : ℕ → List ℕ
@@ -24,6 +24,16 @@ but_last xs ys x y e =
     let all : length (xs ++ x ∷ []) ≡ length (ys ++ y ∷ []) = ap (λ (z : Pieces). length z) e in
     let same : length xs ≡ length ys = omega (arith, one, other, all) in
     sym (take-append_seam xs (x ∷ [])) ∙ ap (λ (n : ℕ). take n (xs ++ x ∷ [])) same ∙ ap (take (length ys)) e ∙ take-append_seam ys (y ∷ [])
+
+-- and the last
+pub last_one : (xs ys : Pieces) (x y : ℕ × List ℕ) → xs ++ x ∷ [] ≡ ys ++ y ∷ [] → x ≡ y
+last_one xs ys x y e =
+    let one : length (xs ++ x ∷ []) ≡ length xs + 1 = length-append xs (x ∷ []) in
+    let other : length (ys ++ y ∷ []) ≡ length ys + 1 = length-append ys (y ∷ []) in
+    let all : length (xs ++ x ∷ []) ≡ length (ys ++ y ∷ []) = ap (λ (z : Pieces). length z) e in
+    let same : length xs ≡ length ys = omega (arith, one, other, all) in
+    ap (λ (z : Pieces). elim z [ [] ↦ x | first ∷ more ↦ first ])
+    (sym (drop-append_seam xs (x ∷ [])) ∙ ap (λ (n : ℕ). drop n (xs ++ x ∷ [])) same ∙ ap (drop (length ys)) e ∙ drop-append_seam ys (y ∷ []))
 
 pub octets_more : (heard : Pieces) (moment : ℕ) (piece : List ℕ) → octets_in (heard ++ (moment, piece) ∷ []) ≡ octets_in heard ++ piece
 octets_more heard moment piece = flat_map-append (λ (p : ℕ × List ℕ). p.1) heard ((moment, piece) ∷ []) ∙ ap (λ (z : List ℕ). octets_in heard ++ z) (append-nil piece)

@@ -1,5 +1,5 @@
 -- Two joined ends, round by round.
-use Rattle.fs_peering.{proofs.{Words.{Told, WireEnd, WireEnds, end_at, heard_end, ◌≡◌, ℕ, ◌+◌, ◌-◌, ◌<◌, List, [], ◌∷◌, ◌++◌, Bool, true, false, Option, Some, None, if◌then◌else◌, length, refl, ap, sym, ◌∙◌, subst, arith, append_assoc, append-nil, length-append, IsTrue, flat_map-append, map-append, Grew, Grew-refl, Grew-trans, Talk, Broken, AreJoined, ExchangedOut, Exchanges, Heard, Side, StopsSo, heard_by, moments_of, of_first, of_second, Part, Pieces, Speech, Stance, Round, octets_in}, Composing.{octets_then, same_stance}, WrittenInParts.{told_and, told_same}}, specs.{declared.joined.{InFlight.{InFlight}, Talk.TheVariants.{Done}}, Joined.{Ended}, InFlight.{no_flow, first_heard, second_heard, second_said}}}
+use Rattle.fs_peering.{proofs.{Words.{Told, WireEnd, WireEnds, end_at, heard_end, ◌≡◌, ℕ, ◌+◌, ◌-◌, ◌<◌, ◌≤◌, List, [], ◌∷◌, ◌++◌, Bool, true, false, Option, Some, None, if◌then◌else◌, length, refl, ap, sym, ◌∙◌, subst, arith, append_assoc, append-nil, length-append, IsTrue, flat_map-append, map-append, Grew, Grew-refl, Grew-trans, Talk, Broken, AreJoined, ExchangedOut, Exchanges, Heard, Side, StopsSo, heard_by, moments_of, of_first, of_second, Part, Pieces, Speech, Stance, Round, octets_in}, Composing.{octets_then, same_stance}, WrittenInParts.{told_and, told_same}}, specs.{declared.joined.{InFlight.{InFlight}, Talk.TheVariants.{Done}}, Joined.{Ended}, InFlight.{no_flow, first_heard, second_heard, second_said}}}
 
 side_none : (stance : Stance) (end : WireEnd) → end.joined ≡ true → end.left ≡ [] → Side stance stance [] [] [] end end
 side_none stance end tied empty = record {
@@ -185,6 +185,10 @@ talking_none r a told answers = record {
   told = told_same (λ b n. AreJoined b → Exchanging r r a a [] no_flow b n) (λ ends j. exchanging_none r a ends j) told;
 }
 
+-- neither end has read more than the limit
+abbrev pub IsBounded : InFlight → (limit : ℕ) → Type 0
+IsBounded flow limit = (flow.first_read ≤ limit) × (flow.second_read ≤ limit)
+
 -- What the counts say of octets when no more is heard.
 abbrev pub Counts : Talk → Ended → (limit : ℕ) → InFlight → Type 0
 Counts talk end limit flow =
@@ -193,8 +197,8 @@ Counts talk end limit flow =
     → StopsSo talk end (length (octets_in (of_first events))) limit now
 
 pub talked : (talk : Talk) (r r' a a' : Stance) (end : Ended) (limit : ℕ) (flow : InFlight) (before now : Option WireEnds) (answers answers' : Option (List ℕ))
-    → Talking r r' a a' flow before now answers answers' → Counts talk end limit flow → Exchanges talk r r' a a' end limit before now answers answers'
-talked talk r r' a a' end limit flow before now answers answers' t stops = record {
+    → Talking r r' a a' flow before now answers answers' → IsBounded flow limit → Counts talk end limit flow → Exchanges talk r r' a a' end limit before now answers answers'
+talked talk r r' a a' end limit flow before now answers answers' t few stops = record {
   given = t.given;
   grew = t.grew;
   told = by before now t.told;
@@ -210,6 +214,8 @@ talked talk r r' a a' end limit flow before now answers answers' t stops = recor
           events = x.events;
           exchanged = record { replied = x.replied; announced = x.announced; one = x.one.side; other = x.other.side };
           asked = x.asked;
+          within_first = subst (λ (n : ℕ). n ≤ limit) x.one.read_is few.0;
+          within_second = subst (λ (n : ℕ). n ≤ limit) x.other.read_is few.1;
           stops = stops x.events n x.one.unread_is x.other.unread_is x.one.read_is;
         }
 
@@ -278,11 +284,11 @@ module _ {r r1 a a1 : Stance} {flow : InFlight} {before now : Option WireEnds} {
       (λ b m n x turned. never_arrives m.second.left n.second.left turned.got flow.to_second count turned.part.read x.other.unread_is some turned.counted none (turned.none none)) round grew
 
   -- or the second end said no more
-  pub talked_done : (a2 : Stance) (end : Ended) (limit : ℕ) → Told (Speech a1 a2 1 0) now later → end.over_first ≡ false → end.over_second ≡ false → flow.first_read < limit
+  pub talked_done : (a2 : Stance) (end : Ended) (limit : ℕ) → Told (Speech a1 a2 1 0) now later → IsBounded flow limit → end.over_first ≡ false → end.over_second ≡ false → flow.first_read < limit
       → end.count < limit → flow.to_first ≡ 0 → IsTrue end.begun → (end.ready ≡ false → flow.to_second ≡ 0) → (IsTrue end.ready → end.ahead ≡ 0)
       → Exchanges Done r r1 a a2 end limit before later answers asked
-  talked_done a2 end limit speech one other within counted none begun rest all =
-      talked Done r r1 a a2 end limit (second_said 0 flow) before later answers asked (talking_said a2 (second_said 0 flow) 0 refl speech)
+  talked_done a2 end limit speech few one other within counted none begun rest all =
+      talked Done r r1 a a2 end limit (second_said 0 flow) before later answers asked (talking_said a2 (second_said 0 flow) 0 refl speech) few
       (λ events ends first second read. record {
         open_first = one;
         open_second = other;

@@ -1,5 +1,5 @@
 -- What an announcing end says to the pieces that it hears.
-use Rattle.fs_peering.{proofs.{Words.{Announcing, CanSend, Closed, Config, Expires, Fault, Framing, Handed, HandsOver, IsAt, Keeps, Lined, Machine, Peer, Phase, Point, SaysText, Sending, Sent, StandsAt, StartsWith, Tick, TicksOver, announcing, at_moment, at_start, first_text, fresh, hand, is_established, machine_in, needs_of, next_text, one_sent, open_sent, pending, runs_by, state_in, text_sent, tick_at, ticked, ticks, with_line, ◌≡◌, ◌||◌, inl, inr, ℕ, suc, ◌+◌, ◌*◌, List, [], ◌∷◌, ◌++◌, drop, take, Bool, true, false, if◌then◌else◌, Option, Some, None, refl, ap, sym, ◌∙◌, subst, arith, append_assoc, append-nil, IfSome, flat_map, is_some, flat_map-append, none-some, same_Some, none_there, Comes, Going, GoesFrom, closed_hand, open_hand, Spans, Hears, Pieces, Says, Stance, moments_in, octets_in, course, opened_by, CountsBy, CountsOn, CountsTo, KeepsHand, KeepsSettled, SaysUpTo, ClosesSo, HasExpired, HasHeard, IsListening, SaysTo, ShutsBy, is_settled, opening_of, rules_of, stops_at}, Ahead.{next_of}, Courses.{but_last, course_more, moments_more, octets_more, woke_is}, Moments.{expires_late}, OpenSteps.{opened_waits}, Phases.{Quiet, quiet_by, unawaited}, Settled.{state_open, state_shut, stops_up}}, specs.Teller.{is_over}}
+use Rattle.fs_peering.{proofs.{Words.{Announcing, CanSend, Closed, Config, Expires, Fault, Framing, Handed, HandsOver, IsAt, Keeps, Lined, Machine, Peer, Phase, Point, SaysText, Sending, Sent, StandsAt, StartsWith, Tick, TicksOver, announcing, at_moment, at_start, first_text, fresh, hand, is_established, machine_in, needs_of, next_text, one_sent, open_sent, pending, runs_by, state_in, text_sent, tick_at, ticked, ticks, with_line, ◌≡◌, ◌||◌, inl, inr, ℕ, suc, ◌+◌, ◌*◌, List, [], ◌∷◌, ◌++◌, drop, take, Bool, true, false, if◌then◌else◌, Option, Some, None, refl, ap, sym, ◌∙◌, subst, arith, append_assoc, append-nil, IfSome, flat_map, is_some, flat_map-append, none-some, same_Some, none_there, Comes, Going, GoesFrom, closed_hand, open_hand, Spans, Hears, Pieces, Says, Stance, moments_in, octets_in, course, opened_by, CountsBy, CountsOn, CountsTo, KeepsHand, KeepsSettled, SaysUpTo, ClosesSo, HasExpired, HasHeard, IsInTime, IsListening, SaysTo, ShutsBy, is_settled, opening_of, rules_of, stops_at}, Ahead.{next_of}, Courses.{but_last, course_more, last_one, moments_more, octets_more, woke_is}, Moments.{expires_late}, OpenSteps.{opened_waits}, Phases.{Quiet, quiet_by, unawaited}, Settled.{state_open, state_shut, stops_up}}, specs.Teller.{is_over}}
 use Rattle.fs_session.specs.declared.times.Tick.TheVariants.{Quiet as IsQuiet}
 
 both : {b : Bool} → b ≡ true → b ≡ false → ⊥
@@ -77,6 +77,7 @@ begins_early old new started out out' e starts heard said h =
           at = h.at;
           said_is = ap (λ (z : List ℕ). z ++ start) none ∙ sym (append-nil start) ∙ ap (λ (z : List ℕ). start ++ z) (sym tail);
           listened = h.listened;
+          alive = h.alive;
           shut = h.shut;
           none = h.none;
           unstarted = λ not. absurd (both refl not);
@@ -113,6 +114,7 @@ next_early old new started had out out' alive go says heard said h = by (is_esta
               ∙ ap (λ (z : List ℕ). opening_of old ++ z)
               (append_assoc (course (machine_in old) heard).text (rules_of old) text ∙ ap (λ (z : List ℕ). (course (machine_in old) heard).text ++ z) (sym more));
           listened = h.listened;
+          alive = h.alive;
           shut = h.shut;
           none = λ not. absurd (both (state_open old.line alive ∙ up) not);
           unstarted = λ not. absurd (both (h.started_is ∙ go) not);
@@ -265,12 +267,20 @@ module _ (b w c : Announcing) (count count' moment needed : ℕ) (piece o1 o2 o3
             let same : why ≡ what = same_Some why what (sym e ∙ (spoken.1 (state_shut c.line why e)).closed_is ∙ stays) in
             inr (same ∙ due.1, late due.0)
 
+    -- it is open, so the clock left it open
+    in_time : c.line.closed ≡ None → IsInTime machine pieces
+    in_time open_c earlier last e =
+        subst (λ (z : Pieces). (ticked last.0 (course machine z).point).point.closed ≡ None) (but_last heard earlier (moment, piece) last e)
+        (subst (λ (z : ℕ × List ℕ). (ticked z.0 here).point.closed ≡ None) (last_one heard earlier (moment, piece) last e)
+        (sym woken.0.closed_is ∙ (call.counts open_c).0))
+
     has_heard : HasHeard (with_line b c.line) true pieces (said ++ more)
     has_heard = record {
       started_is = h.started_is;
       at = λ e. subst (λ (m : Handed). StandsAt machine c.line m.point) (sym (course_more machine heard (moment, piece))) (spoken.1 e);
       said_is = said_is;
       listened = λ earlier last e. subst (λ (z : Pieces). IsListening (course machine z).point) (but_last heard earlier (moment, piece) last e) listens;
+      alive = in_time;
       shut = shut;
       none = λ e. h.none early;
       unstarted = λ not. absurd (both h.started_is not);

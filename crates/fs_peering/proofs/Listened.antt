@@ -1,5 +1,5 @@
 -- How what a receiving end hears and says over a wire follows from how it stands.
-use Rattle.fs_peering.{proofs.{Words.{Closed, Config, Desked, Down, Ended, Last, Peer, Phase, WireEnds, bounded_session, closed, is_established, peer_of, standing_at_desk, still, ◌≡◌, ◌<◌, ◌≤◌, ℕ, List, [], Bool, true, false, Option, Some, None, refl, ap, sym, ◌∙◌, subst, if◌then◌else◌, standing_at, Standing, Live, Ending, Done, HeardOut, HearsOut, Pieces, Stance, octets_in, Stopped, All, Over, HasClosed, IsHearing, Receives, bare, is_ended, tape_of, IsReceiving, ListensOver, ListensSo, MeetsLimit, EndsHearing}, WrittenInParts.{told_as}, Receiving.{closed_of, ended_there, hearing_of, life_tape, stands_open}}, specs.{declared.{tell.Ending.TheVariants.{Ended as EndedEarly}, listening.Stopped.TheVariants.{AtLimit as MetIt}}, Listening.{EndsSo as StopsSo}, Listen.{EndsSo, Listens, is_settled}}}
+use Rattle.fs_peering.{proofs.{Words.{Closed, Config, Desked, Down, Ended, Last, Peer, Phase, WireEnds, bounded_session, closed, is_established, peer_of, standing_at_desk, still, ◌≡◌, ◌<◌, ◌≤◌, ℕ, arith, List, [], Bool, true, false, Option, Some, None, refl, ap, sym, ◌∙◌, subst, if◌then◌else◌, standing_at, Standing, Live, Ending, Done, HeardOut, HearsOut, Pieces, Stance, octets_in, Stopped, All, Over, HasClosed, IsHearing, Receives, bare, is_ended, tape_of, IsReceiving, ListensOver, ListensSo, MeetsLimit, EndsHearing}, WrittenInParts.{told_as}, Receiving.{closed_of, ended_there, hearing_of, life_tape, stands_open}}, specs.{declared.{tell.Ending.TheVariants.{Ended as EndedEarly}, listening.Stopped.TheVariants.{AtLimit as MetIt}}, Listening.{EndsSo as StopsSo}, Listen.{EndsSo, Listens, is_settled}}}
 use Rattle.fs_desk.proofs.Standing.{desk_stands}
 
 -- what the octets of an open session come to
@@ -18,7 +18,7 @@ module _ (desk : Desked) (peer : ℕ) (whose : Peer) (heard : Pieces) (said : Li
   found_phase = still_there (bounded_session desk.config peer (octets_in heard)).1 h.session.phase stands_so
 
   pub receiving : IsReceiving desk peer whose heard said
-  receiving = record { played = h.played; phase = found_phase.0; found = found_phase.1.0; said_is = h.said_is }
+  receiving = record { alive = sym (ap (λ p. p.closed) h.point_is) ∙ h.alive; played = h.played; phase = found_phase.0; found = found_phase.1.0; said_is = h.said_is }
 
   pub settled_so : (b : Bool) → is_settled (standing_at_desk desk peer) ≡ b → is_established receiving.phase.state ≡ b
   unfolding receiving found_phase
@@ -57,16 +57,16 @@ module _ (first last : Desked) (peer peer' first_count count limit : ℕ) (same 
   config_is : last.config ≡ first.config
   config_is = ap (λ (d : Desked). d.config) own
 
-  listens_so : (ending : Ending) (heard : Stopped) (over : Bool) (hears : HearsOut heard s0 s1 over count 0 limit t0 t1 answers answers')
+  listens_so : (ending : Ending) (heard : Stopped) (over : Bool) (hears : HearsOut heard s0 s1 over first_count count 0 limit t0 t1 answers answers')
       → ((pieces : Pieces) (said left : List ℕ) (r : Receives last peer count pieces said) → StopsSo heard over count limit left → ListensSo ending last peer r.whose limit pieces said left)
       → ListensOver ending first.config last peer limit t0 t1 answers answers'
   listens_so ending heard over hears ends = record {
     given = hears.given;
     grew = hears.grew;
-    told = told_as (HeardOut heard s0 s1 over count 0 limit hears.given) (Listens ending first.config last peer limit hears.given) one t0 t1 hears.told;
+    told = told_as (HeardOut heard s0 s1 over first_count count 0 limit hears.given) (Listens ending first.config last peer limit hears.given) one t0 t1 hears.told;
   }
     where
-      one : (a b : WireEnds) → HeardOut heard s0 s1 over count 0 limit hears.given a b → Listens ending first.config last peer limit hears.given a b
+      one : (a b : WireEnds) → HeardOut heard s0 s1 over first_count count 0 limit hears.given a b → Listens ending first.config last peer limit hears.given a b
       one a b l =
           let r : Receives last peer count l.listened.heard l.listened.said =
           subst (λ (n : ℕ). Receives last n count l.listened.heard l.listened.said) same (l.listened.part.stands [] [] start) in
@@ -77,12 +77,13 @@ module _ (first last : Desked) (peer peer' first_count count limit : ℕ) (same 
             heard = l.listened.heard;
             said = l.listened.said;
             read = l.listened.part.read;
+            within = let few = l.within in omega (arith, few);
             wrote = l.listened.part.wrote;
             asked = l.listened.asked;
             ends = ends l.listened.heard l.listened.said b.first.left r l.ends;
           }
 
-  pub listens_as : (heard : Stopped) (ending : Ending) (over : Bool) → HearsOut heard s0 s1 over count 0 limit t0 t1 answers answers' → over ≡ is_ended (standing_at_desk last peer)
+  pub listens_as : (heard : Stopped) (ending : Ending) (over : Bool) → HearsOut heard s0 s1 over first_count count 0 limit t0 t1 answers answers' → over ≡ is_ended (standing_at_desk last peer)
       → EndsHearing heard (standing_at_desk last peer) ending → ListensOver ending first.config last peer limit t0 t1 answers answers'
   listens_as heard ending over hears o is = listens_so ending heard over hears (λ pieces said left r stops. by heard is pieces said left r stops)
     where

@@ -170,6 +170,8 @@ module _ (first last : Desked) (peer peer' first_count count limit : ℕ) (same 
             replied = e.replied;
             heard_first = e.one.read;
             heard_second = e.other.read;
+            within_first = o.within_first;
+            within_second = o.within_second;
             wrote_first = e.one.wrote;
             wrote_second = e.other.wrote;
             asked = o.asked;

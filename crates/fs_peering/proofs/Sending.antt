@@ -491,6 +491,7 @@ heard_none config peer sending = record {
   };
   said_is = refl;
   listened = λ earlier last e. absurd (none_last earlier last e);
+  alive = λ f earlier last e. absurd (none_last earlier last e);
   shut = λ why e. absurd (none-some why e);
   none = λ e. refl;
   unstarted = λ e. (refl, refl);

@@ -79,6 +79,8 @@ pub record ExchangedOut (talk : Talk) (first first' second second' : Stance) (en
   pub events : List Heard
   pub exchanged : Exchanged first first' second second' events before now
   pub asked : moments_of events ≡ given
+  pub within_first : length (octets_in (of_first events)) ≤ limit
+  pub within_second : length (octets_in (of_second events)) ≤ limit
   pub stops : StopsSo talk end (length (octets_in (of_first events))) limit now
 
 -- so between joined ends, and the clock answered these moments

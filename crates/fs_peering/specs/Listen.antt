@@ -1,5 +1,5 @@
 -- What a receiving end hears and says over a wire, and how that ends.
-use Rattle.std.specs.Prelude.{◌≡◌, ℕ, ◌≤◌, ◌<◌, List, [], ◌++◌, length, if◌then◌else◌, Bool, true, false, Option, Some}
+use Rattle.std.specs.Prelude.{◌≡◌, ℕ, ◌≤◌, ◌<◌, List, [], ◌++◌, length, if◌then◌else◌, Bool, true, false, Option, Some, None}
 use Rattle.fs_base.specs.{Config.{peer_of}, Sink.{Grew}, Wire.{Told, WireEnds}, declared.config.{Config.{Config}, Peer.{Peer}}}
 use Rattle.fs_speaker.specs.{Announcer.{is_established}, Session.{still}, declared.{Closed.{Closed}, Standing.{Standing, TheVariants.{Live, Ended as HasEnded}}}}
 use Rattle.fs_session.specs.declared.transition.Phase.{Phase}
@@ -11,9 +11,10 @@ abbrev pub is_settled : Standing → Bool
 is_settled (Live state) = is_established state
 is_settled _ = false
 
--- The octets close the session nowhere: the desk is what the tape of them leaves, and exactly this was said: what is
+-- The pieces close the session nowhere, by their octets or by the clock: the desk is what the tape of them leaves, and exactly this was said: what is
 -- replied to them, and what the clock appended.
 pub record IsReceiving (desk : Desked) (peer : ℕ) (whose : Peer) (heard : Pieces) (said : List ℕ) : Type 0 where
+  pub alive : (course_of desk.config whose heard).point.closed ≡ None
   pub played : Played desk.config (tape_of peer (octets_in heard)) desk
   pub phase : Phase
   pub found : (bounded_session desk.config peer (octets_in heard)).1 ≡ still phase
@@ -45,8 +46,8 @@ EndsHearing Over standing ending = (why : Closed) → standing ≡ HasEnded why 
 EndsHearing MetIt standing ending = ending ≡ AtLimit
 EndsHearing All standing ending = ending ≡ (if is_settled standing then Done else Ended)
 
--- The end of the wire gave these pieces of what it had left, each before the clock answered its moment, and this was
--- written through it.
+-- The end of the wire gave these pieces of what it had left, no more than the limit, each before the clock answered its
+-- moment, and this was written through it.
 pub record Listens (ending : Ending) (config : Config) (desk : Desked) (peer limit : ℕ) (given : List ℕ)
     (before now : WireEnds) : Type 0 where
   pub whose : Peer
@@ -55,6 +56,7 @@ pub record Listens (ending : Ending) (config : Config) (desk : Desked) (peer lim
   pub heard : Pieces
   pub said : List ℕ
   pub read : before.first.left ≡ octets_in heard ++ now.first.left
+  pub within : length (octets_in heard) ≤ limit
   pub wrote : now.first.written ≡ before.first.written ++ said
   pub asked : moments_in heard ≡ given
   pub ends : ListensSo ending desk peer whose limit heard said now.first.left

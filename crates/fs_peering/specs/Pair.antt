@@ -139,8 +139,8 @@ pub record SaysFront (config : Config) (whose : Peer) (sending : Sending) (told 
       ++ (woven (text_sent config whose four sending) parts ++ ending)
   pub kept : without_rules parts ++ ending ≡ (told_by config sending told).text
 
--- Each end heard, in pieces at these moments, of what the other said all but what is in flight, and what it said was
--- written through it. The desk has the configuration that it began with. Where nothing hinders the rules, all of them
+-- Each end heard, in pieces at these moments, of what the other said all but what is in flight, and no more than the
+-- limit, and what it said was written through it. The desk has the configuration that it began with. Where nothing hinders the rules, all of them
 -- arrive. It ends with Hold Timer Expired only where the hold time of an end did expire. The announcing end was open
 -- behind all pieces that it heard but the last.
 pub record Pairs (ending : Ending) (config : Config) (whose : Peer) (sending : Sending) (desk : Desked) (peer limit : ℕ)
@@ -151,6 +151,8 @@ pub record Pairs (ending : Ending) (config : Config) (whose : Peer) (sending : S
   pub replied : List ℕ
   pub heard_first : announced ≡ octets_in (of_first events) ++ now.first.left
   pub heard_second : replied ≡ octets_in (of_second events) ++ now.second.left
+  pub within_first : length (octets_in (of_first events)) ≤ limit
+  pub within_second : length (octets_in (of_second events)) ≤ limit
   pub wrote_first : now.first.written ≡ before.first.written ++ replied
   pub wrote_second : now.second.written ≡ before.second.written ++ announced
   pub asked : moments_of events ≡ given

@@ -1,7 +1,7 @@
 -- An announcing end, by what it heard and said.
 use Rattle.std.specs.{Prelude.{◌≡◌, ◌≢◌, ◌⊎◌, ◌||◌, ◌&&◌, not, ℕ, ◌+◌, ◌-◌, ◌*◌, List, [], ◌∷◌, ◌++◌, length, take, flat_map, Bool, true, false, if◌then◌else◌, Some, None}, Option.{is_some}}
 use Rattle.fs_message.specs.Deframer.{pending}
-use Rattle.fs_speaker.specs.{declared.Closed.{Closed, TheVariants.{Fault}}, Announcer.{Announcing, announcing, is_established, machine_in, open_sent}, End.{StandsAt}, Handed.{Point, hand}, Line.{Lined, fresh, state_in}, Sending.{text_sent}, Session.{at_start, closed, still}, Transition.{Machine}}
+use Rattle.fs_speaker.specs.{declared.Closed.{Closed, TheVariants.{Fault}}, Announcer.{Announcing, announcing, is_established, machine_in, open_sent}, End.{StandsAt, ticked}, Handed.{Point, hand}, Line.{Lined, fresh, state_in}, Sending.{text_sent}, Session.{at_start, closed, still}, Transition.{Machine}}
 use Rattle.fs_session.specs.declared.transition.Phase.{Phase}
 use Rattle.fs_peering.specs.{Round.{Pieces, moments_in, octets_in}, Course.{course}, HoldTime.{Spans}, Opening.{opened_by}}
 
@@ -47,6 +47,12 @@ stops_at hears_on line = not hears_on && is_established (state_in line)
 abbrev pub IsListening : Point → Type 0
 IsListening now = (now.closed ≡ None) × (is_established now.phase.state ≡ false)
 
+-- at the last of these pieces its hold time hadn't expired
+abbrev pub IsInTime : Machine → Pieces → Type 0
+IsInTime machine heard =
+    (earlier : Pieces) (last : ℕ × List ℕ) → heard ≡ earlier ++ last ∷ []
+    → (ticked last.0 (course machine earlier).point).point.closed ≡ None
+
 -- It heard these pieces, and said its OPEN, what is answered to them and what the clock appended, and the UPDATEs of the
 -- first rules. It was open and not established behind all pieces but the last. Where it is closed, these pieces close it.
 pub record HasHeard (end : Announcing) (started : Bool) (heard : Pieces) (said : List ℕ) : Type 0 where
@@ -55,6 +61,7 @@ pub record HasHeard (end : Announcing) (started : Bool) (heard : Pieces) (said :
   pub said_is : said ≡ opening_of end ++ ((course (machine_in end) heard).text ++ rules_of end)
   pub listened : (earlier : Pieces) (last : ℕ × List ℕ) → heard ≡ earlier ++ last ∷ []
       → IsListening (course (machine_in end) earlier).point
+  pub alive : end.line.closed ≡ None → IsInTime (machine_in end) heard
   pub shut : (why : Closed) → end.line.closed ≡ Some why → ClosesSo (machine_in end) (moments_in heard) (octets_in heard) why
   pub none : is_established (state_in end.line) ≡ false → end.appended ≡ 0
   pub unstarted : end.started ≡ false → (heard ≡ []) × (end.appended ≡ 0)

@@ -50,6 +50,7 @@ pub fn hear_out<W: Wire, C: Clock, S: Speaker>(
         (S.stands speaker.old)
         (S.stands speaker.new)
         (S.over speaker.new)
+        (S.count speaker.old)
         (S.count speaker.new)
         end
         limit

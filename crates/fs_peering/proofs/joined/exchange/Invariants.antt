@@ -7,6 +7,7 @@ invariant-loop-flow g l = record {
   later : g.W.Wire.faults l.fn.wire ≤ g.W.Wire.faults l.wire;
   first : Within (g.R.Speaker.over l.first) l.flow.first_read l.fn.limit (g.R.Speaker.own l.fn.first) (g.R.Speaker.own l.first);
   second : Within (g.A.Speaker.over l.second) (g.A.Speaker.count l.second) l.fn.limit (g.A.Speaker.own l.fn.second) (g.A.Speaker.own l.second);
+  bound : l.flow.second_read ≤ l.fn.limit;
   counted : g.A.Speaker.ready l.second ≡ false → g.A.Speaker.count l.second ≡ l.flow.second_read;
   talking :
       Talking

@@ -13,6 +13,8 @@ invariant-loop-round g l = record {
       (g.S.Speaker.stands l.fn.speaker)
       (g.S.Speaker.stands l.speaker)
       l.fn.end
+      (g.S.Speaker.count l.fn.speaker)
+      (g.S.Speaker.count l.speaker)
       (g.W.Wire.tells l.fn.wire)
       (g.W.Wire.tells l.wire)
       (g.C.Clock.answers l.fn.clock)

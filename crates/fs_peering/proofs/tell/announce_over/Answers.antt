@@ -4,12 +4,12 @@ use Rattle.fs_peering.proofs.tell.announce_over.Goals as goal
 pub returns-in-Some-clause-tells : goal.returns-in-Some-clause-tells
 returns-in-Some-clause-tells g c config peer sending e s =
     over_so config peer sending c.args.limit c.args.teller.now c.say_all.new.speaker c.hear_out.new.speaker _ _ _ _ _ c.in_ok-say_all.ensures.own c.in_ok-hear_out.ensures.own c.requires.early e s c.requires.fresh
-    c.in_ok-say_all.ensures.spoke (c.in_ok-say_all.ensures.over ∙ c.requires.open) c.in-Some.why _ _ (rw c.in-Over.is at c.in_ok-hear_out.ensures.heard) c.in_ok-hear_out.ensures.sent (sym c.closed.ensures ∙ c.in-Some.is)
+    c.in_ok-say_all.ensures.spoke (c.in_ok-say_all.ensures.over ∙ c.requires.open) c.in-Some.why _ _ _ (rw c.in-Over.is at c.in_ok-hear_out.ensures.heard) (sym c.closed.ensures ∙ c.in-Some.is) _ (search rules)
 
 pub returns-then-limit-count-clause-tells : goal.returns-then-limit-count-clause-tells
 returns-then-limit-count-clause-tells g c config peer sending e s =
     over_limit config peer sending c.args.limit c.args.teller.now c.say_all.new.speaker c.hear_out.new.speaker _ _ _ _ _ c.in_ok-say_all.ensures.own c.in_ok-hear_out.ensures.own c.requires.early e s c.requires.fresh
-    c.in_ok-say_all.ensures.spoke (c.in_ok-say_all.ensures.over ∙ c.requires.open) _ _ (rw c.in-Over.is at c.in_ok-hear_out.ensures.heard) c.in_ok-hear_out.ensures.sent (search rules) (search rules)
+    c.in_ok-say_all.ensures.spoke (c.in_ok-say_all.ensures.over ∙ c.requires.open) _ _ _ (rw c.in-Over.is at c.in_ok-hear_out.ensures.heard) c.in_ok-hear_out.ensures.sent (search rules) (search rules)
 
 pub returns-in_ok-say_all-in-Over-clause-tells : goal.returns-in_ok-say_all-in-Over-clause-tells
 returns-in_ok-say_all-in-Over-clause-tells g c config peer sending e s =
@@ -26,15 +26,15 @@ returns-in_ok-say_all-in-Over-clause-tells g c config peer sending e s =
     (says_start first.hears_on first.announcer first.started first.count config peer sending e s c.requires.fresh) c.in_ok-say_all.ensures.spoke
     (ap (λ (t : Teller). t.hears_on) c.in_ok-say_all-in-Over.ensures.own ∙ on_heard)
     (is_of last.announcer first.announcer config peer sending (ap (λ (t : Teller). t.announcer) (c.in_ok-say_all-in-Over.ensures.own ∙ own)) e)
-    (is_over heard.hears_on heard.announcer.line) heard.count (rw c.in-Over.is at c.in_ok-hear_out.ensures.heard) c.in_ok-say_all-in-Over.ensures.spoke
+    (is_over heard.hears_on heard.announcer.line) spoke.count heard.count (rw c.in-Over.is at c.in_ok-hear_out.ensures.heard) c.in_ok-say_all-in-Over.ensures.spoke
     (ap (λ (o : Bool). is_over o heard.announcer.line) on_heard) (search rules) c.in_ok-say_all-in-Over.ensures.shut c.in_ok-say_all-in-Over.ensures.ready (search rules) c.in_ok-say_all-in-Over.ensures.all
 
 pub returns-in-AtLimit-clause-tells : goal.returns-in-AtLimit-clause-tells
 returns-in-AtLimit-clause-tells g c config peer sending e s =
     limit_so config peer sending c.args.limit c.args.teller.now c.say_all.new.speaker c.hear_out.new.speaker _ _ _ _ _ c.in_ok-say_all.ensures.own c.in_ok-hear_out.ensures.own c.requires.early e s c.requires.fresh
-    c.in_ok-say_all.ensures.spoke (c.in_ok-say_all.ensures.over ∙ c.requires.open) _ _ (rw c.in-AtLimit.is at c.in_ok-hear_out.ensures.heard) c.in_ok-hear_out.ensures.sent (ap (λ (o : Bool). is_over o c.hear_out.new.speaker.announcer.line) (ap (λ (t : Teller). t.hears_on) (c.in_ok-hear_out.ensures.own ∙ c.in_ok-say_all.ensures.own) ∙ c.requires.early)) refl
+    c.in_ok-say_all.ensures.spoke (c.in_ok-say_all.ensures.over ∙ c.requires.open) _ _ _ (rw c.in-AtLimit.is at c.in_ok-hear_out.ensures.heard) c.in_ok-hear_out.ensures.sent (ap (λ (o : Bool). is_over o c.hear_out.new.speaker.announcer.line) (ap (λ (t : Teller). t.hears_on) (c.in_ok-hear_out.ensures.own ∙ c.in_ok-say_all.ensures.own) ∙ c.requires.early)) refl
 
 pub returns-in-All-clause-tells : goal.returns-in-All-clause-tells
 returns-in-All-clause-tells g c config peer sending e s =
     ended_so config peer sending c.args.limit c.args.teller.now c.say_all.new.speaker c.hear_out.new.speaker _ _ _ _ _ c.in_ok-say_all.ensures.own c.in_ok-hear_out.ensures.own c.requires.early e s c.requires.fresh
-    c.in_ok-say_all.ensures.spoke (c.in_ok-say_all.ensures.over ∙ c.requires.open) _ _ (rw c.in-All.is at c.in_ok-hear_out.ensures.heard) c.in_ok-hear_out.ensures.sent (ap (λ (o : Bool). is_over o c.hear_out.new.speaker.announcer.line) (ap (λ (t : Teller). t.hears_on) (c.in_ok-hear_out.ensures.own ∙ c.in_ok-say_all.ensures.own) ∙ c.requires.early)) refl
+    c.in_ok-say_all.ensures.spoke (c.in_ok-say_all.ensures.over ∙ c.requires.open) _ _ _ (rw c.in-All.is at c.in_ok-hear_out.ensures.heard) c.in_ok-hear_out.ensures.sent (ap (λ (o : Bool). is_over o c.hear_out.new.speaker.announcer.line) (ap (λ (t : Teller). t.hears_on) (c.in_ok-hear_out.ensures.own ∙ c.in_ok-say_all.ensures.own) ∙ c.requires.early)) refl
