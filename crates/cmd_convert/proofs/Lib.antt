@@ -2,3 +2,4 @@ mod Words
 pub mod Converting
 pub mod Ending
 pub mod Fitting
+mod Living

@@ -104,9 +104,10 @@ fn convert_dump<F: Files, S: Sink>(
         making.new.pending
         result }
 {
-    making.begin(sink)?;
-    'records: while let Some(heard) = next_heard(files, dump, making.config(), buffer)? {
-        making.write_heard(heard, buffer, sink)?;
+    let config = making.config();
+    making.begin(dump.is_at_hand(config, files), sink)?;
+    'records: while let Some(heard) = next_heard(files, dump, config, buffer)? {
+        making.write_heard(dump.is_at_hand(config, files), heard, buffer, sink)?;
     }
     Ok(())
 }

@@ -9,4 +9,4 @@ mod making;
 mod records;
 
 pub use command::{DumpNames, convert};
-pub use laws::reads_back_converted;
+pub use laws::{keeps_lives, reads_back_converted};

@@ -1,6 +1,6 @@
 //! What the records of a dump make of a tape.
 
-ghost use Rattle.std.specs.Prelude.{◌≡◌, ◌≤◌, ℕ, Bool, Some, None, [], IfOk, OnOk, length};
+ghost use Rattle.std.specs.Prelude.{◌≡◌, ◌≤◌, ◌⊎◌, ℕ, Bool, Some, None, [], IfOk, IsTrue, OnOk, length};
 ghost use Rattle.fs_base.specs.Outside.{Rose};
 ghost use Rattle.cmd_stages.specs.Writing.{Finishes};
 ghost use Rattle.fs_line.specs.Output.{Sends};
@@ -62,17 +62,58 @@ impl<'a> Making<'a> {
         self.config
     }
 
-    /// Writes what the tape begins with.
-    pub(crate) fn begin<S: Sink>(&mut self, sink: &mut S) -> Result<(), Failed>
+    /// Writes what the tape begins with. It leaves unless the first record of the dump is at hand.
+    pub(crate) fn begin<S: Sink>(&mut self, at_hand: bool, sink: &mut S) -> Result<(), Failed>
         ensures config { self.new.config ≡ self.old.config }
         ensures lives { self.new.lives ≡ self.old.lives }
         ensures sends { Sends S.Sink sink.old sink.new self.old.pending self.new.pending (magic_of Two) result }
+        ensures none_held { OnOk result (IsTrue at_hand ⊎ (self.new.pending ≡ [])) }
     {
-        write_magic(&mut self.output, sink)
+        write_magic(&mut self.output, sink)?;
+        self.leave(at_hand, sink)
     }
 
-    /// Writes what is made of a record that was heard. A message stands at the front of the buffer.
+    /// Writes out the records that are pending, unless the dump's next record is at hand: where the input is waited
+    /// for, nothing is held back.
+    fn leave<S: Sink>(&mut self, at_hand: bool, sink: &mut S) -> Result<(), Failed>
+        ensures config { self.new.config ≡ self.old.config }
+        ensures lives { self.new.lives ≡ self.old.lives }
+        ensures sends { Sends S.Sink sink.old sink.new self.old.pending self.new.pending [] result }
+        ensures none_held { IsTrue at_hand ⊎ (self.new.pending ≡ []) }
+    {
+        if at_hand {
+            return Ok(());
+        }
+        self.output.flush(sink)
+    }
+
+    /// Writes what is made of a record that was heard; a message stands at the front of the buffer. It leaves with all
+    /// that is pending, unless the dump's next record is at hand.
     pub(crate) fn write_heard<S: Sink>(
+        &mut self,
+        at_hand: bool,
+        heard: Heard,
+        buffer: &[u8],
+        sink: &mut S,
+    ) -> Result<(), Failed>
+        requires within { IsWithin heard.what }
+        requires room { 65536 ≤ length buffer.now }
+        ensures config { self.new.config ≡ self.old.config }
+        ensures lives { OnOk result ((other : ℕ) → lives_of self.new.lives other
+            ≡ with_life heard.peer
+            (made self.old.config (spoken_from heard buffer.now) (lives_of self.old.lives heard.peer)).1
+            (lives_of self.old.lives) other) }
+        ensures sends { Sends S.Sink sink.old sink.new self.old.pending self.new.pending
+            (text_at heard.moment
+            (made self.old.config (spoken_from heard buffer.now) (lives_of self.old.lives heard.peer)).0) result }
+        ensures none_held { OnOk result (IsTrue at_hand ⊎ (self.new.pending ≡ [])) }
+    {
+        self.write_said(heard, buffer, sink)?;
+        self.leave(at_hand, sink)
+    }
+
+    /// Writes what is made of a message, which stands at the front of the buffer, or of a change of state.
+    fn write_said<S: Sink>(
         &mut self,
         heard: Heard,
         buffer: &[u8],

@@ -6,7 +6,7 @@ ghost use Rattle.fs_mrt.specs.Dump.{Grows, IsBegun, Times, spoken_from};
 
 use crate::fault::{DumpFault, DumpReason};
 use crate::heard::Heard;
-use crate::records::Records;
+use crate::records::{Records, is_heard_within};
 use fs_base::{Config, Counted, Files};
 use fs_input::{Ended, next_part};
 use std::marker::Model;
@@ -57,6 +57,13 @@ impl Dump {
             end: None,
             records: Records::start(),
         })
+    }
+
+    /// Whether `next` answers without a call to the outside: a record of a configured peer stands whole in what the slot
+    /// gives at once. No clause says when: it decides only when records leave.
+    pub fn is_at_hand<F: Files>(&self, config: &Config, files: &F) -> bool {
+        self.counted.back.is_empty()
+            && is_heard_within(config.peers.as_slice(), files.at_hand(self.counted.slot))
     }
 
     /// Reads up to the next record that tells something of a configured peer. A message stands at the front of `into`.

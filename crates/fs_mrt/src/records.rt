@@ -5,10 +5,11 @@ ghost use Rattle.fs_mrt.specs.Record.{head_of};
 
 use crate::fault::{DumpFault, DumpReason};
 use crate::heard::Heard;
+use crate::peers::number_at;
 use crate::record::{Head, take_body};
-use crate::shape::shape_of;
+use crate::shape::{Shape, address_of, address_size, family_of, shape_of};
 use byteorder::{BigEndian, ByteOrder};
-use fs_base::{Config, Counted, Files};
+use fs_base::{Config, Counted, Files, Peer};
 use fs_input::Parts;
 use std::marker::Model;
 
@@ -119,4 +120,39 @@ fn read_head(spot: u64, octets: &[u8]) -> Head
             BigEndian::read_u16(&octets[6..]),
         ),
     }
+}
+
+/// Whether a record of a configured peer stands whole in these octets, behind whole ones that tell nothing.
+pub(crate) fn is_heard_within(peers: &[Peer], octets: &[u8]) -> bool {
+    let mut rest = octets;
+    'records: while HEAD_SIZE <= rest.len() {
+        let head = read_head(0, rest);
+        let size = head.size as usize;
+        let behind = &rest[HEAD_SIZE..];
+        if behind.len() < size {
+            return false;
+        }
+        if is_of_peer(peers, head.shape, &behind[..size]) {
+            return true;
+        }
+        rest = &behind[size..];
+    }
+    false
+}
+
+/// Whether a body of this shape is one of a configured peer.
+fn is_of_peer(peers: &[Peer], shape: Option<Shape>, body: &[u8]) -> bool {
+    let Some(shape) = shape else {
+        return false;
+    };
+    let first = shape.front_size();
+    if body.len() < first + 2 {
+        return false;
+    }
+    let Some(family) = family_of(BigEndian::read_u16(&body[first..])) else {
+        return false;
+    };
+    let addresses = &body[first + 2..];
+    address_size(family) <= addresses.len()
+        && number_at(peers, address_of(family, addresses)).is_some()
 }

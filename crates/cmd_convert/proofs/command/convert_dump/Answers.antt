@@ -26,8 +26,8 @@ records-preserved g c =
           doing_more c.args.making.now.config (lives_of c.args.making.now.lives) (lives_of c.records.making.lives) _ _ _ _ _ _
           c.records.making.config (lives_of c.write_heard.new.self.lives) _ _ _ (spoken_from c.in-Some.heard c.next_heard.new.buffer)
           c.records.invariant.config (c.records.invariant.doing told)
-          (gives_as c.args.making.now.config c.config.result.now c.records.dump c.next_heard.new.dump (g.F.Files.left c.records.files) (g.F.Files.left c.next_heard.new.files) (spoken_from c.in-Some.heard c.next_heard.new.buffer)
-          (c.config.ensures ∙ c.records.invariant.config) c.in_ok-heard.ensures.slot (rw c.in-Some.is at (c.in_ok-heard.ensures.gives told)))
+          (gives_as c.args.making.now.config c.config-config.result.now c.records.dump c.next_heard.new.dump (g.F.Files.left c.records.files) (g.F.Files.left c.next_heard.new.files) (spoken_from c.in-Some.heard c.next_heard.new.buffer)
+          c.config-config.ensures c.in_ok-heard.ensures.slot (rw c.in-Some.is at (c.in_ok-heard.ensures.gives told)))
           c.in_ok-write_heard.ensures.lives c.in_ok-write_heard.ensures.sends.ok;
     }
 
@@ -37,6 +37,6 @@ returns-in_err-write_heard-clause-made g c = λ told. match_err _ _ c.from_resid
     c.records.making.config _ _ _ (spoken_from c.in-Some.heard c.next_heard.new.buffer) _
     (g.S.Sink.faults c.args.sink.now) (g.S.Sink.faults c.records.sink) (g.S.Sink.faults c.write_heard.new.sink) refusal
     c.records.invariant.config (c.records.invariant.doing told)
-    (gives_as c.args.making.now.config c.config.result.now c.records.dump c.next_heard.new.dump (g.F.Files.left c.records.files) (g.F.Files.left c.next_heard.new.files) (spoken_from c.in-Some.heard c.next_heard.new.buffer)
-    (c.config.ensures ∙ c.records.invariant.config) c.in_ok-heard.ensures.slot (rw c.in-Some.is at (c.in_ok-heard.ensures.gives told)))
+    (gives_as c.args.making.now.config c.config-config.result.now c.records.dump c.next_heard.new.dump (g.F.Files.left c.records.files) (g.F.Files.left c.next_heard.new.files) (spoken_from c.in-Some.heard c.next_heard.new.buffer)
+    c.config-config.ensures c.in_ok-heard.ensures.slot (rw c.in-Some.is at (c.in_ok-heard.ensures.gives told)))
     c.in_err-write_heard.ensures.sends.err.0 c.records.invariant.sink_later c.in_err-write_heard.ensures.sends.err.1 same)

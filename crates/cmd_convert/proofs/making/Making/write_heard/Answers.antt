@@ -1,16 +1,12 @@
-use Rattle.cmd_convert.proofs.{Words.{ap, sym, sends_as, said_from, What, lives_of, made_by, text_at}, Converting.{change_lives}}
+use Rattle.cmd_convert.proofs.Words.{[], append-nil, lives_of, made, sends_as, sends_stopped, sends_then, spoken_from, text_at}
 use Rattle.cmd_convert.proofs.making.Making.write_heard.Goals as goal
 
-pub returns-in-Change-clause-lives : goal.returns-in-Change-clause-lives
-returns-in-Change-clause-lives g c =
-    change_lives c.write_change.result (lives_of c.write_change.new.self.lives) (lives_of c.args.self.now.lives) c.args.self.now.config c.args.heard.peer
-    c.in-Change.old c.in-Change.new c.args.heard.what c.args.buffer.now c.args.heard.wide (lives_of c.args.self.now.lives c.args.heard.peer)
-    c.in-Change.is c.write_change.ensures.lives
+pub returns-in_err-write_said-clause-sends : goal.returns-in_err-write_said-clause-sends
+returns-in_err-write_said-clause-sends g c =
+    sends_as (append-nil (text_at c.args.heard.moment (made c.args.self.now.config (spoken_from c.args.heard c.args.buffer.now) (lives_of c.args.self.now.lives c.args.heard.peer)).0))
+    (sends_stopped [] _ c.from_residual.result c.from_residual.ensures.1 c.in_err-write_said.ensures.sends)
 
-pub returns-in-Change-clause-sends : goal.returns-in-Change-clause-sends
-returns-in-Change-clause-sends g c =
-    sends_as
-    (ap (λ (what : What). text_at c.args.heard.moment
-    (made_by c.args.self.now.config c.args.heard.peer c.args.heard.wide (said_from what c.args.buffer.now) (lives_of c.args.self.now.lives c.args.heard.peer)).0)
-    (sym c.in-Change.is))
-    (c.write_change.ensures.sends c.args.heard.wide)
+pub returns-clause-sends : goal.returns-clause-sends
+returns-clause-sends g c =
+    sends_as (append-nil (text_at c.args.heard.moment (made c.args.self.now.config (spoken_from c.args.heard c.args.buffer.now) (lives_of c.args.self.now.lives c.args.heard.peer)).0))
+    (sends_then c.in_ok-write_said.ensures.sends c.leave.ensures.sends)
