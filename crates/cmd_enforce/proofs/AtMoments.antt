@@ -254,6 +254,21 @@ pub six_of : {T : Type 0} (r : Result T Refusal) (cause : Refusal) → IsErrAnd 
 six_of (Ok t) cause h six = absurd h
 six_of (Err e) cause h six = ap status_of (sym h) ∙ six
 
+-- a run that was refused so doesn't answer this
+refused_not : {T A : Type 0} (status : ℕ) (r : Result T Refusal) (cause : Refusal) → IsErrAnd r (λ e. e ≡ cause) → status_of cause ≢ status → answered r ≡ status → A
+refused_not status (Ok t) cause h never same = absurd h
+refused_not status (Err e) cause h never same = absurd (never (ap status_of (sym h) ∙ same))
+
+pub packet_no_tape : {T A : Type 0} (r : Result T Refusal) (cause : Refusal) → IsErrAnd r (λ e. e ≡ cause) → IsAtPacket (status_of cause) → answered r ≡ 4 → A
+packet_no_tape r cause h at four = refused_not 4 r cause h at.0.1 four
+
+-- nor does one of which the tape wasn't begun
+pub unplayed_no_tape : {T A : Type 0} {failed : Type 0} (r : Result T Refusal) (cause : Refusal) → IsErrAnd r (λ e. e ≡ cause) → IsUnplayed failed cause → answered r ≡ 4 → A
+unplayed_no_tape {failed = failed} r cause h unplayed four = refused_not 4 r cause h (by unplayed) four
+  where
+    by : IsUnplayed failed cause → status_of cause ≢ 4
+    by (inl e) same = let at : 6 ≡ 4 = sym (ap status_of e) ∙ same in absurd cc
+    by (inr e) same = let at : 1 ≡ 4 = sym (ap status_of e.0) ∙ same in absurd cc
+
 pub packet_wants_none : {T A : Type 0} (r : Result T Refusal) (cause : Refusal) → IsErrAnd r (λ e. e ≡ cause) → IsAtPacket (status_of cause) → answered r ≡ 6 → A
-packet_wants_none (Ok t) cause h at six = absurd h
-packet_wants_none (Err e) cause h at six = absurd (at.1 (ap status_of (sym h) ∙ six))
+packet_wants_none r cause h at six = refused_not 6 r cause h at.1 six

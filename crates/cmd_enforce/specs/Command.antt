@@ -1,7 +1,7 @@
 -- What `enforce` is given, and what it answers and writes (the order of work: configuration, tape, capture).
-use Rattle.std.specs.Prelude.{ℕ, List, [], ◌≡◌, ◌⊎◌, ◌++◌, Option, Some}
+use Rattle.std.specs.Prelude.{ℕ, List, [], ◌≡◌, ◌≤◌, ◌⊎◌, ◌++◌, take, Option, Some}
 use Rattle.fs_input.specs.Records.{done}
-use Rattle.fs_base.specs.{declared.config.Config.{Config}, Files.{one_opening}, Happened.{Happened, FilesFailed, SinkFailed, Wrote}}
+use Rattle.fs_base.specs.{declared.config.Config.{Config}, Files.{Opened, one_opening}, Happened.{Happened, FilesFailed, SinkFailed, Wrote}, Sink.{Grew}}
 use Rattle.fs_tape.specs.{Tape.{Timed}, declared.magic.Version.TheVariants.{Two}}
 use Rattle.cmd_enforce.specs.{Capture.{CaptureState, Recorded, capture_of, coming}, Judge.{capture_stage, status_at, output_of}, Moments.{AnswersAt, HoldAt, WroteJudged, packets_of}}
 use Rattle.cmd_stages.specs.{Refusal.{Stage, Found, Stopped, and_then, status_of, EndsEarly}, Load.{HoldsConfig, Names, Openings}, Play.{HasVersion, HoldsTape, accepted_stage}}
@@ -43,6 +43,21 @@ abbrev pub Enforces : ℕ → Names → (config tape capture : List ℕ) → Hap
 Enforces limit holds config tape capture call answer =
     EnforcesSo limit holds config tape capture (FilesFailed call ⊎ SinkFailed call) call.before.written call.now.written answer
 
+-- What `enforce` opens: the configuration, the tape, the capture, and behind them the tape again, which one of the second
+-- version is; at 0 the first three at least.
+abbrev pub openings_of : (config tape capture : List ℕ) → Openings
+openings_of config tape capture = record {
+  files = one_opening 0 config ++ one_opening 1 tape ++ one_opening 2 capture ++ one_opening 1 tape;
+  judged = 1;
+  due = 3;
+}
+
+-- the capture wasn't opened, nor what is opened behind it
+pub record Unopened (config tape capture : List ℕ) (before now : Option (List Opened)) : Type 0 where
+  pub count : ℕ
+  pub front : Grew before now (take count (openings_of config tape capture).files)
+  pub few : count ≤ 2
+
 -- At want of memory behind configuration and tape the lines of all packets that were judged were written, and the others
 -- are left in the capture, but for at most one that was read; over a tape of the first version none was judged.
 pub record Unfinished (limit : ℕ) (holds : Names) (config tape capture left : List ℕ) (before now : Option (List ℕ)) : Type 0 where
@@ -53,10 +68,27 @@ pub record Unfinished (limit : ℕ) (holds : Names) (config tape capture left : 
   pub judged : WroteJudged accepted items (packets_of (capture_stage limit holds capture)) (coming reader left).0 before now
   pub none : (HasVersion limit holds tape Two → ⊥) → judged.came.judged ≡ []
 
--- That; or the capture wasn't opened, and nothing was written.
-abbrev pub Wants : ℕ → Names → (config tape capture left_before left : List ℕ) → Happened → Type 0
-Wants limit holds config tape capture left_before left call =
-    ((left ≡ left_before) × Wrote call []) ⊎ Unfinished limit holds config tape capture left call.before.written call.now.written
+-- What the files of a run showed before it and behind it: what was opened, and what is left in the capture's slot.
+pub record Shown : Type 0 where
+  pub opened_before : Option (List Opened)
+  pub opened : Option (List Opened)
+  pub left_before : List ℕ
+  pub left : List ℕ
+
+-- That; or the capture wasn't opened, nothing was read in its slot, and nothing was written.
+abbrev pub Wants : ℕ → Names → (config tape capture : List ℕ) → Shown → Happened → Type 0
+Wants limit holds config tape capture shown call =
+    (Unopened config tape capture shown.opened_before shown.opened × (shown.left ≡ shown.left_before) × Wrote call [])
+    ⊎ Unfinished limit holds config tape capture shown.left call.before.written call.now.written
+
+-- in a clause: `shown F.opened F.left files.old files.new`
+abbrev pub shown : {F : Type 0} → (F → Option (List Opened)) → (F → ℕ → List ℕ) → F → F → Shown
+shown opened left files files_now = record {
+  opened_before = opened files;
+  opened = opened files_now;
+  left_before = left files 2;
+  left = left files_now 2;
+}
 
 -- Of the files that these names hold, all of them without a fault and within the limit, the lines of the capture's
 -- packets were written: of the ordered walk over the rules that validation admits from the routes that the tape holds at
@@ -72,12 +104,3 @@ pub record Enforced (limit : ℕ) (holds : Names) (config tape capture : List �
   pub held : ℕ → Held
   pub leaves : HoldAt accepted items held (capture_of limit capture_octets).packets
   pub wrote : Wrote call (output_of held (capture_of limit capture_octets))
-
--- What `enforce` opens: the configuration, the tape, the capture, and behind them the tape again, which one of the second
--- version is; at 0 the first three at least.
-abbrev pub openings_of : (config tape capture : List ℕ) → Openings
-openings_of config tape capture = record {
-  files = one_opening 0 config ++ one_opening 1 tape ++ one_opening 2 capture ++ one_opening 1 tape;
-  judged = 1;
-  due = 3;
-}

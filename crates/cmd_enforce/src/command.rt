@@ -2,7 +2,7 @@
 
 ghost use Rattle.std.specs.Prelude.{◌≡◌, ◌≢◌, ◌≤◌, IsTrue};
 ghost use Rattle.fs_base.specs.Happened.{happened};
-ghost use Rattle.cmd_enforce.specs.Command.{Enforces, Wants, openings_of};
+ghost use Rattle.cmd_enforce.specs.Command.{Enforces, Unopened, Wants, openings_of, shown};
 ghost use Rattle.cmd_stages.specs.{Load.{OpensFront}, Play.{HasVersion}, Refusal.{answered}};
 ghost use Rattle.fs_tape.specs.declared.magic.Version.TheVariants.{Two};
 
@@ -43,6 +43,9 @@ pub fn enforce<F: Files, S: Sink>(
         (F.opened files.old) (F.opened files.new) (answered result) }
     ensures quiet { answered result ≡ 3 → sink.new ≡ sink.old }
     ensures still { IsTrue F.tells → answered result ≡ 4 → sink.new ≡ sink.old }
+    ensures unopened { IsTrue F.tells → answered result ≡ 4
+        → Unopened names.now.config.now names.now.tape.now names.now.capture.now
+        (F.opened files.old) (F.opened files.new) }
     ensures unwritten { IsTrue F.tells → answered result ≡ 6
         → (HasVersion limit (F.holds files.old) names.now.tape.now Two → ⊥) → sink.new ≡ sink.old }
 
@@ -53,7 +56,7 @@ pub fn enforce<F: Files, S: Sink>(
     ensures wanting { IsTrue F.tells
         → answered result ≡ 6
         → Wants limit (F.holds files.old) names.now.config.now names.now.tape.now names.now.capture.now
-        (F.left files.old 2) (F.left files.new 2)
+        (shown F.opened F.left files.old files.new)
         (happened F.Files S.Sink files.old files.new sink.old sink.new) }
 {
     let config = load_config(alloc, files, names.config, limit)?;

@@ -23,6 +23,10 @@ same_found e = cc
 never_stopped : {A : Type 0} (a : A) (refusal : Refusal) → Found a ≡ Stopped refusal → ⊥
 never_stopped a refusal e = absurd cc
 
+-- a stage that gave a value wasn't stopped
+pub not_stopped : {A : Type 0} {P : Type 0} {stage : Stage A} {a : A} {refusal : Refusal} → stage ≡ Found a → stage ≡ Stopped refusal → P
+not_stopped {a = a} {refusal = refusal} e h = absurd (never_stopped a refusal (sym e ∙ h))
+
 pub differs : (answer one other : ℕ) → one ≢ other → answer ≡ one → answer ≢ other
 differs answer one other d e h = d (sym e ∙ h)
 

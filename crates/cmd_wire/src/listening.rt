@@ -4,8 +4,8 @@ ghost use Rattle.std.specs.Prelude.{◌≡◌, ◌≤◌, ◌⊎◌, [], false, 
 ghost use Rattle.fs_base.specs.{Happened.{happened, with_wire}, Outside.{Rose}};
 ghost use Rattle.fs_desk.specs.Desk.{standing_at_desk};
 ghost use Rattle.fs_peering.specs.Hearer.{Receives, is_ended};
-ghost use Rattle.cmd_stages.specs.{Load.{OpensFront, config_alone}, Refusal.{HasReason, answered}};
-ghost use Rattle.cmd_wire.specs.{Announcing.{IsBrokenOff, IsOfSession}, Conversation.{conversation}, Listening.{Begins, ListensThrough, ListensTo, with_peer}};
+ghost use Rattle.cmd_stages.specs.{Load.{OpensFront, config_alone}, Refusal.{HasReason, Stopped, answered}, declared.refusal.Refusal.{Refusal as Cause}};
+ghost use Rattle.cmd_wire.specs.{Announcing.{IsBrokenOff, IsOfSession}, Conversation.{conversation}, Listening.{Begins, ListensThrough, ListensTo, hearing_stage, with_peer}};
 
 use crate::listed::tell_listing;
 use cmd_stages::{Refusal, load_config};
@@ -43,6 +43,9 @@ pub fn listen<F: Files, S: Sink, W: Wire, C: Clock>(
     ensures quiet { (answered result ≡ 3) ⊎ (answered result ≡ 6) → sink.new ≡ sink.old }
     ensures unspoken { answered result ≡ 3 → wire.new ≡ wire.old }
     ensures unasked { answered result ≡ 3 → clock.new ≡ clock.old }
+    ensures stopped { IsTrue F.tells
+        → (refusal : Cause) → hearing_stage order.now.limit (F.holds files.old) order.now.config.now ≡ Stopped refusal
+        → (wire.new ≡ wire.old) × (clock.new ≡ clock.old) }
     ensures opens { OpensFront (config_alone order.now.config.now)
         (F.opened files.old) (F.opened files.new) (answered result) }
 

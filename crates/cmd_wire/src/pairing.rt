@@ -3,7 +3,7 @@
 ghost use Rattle.std.specs.Prelude.{◌≡◌, ◌≤◌, ◌⊎◌, IfErr, IfOk, IsTrue, List, ℕ};
 ghost use Rattle.fs_base.specs.{Happened.{happened, with_wire}, Outside.{Rose}, declared.config.Config.{Config}};
 ghost use Rattle.fs_speaker.specs.{Announcer.{CanSend}, Sending.{sender_of}, declared.Sending.{Sending}};
-ghost use Rattle.cmd_stages.specs.{Load.{OpensFront, config_then}, Refusal.{answered}};
+ghost use Rattle.cmd_stages.specs.{Load.{OpensFront, config_then, sending_stage}, Refusal.{Stopped, answered}, declared.refusal.Refusal.{Refusal as Cause}};
 ghost use Rattle.cmd_wire.specs.{Announcing.{IsBrokenOff, IsOfSession}, Conversation.{conversation}, Listed.{ListsDesk}, Pairing.{AreReady, BothBegin, Joined, Joins}};
 
 use crate::announcing::load_both;
@@ -45,6 +45,9 @@ pub fn pair<F: Files, S: Sink, W: Wire, C: Clock>(
     ensures quiet { (answered result ≡ 3) ⊎ (answered result ≡ 6) → sink.new ≡ sink.old }
     ensures unspoken { answered result ≡ 3 → wire.new ≡ wire.old }
     ensures unasked { answered result ≡ 3 → clock.new ≡ clock.old }
+    ensures stopped { IsTrue F.tells
+        → (refusal : Cause) → sending_stage order.now.limit (F.holds files.old) order.now.config.now order.now.rules.now ≡ Stopped refusal
+        → (wire.new ≡ wire.old) × (clock.new ≡ clock.old) }
     ensures opens { OpensFront (config_then 2 order.now.config.now order.now.rules.now)
         (F.opened files.old) (F.opened files.new) (answered result) }
 

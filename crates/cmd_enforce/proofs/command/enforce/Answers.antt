@@ -1,4 +1,4 @@
-use Rattle.cmd_enforce.proofs.{Words.{◌≡◌, ◌⊎◌, inl, inr, ◌∙◌, ℕ, List, [], ap, refl, subst, sym, le_trans, Config, Desked, AnswersAt, WroteJudged, packets_of, Rose, Grew-refl, Grew-trans, Grew, arith, opened_due, openings_of, refused_at, Captured, coming, recorded, Names, tape_stage, Found, answered, EnforcesSo, capture_stage, answered_err, ends_early, accepted_stage, either_rose, rose_earlier}, Enforcing.{all_to_come, answers_opened, answers_so, config_ends, found_in, is_second, never_tape, none_judged, tape_ends, unfinished_so, whole_played, wrote_none, wrote_under}, AtMoments.{packet_wants_none}}
+use Rattle.cmd_enforce.proofs.{Words.{◌≡◌, ◌⊎◌, inl, inr, ◌∙◌, ℕ, List, [], ap, refl, subst, sym, le_trans, Config, Desked, AnswersAt, WroteJudged, packets_of, Rose, Grew-refl, Grew-trans, Grew, arith, opened_due, openings_of, refused_at, Captured, coming, recorded, Names, tape_stage, Found, answered, EnforcesSo, capture_stage, answered_err, ends_early, accepted_stage, either_rose, rose_earlier}, Enforcing.{all_to_come, answers_opened, answers_so, config_ends, found_in, is_second, never_tape, none_judged, tape_ends, unfinished_so, whole_played, wrote_none, wrote_under}, AtMoments.{packet_no_tape, packet_wants_none, unplayed_no_tape}}
 use Rattle.cmd_enforce.proofs.command.enforce.Goals as goal
 
 pub returns-in_err-config-clause-enforces : goal.returns-in_err-config-clause-enforces
@@ -80,12 +80,55 @@ returns-clause-still g c = λ told four.
     (c.in_ok-player-in-Two.ensures.begun told w.played.items
     (found_in (sym holds) w) (is_second (sym holds) w c.in-Two.is))) four
 
+pub returns-in_err-config-clause-unopened : goal.returns-in_err-config-clause-unopened
+returns-in_err-config-clause-unopened g c = λ told four. record { count = 1; front = c.in_err-config.ensures.opens; few = omega arith }
+
+pub returns-in_err-whole-clause-unopened : goal.returns-in_err-whole-clause-unopened
+returns-in_err-whole-clause-unopened g c = λ told four.
+    record { count = 2; front = Grew-trans _ _ _ _ _ c.in_ok-config.ensures.opens c.in_err-whole.ensures.opens; few = omega arith }
+
+pub returns-in_err-capture-clause-unopened : goal.returns-in_err-capture-clause-unopened
+returns-in_err-capture-clause-unopened g c = λ told four.
+    packet_no_tape c.from_residual-in_err-capture.result c.in_err-capture.field-0.0 c.from_residual-in_err-capture.ensures.1 c.in_err-capture.ensures.possible four
+
+pub returns-in_err-player-in-Two-clause-unopened : goal.returns-in_err-player-in-Two-clause-unopened
+returns-in_err-player-in-Two-clause-unopened g c = λ told four.
+    let w = c.in_ok-whole.ensures.played told in
+    let holds = (c.in_ok-capture.ensures.others told).names ∙ c.in_ok-whole.ensures.holds told in
+    unplayed_no_tape c.from_residual-in_err-player-in-Two.result c.in_err-player-in-Two.field-0.0 c.from_residual-in_err-player-in-Two.ensures.1
+    (c.in_err-player-in-Two.ensures.begun told w.played.items (found_in (sym holds) w) (is_second (sym holds) w c.in-Two.is)) four
+
+pub returns-in-One-clause-unopened : goal.returns-in-One-clause-unopened
+returns-in-One-clause-unopened g c = λ told four.
+    let w = c.in_ok-whole.ensures.played told in
+    never_tape _ w.played.items (recorded (coming c.in_ok-capture.capture (g.F.Files.left c.open_capture.new.files 2))) _ _ _ _
+    (c.judge_capture.ensures.judges told w.played.items
+    (whole_played c.ended.result (g.F.Files.left c.open_capture.new.files 1) w c.in-One.is c.ended.ensures.stands)) four
+
+pub returns-clause-unopened : goal.returns-clause-unopened
+returns-clause-unopened g c = λ told four.
+    let w = c.in_ok-whole.ensures.played told in
+    let holds = (c.in_ok-capture.ensures.others told).names ∙ c.in_ok-whole.ensures.holds told in
+    never_tape _ w.played.items (recorded (coming c.in_ok-capture.capture (g.F.Files.left c.begin.new.files 2))) _ _ _ _
+    (c.judge_capture-in-Two.ensures.judges told w.played.items
+    (c.in_ok-player-in-Two.ensures.begun told w.played.items
+    (found_in (sym holds) w) (is_second (sym holds) w c.in-Two.is))) four
+
 pub returns-in_err-config-clause-wanting : goal.returns-in_err-config-clause-wanting
-returns-in_err-config-clause-wanting g c = λ told six. inl ((c.in_err-config.ensures.others told).others 2 (λ same. absurd cc), Grew-refl (g.S.Sink.written c.args.sink.now))
+returns-in_err-config-clause-wanting g c = λ told six.
+    inl (
+      record { count = 1; front = c.in_err-config.ensures.opens; few = omega arith },
+      (c.in_err-config.ensures.others told).others 2 (λ same. absurd cc),
+      Grew-refl (g.S.Sink.written c.args.sink.now),
+    )
 
 pub returns-in_err-whole-clause-wanting : goal.returns-in_err-whole-clause-wanting
 returns-in_err-whole-clause-wanting g c = λ told six.
-    inl ((c.in_err-whole.ensures.others told).others 2 (λ same. absurd cc) ∙ (c.in_ok-config.ensures.others told).others 2 (λ same. absurd cc), Grew-refl (g.S.Sink.written c.args.sink.now))
+    inl (
+      record { count = 2; front = Grew-trans _ _ _ _ _ c.in_ok-config.ensures.opens c.in_err-whole.ensures.opens; few = omega arith },
+      (c.in_err-whole.ensures.others told).others 2 (λ same. absurd cc) ∙ (c.in_ok-config.ensures.others told).others 2 (λ same. absurd cc),
+      Grew-refl (g.S.Sink.written c.args.sink.now),
+    )
 
 pub returns-in_err-capture-clause-wanting : goal.returns-in_err-capture-clause-wanting
 returns-in_err-capture-clause-wanting g c = λ told six.

@@ -1,4 +1,4 @@
-use Rattle.cmd_wire.{proofs.{Words.{length, refl, happened, with_wire, OpensFront, answered_err, arith, config_then, opened_due}, Concluding.{told_line}, FromStages.{broken_session}}, specs.Lines.{sent_line}}
+use Rattle.cmd_wire.{proofs.{Words.{length, refl, happened, with_wire, OpensFront, answered_err, arith, config_then, opened_due}, Concluding.{told_line}, FromStages.{broken_session}, Statuses.{not_stopped}}, specs.Lines.{sent_line}}
 use Rattle.cmd_wire.proofs.announcing.announce.Goals as goal
 
 pub returns-clause-announces : goal.returns-clause-announces
@@ -10,6 +10,12 @@ returns-clause-announces g c = λ told.
 pub returns-in_err-ending-clause-possible : goal.returns-in_err-ending-clause-possible
 returns-in_err-ending-clause-possible g c =
     (broken_session c.from_residual-in_err-ending.result c.from_residual-in_err-ending.ensures.1 c.in_err-ending.ensures.broken).1
+
+pub returns-in_err-ending-clause-stopped : goal.returns-in_err-ending-clause-stopped
+returns-in_err-ending-clause-stopped g c = λ told refusal stop. not_stopped (c.in_ok-config.ensures.reaches told) stop
+
+pub returns-clause-stopped : goal.returns-clause-stopped
+returns-clause-stopped g c = λ told refusal stop. not_stopped (c.in_ok-config.ensures.reaches told) stop
 
 pub returns-in_err-config-clause-opens : goal.returns-in_err-config-clause-opens
 returns-in_err-config-clause-opens g c =

@@ -1,4 +1,4 @@
-use Rattle.cmd_wire.proofs.{Words.{inl, inr, happened, with_wire, reason_then, with_peer, arith, config_alone, opened_due, refl}, FromStages.{broken_session, ends_handed, next_reason}, Concluding.{told_desk}, Hearing.{heard_as, hearing_found}}
+use Rattle.cmd_wire.proofs.{Words.{inl, inr, happened, with_wire, reason_then, with_peer, arith, config_alone, opened_due, refl}, FromStages.{broken_session, ends_handed, next_reason}, Concluding.{told_desk}, Hearing.{heard_as, hearing_found}, Statuses.{not_stopped}}
 use Rattle.cmd_wire.proofs.listening.listen.Goals as goal
 
 pub returns-in_err-config-clause-listens : goal.returns-in_err-config-clause-listens
@@ -24,6 +24,18 @@ returns-clause-listens g c = λ told.
 pub returns-in_err-ending-clause-possible : goal.returns-in_err-ending-clause-possible
 returns-in_err-ending-clause-possible g c =
     (broken_session c.from_residual-in_err-ending.result c.from_residual-in_err-ending.ensures.1 c.in_err-ending.ensures.broken).1
+
+pub returns-in_err-ending-clause-stopped : goal.returns-in_err-ending-clause-stopped
+returns-in_err-ending-clause-stopped g c = λ told refusal stop.
+    not_stopped
+    (hearing_found c.args.order.now.limit (g.F.Files.holds c.args.files.now) c.args.order.now.config.now _ _ (c.in_ok-config.ensures.reaches told) c.in_ok-hearer.ensures.begins.peer_is)
+    stop
+
+pub returns-clause-stopped : goal.returns-clause-stopped
+returns-clause-stopped g c = λ told refusal stop.
+    not_stopped
+    (hearing_found c.args.order.now.limit (g.F.Files.holds c.args.files.now) c.args.order.now.config.now _ _ (c.in_ok-config.ensures.reaches told) c.in_ok-hearer.ensures.begins.peer_is)
+    stop
 
 pub returns-in_err-config-clause-opens : goal.returns-in_err-config-clause-opens
 returns-in_err-config-clause-opens g c =

@@ -1,4 +1,4 @@
-use Rattle.cmd_wire.proofs.{Words.{inl, inr, happened, with_wire, OpensFront, answered_err, arith, config_then, opened_due, refl}, Concluding.{told_desk}, FromPairing.{carries}, FromStages.{broken_session, ends_handed}}
+use Rattle.cmd_wire.proofs.{Words.{inl, inr, happened, with_wire, OpensFront, answered_err, arith, config_then, opened_due, refl}, Concluding.{told_desk}, FromPairing.{carries}, FromStages.{broken_session, ends_handed}, Statuses.{not_stopped}}
 use Rattle.cmd_wire.proofs.pairing.pair.Goals as goal
 
 pub returns-in_err-config-clause-joins : goal.returns-in_err-config-clause-joins
@@ -42,6 +42,12 @@ returns-in_err-ends-clause-possible g c =
 pub returns-in_err-ending-clause-possible : goal.returns-in_err-ending-clause-possible
 returns-in_err-ending-clause-possible g c =
     (broken_session c.from_residual-in_err-ending.result c.from_residual-in_err-ending.ensures.1 c.in_err-ending.ensures.broken).1
+
+pub returns-in_err-ending-clause-stopped : goal.returns-in_err-ending-clause-stopped
+returns-in_err-ending-clause-stopped g c = λ told refusal stop. not_stopped (c.in_ok-config.ensures.reaches told) stop
+
+pub returns-clause-stopped : goal.returns-clause-stopped
+returns-clause-stopped g c = λ told refusal stop. not_stopped (c.in_ok-config.ensures.reaches told) stop
 
 pub returns-in_err-config-clause-opens : goal.returns-in_err-config-clause-opens
 returns-in_err-config-clause-opens g c =
