@@ -11,7 +11,9 @@ pub mod status;
 mod writing;
 
 pub use items::ItemPlayer;
-pub use load::{CAPTURE_SLOT, CONFIG_SLOT, RULES_SLOT, TAPE_SLOT, load_config, load_rules, open};
+pub use load::{
+    CAPTURE_SLOT, CONFIG_SLOT, RULES_SLOT, TAPE_SLOT, load_config, load_file, load_rules, open,
+};
 pub use play::{WholeTape, play_whole};
 pub use player::Player;
 pub use refusal::Refusal;

@@ -54,7 +54,7 @@ pub fn open<F: Files>(files: &mut F, slot: u8, name: &str) -> Result<(), Refusal
 ///
 /// `Outside` where the file isn't there or the files failed, `Limit` where it has at least `limit` octets, `Memory`
 /// where the machine refused memory.
-fn load<F: Files>(
+pub fn load_file<F: Files>(
     alloc: Global,
     files: &mut F,
     slot: u8,
@@ -65,6 +65,7 @@ fn load<F: Files>(
     ensures later { F.faults files.old ≤ F.faults files.new }
     ensures holds { IsTrue F.tells → F.holds files.new ≡ F.holds files.old }
     ensures possible { IsOfFile (answered result) }
+    ensures unjudged { answered result ≢ 3 }
 
     ensures reaches { IsTrue F.tells
         → Reaches (λ octets. octets.items)
@@ -107,7 +108,7 @@ pub fn load_config<F: Files>(
     ensures opens { Grew (F.opened files.old) (F.opened files.new) (one_opening 0 name.now) }
     ensures others { OnlySlot F.tells F.left F.holds 0 files.old files.new }
 {
-    let octets = load(alloc, files, CONFIG_SLOT, name, limit)?;
+    let octets = load_file(alloc, files, CONFIG_SLOT, name, limit)?;
     match fs_conf::read_config(alloc, &octets) {
         Ok(config) => Ok(config),
         Err(ConfFault::Refused) => Err(Refusal::Rejected),
@@ -140,7 +141,7 @@ pub fn load_rules<F: Files>(
     ensures opens { Grew (F.opened files.old) (F.opened files.new) (one_opening 1 name.now) }
     ensures others { OnlySlot F.tells F.left F.holds 1 files.old files.new }
 {
-    let octets = load(alloc, files, RULES_SLOT, name, limit)?;
+    let octets = load_file(alloc, files, RULES_SLOT, name, limit)?;
     match fs_conf::read_rules(alloc, &octets, config) {
         Ok(sending) => Ok(sending),
         Err(ConfFault::Refused) => Err(Refusal::Rejected),

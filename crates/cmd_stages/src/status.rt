@@ -27,7 +27,7 @@ pub const LIMIT: u8 = 7;
 /// The session of a command that speaks over a wire closed, or ended before it was established.
 pub const SESSION: u8 = 8;
 
-/// The word of `check` is no NLRI of the family.
+/// What `check` is to say of isn't accepted: NLRI, a text, or a file.
 pub const NLRI: u8 = 9;
 
 /// The dump has a fault.

@@ -1,4 +1,5 @@
 mod Words
+pub mod Checking
 pub mod Counting
 pub mod Surveying
 pub mod Following

@@ -1,5 +1,5 @@
 -- What the clauses of a run say follows from what it does.
-use Rattle.fs_cli.proofs.Words.{◌≡◌, ◌≢◌, ◌⊎◌, ◌++◌, append-nil, inl, inr, ◌<◌, ◌∙◌, ◌==◌, ℕ, List, [], ◌∷◌, Option, Some, None, Result, Ok, Err, IsTrue, refl, ap, sym, subst, arith, true, false, Bool, not, if◌then◌else◌, filter, length, nat_le, Happened, happened, with_wire, FilesStood, SinkStood, WireStood, Grew, Grew-refl, Config, Timed, tape_of, Conversation, conversation, ChecksSo, Does, IsOneOf, Runs, HasNoMoments, HasStatus, HasCauses, Completes, Promises, objects, FailedOver, OutsideFailed, WireServed, Objects, AreTold, FilesKept, SinkKept, WireKept, ClockKept, names_in, happened_in, talk_in, speaks, statuses, EnforcesSo, Enforced, Wants, Inputs, inputs, inputs_stage, status_for, HoldsConfig, Names, fetch, config_stage, Form, Enforce, Surveys, Changes, Converts, Check, Gen, form_of, Announce, Listen, Pair, Text, ListsSo, Surveyed, TellsSo, Changed, tells_changes, listed_status, text_for, HasVersion, HoldsTape, accepted_stage, tape_stage, Answers, answered, Stage, Found, Stopped, Verdict, and_then, or_stop, status_of, Refusal, Outside, Rejected, Tape, Capture, Dump, Memory, Limit, Session, Caused, due_status, early_status, late_status, never_early, never_zero, not_rose, same_found, sending_stage, Opened, OpensFront, Openings, openings}
+use Rattle.fs_cli.proofs.Words.{◌≡◌, ◌≢◌, ◌⊎◌, ◌++◌, append-nil, inl, inr, ◌<◌, ◌∙◌, ◌==◌, ℕ, List, [], ◌∷◌, Option, Some, None, Result, Ok, Err, IsTrue, refl, ap, sym, subst, arith, true, false, Bool, not, if◌then◌else◌, filter, length, nat_le, Happened, happened, with_wire, FilesStood, SinkStood, WireStood, Grew, Grew-refl, Config, Timed, tape_of, Conversation, conversation, ChecksSo, Does, IsOneOf, Runs, HasNoMoments, HasStatus, HasCauses, Completes, Promises, objects, FailedOver, OutsideFailed, WireServed, Objects, AreTold, FilesKept, SinkKept, WireKept, ClockKept, names_in, happened_in, shown_in, talk_in, speaks, statuses, StopsSo, EnforcesSo, Enforced, Unopened, Wants, Inputs, inputs, inputs_stage, status_for, HoldsConfig, Names, fetch, config_stage, Form, Enforce, Surveys, Changes, Converts, Check, Gen, form_of, Announce, Listen, Pair, Text, ListsSo, Surveyed, TellsSo, Changed, tells_changes, listed_status, text_for, HasVersion, HoldsTape, accepted_stage, tape_stage, Answers, answered, Stage, Found, Stopped, Verdict, and_then, or_stop, status_of, Refusal, Outside, Rejected, Tape, Capture, Dump, Memory, Limit, Session, Caused, due_status, early_status, late_status, never_early, never_zero, not_rose, same_found, sending_stage, Opened, OpensFront, Openings, openings, CheckFile}
 use Rattle.std.{specs.{List.{AllByRecursion}, Prelude.{⊤}}, proofs.lemmas.Bool.Decides.{nat_tests}}
 use Rattle.fs_base.specs.declared.Files as files
 use Rattle.fs_base.specs.declared.Sink as sink
@@ -16,6 +16,7 @@ use Rattle.cmd_convert.{specs.{Command.{Converted, ConvertsSo, convert_status, d
 use Rattle.fs_cli.specs.declared.{command.Subject.{Subject}, survey.Survey.{Survey}}
 use Rattle.fs_tape.specs.declared.magic.Version.TheVariants.{Two}
 use Rattle.cmd_stages.proofs.LookingAhead.{found_items}
+use Rattle.fs_cli.specs.FileCheck.{ChecksFileSo, FileChecked, FileForm}
 use Rattle.fs_cli.proofs.Telling.{change_status, changed_well}
 
 -- the status
@@ -73,6 +74,12 @@ dump_caused limit holds config dump failed before now answer (inr makes) =
     late_status failed (verdict_of makes.accepted limit (dump_stage holds dump)).status answer (answer ≡ convert_status limit holds config dump)
     (λ h. h ∙ sym (ap (status_by limit (dump_stage holds dump)) makes.found)) makes.answers.status_is
 
+file_status : (limit : ℕ) (holds : Names) (file : FileForm) (failed : Type 0) (before now : Option (List ℕ)) (talk : Conversation) (answer : ℕ)
+    → ChecksFileSo limit holds file failed before now answer → HasStatus limit holds (CheckFile file) talk answer ⊎ (answer ≡ 6) ⊎ ((answer ≡ 1) × failed)
+file_status limit holds file failed before now talk answer (inl early) = inr early.0
+file_status limit holds file failed before now talk answer (inr due) =
+    caused_in {By = HasStatus limit holds (CheckFile file) talk answer} (λ h. (due.0, due.1, h)) (λ f. f) due.2.status_is
+
 gen_status : (count : ℕ) (files sink : Type 0) (before now : Option (List ℕ)) (answer : ℕ)
     → GeneratesSo count sink before now answer → Caused (files ⊎ sink) 0 answer
 gen_status count files sink before now answer (inl none) = inr (inl none.0)
@@ -85,6 +92,7 @@ causes_of tells limit holds (Surveys survey config tape) call talk answer told d
 causes_of tells limit holds (Changes config tape) call talk answer told d = change_status limit holds config tape _ _ _ answer (d told)
 causes_of tells limit holds (Converts config dump) call talk answer told d = dump_caused limit holds config dump _ _ _ answer (d told)
 causes_of tells limit holds (Check subject word) call talk answer told d = check_status limit holds subject word _ _ _ _ talk answer d
+causes_of tells limit holds (CheckFile file) call talk answer told d = file_status limit holds file _ _ _ talk answer (d told)
 causes_of tells limit holds (Gen count) call talk answer told d = gen_status count _ _ _ _ answer d
 causes_of tells limit holds (Announce config rules address) call talk answer told d = session_status (sending_stage limit holds config rules) (Announced limit talk) call answer (d told)
 causes_of tells limit holds (Listen config address) call talk answer told d = session_status (hearing_stage limit holds config) (Heard limit talk) call answer (d told)
@@ -241,6 +249,23 @@ converted_well limit holds config dump failed call answer (inr makes) zero = by 
           read_back = λ tape_limit are. reads_back_converted file.octets makes.accepted limit tape_limit octets file.accepted are;
         }
 
+-- what `check` wrote of a file, but at want of memory and where a call failed
+file_checked : (limit : ℕ) (holds : Names) (file : FileForm) (failed : Type 0) (call : Happened) (answer : ℕ)
+    → ChecksFileSo limit holds file failed call.before.written call.now.written answer → answer ≢ 1 → answer ≢ 6 → FileChecked limit holds file call answer
+file_checked limit holds file failed call answer (inl (inl six, none)) one_not six_not = absurd (six_not six)
+file_checked limit holds file failed call answer (inl (inr one, none)) one_not six_not = absurd (one_not one.0)
+file_checked limit holds file failed call answer (inr due) one_not six_not = record {
+  verdict = due.0;
+  due = due.1;
+  status_is = by due.2.status_is;
+  wrote = due.2.whole six_not one_not;
+}
+  where
+    by : (answer ≡ due.0.status) ⊎ (answer ≡ 6) ⊎ ((answer ≡ 1) × failed) → answer ≡ due.0.status
+    by (inl h) = h
+    by (inr (inl h)) = absurd (six_not h)
+    by (inr (inr h)) = absurd (one_not h.0)
+
 generated_well : (count : ℕ) (failed : Type 0) (call : Happened) (answer : ℕ)
     → GeneratesSo count failed call.before.written call.now.written answer → answer ≡ 0 → Generated count call
 generated_well count failed call answer (inl none) zero = let six : answer ≡ 6 = none.0 in absurd cc
@@ -346,12 +371,15 @@ promises_none limit of_files of_sink of_wire of_clock files sink wire clock word
       config_writes_nothing = λ three. (refl, refl, refl);
       limit_writes_nothing = λ seven survey config tape asked. refl;
       tape_writes_nothing = λ told four config tape capture asked. refl;
+      stopped_unspoken = λ told form asked refusal stops. (refl, refl);
+      tape_opens_nothing = λ told four. absurd cc;
       memory_writes_nothing = λ six form asked tells none. refl;
       memory_keeps_judged = λ told six. absurd cc;
       causes = λ told. subst (λ (f : Option Form). HasCauses limit (of_files.holds files) f call talk 2) e tt;
       complete = λ told stood sink_stood served. subst (λ (f : Option Form). Completes limit (of_files.holds files) f talk 2) e tt;
       headline = λ told zero config tape capture asked. absurd cc;
       listed = λ told zero survey config tape asked. absurd cc;
+      checked_file = λ told one_not six_not file asked. not_asked (CheckFile file) (form_of words) e asked;
       changed = λ told zero config tape asked. absurd cc;
       converted = λ told zero config dump asked. absurd cc;
       announced = λ told config rules address asked. not_asked (Announce config rules address) (form_of words) e asked;
@@ -380,14 +408,17 @@ pub promises_some : {F S W C : Type 0} (limit : ℕ) (w : Objects F S W C) (word
     → (answer ≡ 6 → tells_changes form ≡ false → HasNoMoments w.of_files.tells limit (names_in w) form → SinkKept w)
     → (answer ≡ 7 → (survey : Survey) (config tape : List ℕ) → form ≡ Surveys survey config tape → SinkKept w)
     → (AreTold w → answer ≡ 4 → (config tape capture : List ℕ) → form ≡ Enforce config tape capture → SinkKept w)
+    → (AreTold w → answer ≡ 4 → (config tape capture : List ℕ) → form ≡ Enforce config tape capture
+    → Unopened config tape capture (w.of_files.opened w.files_before) (w.of_files.opened w.files_behind))
+    → (AreTold w → (refusal : Refusal) → StopsSo limit (names_in w) form refusal → WireKept w × ClockKept w)
     → (AreTold w → answer ≡ 6 → (config tape capture : List ℕ) → form ≡ Enforce config tape capture
-    → Wants limit (names_in w) config tape capture (w.of_files.left w.files_before 2) (w.of_files.left w.files_behind 2) (happened_in w))
+    → Wants limit (names_in w) config tape capture (shown_in w) (happened_in w))
     → ((subject : Subject) (word : List ℕ) → form ≡ Check subject word → FilesKept w)
     → ((count : ℕ) → form ≡ Gen count → FilesKept w)
     → OpensFront (openings form) (w.of_files.opened w.files_before) (w.of_files.opened w.files_behind) answer
     → (speaks form ≡ false → WireKept w × ClockKept w)
     → Promises limit w words answer
-promises_some limit w words form answer e run known quiet wanting bounded still unfinished unopened generates opens silent =
+promises_some limit w words form answer e run known quiet wanting bounded still early stopped unfinished unopened generates opens silent =
     let call : Happened = happened_in w in
     let talk : Conversation = talk_in w in
     let holds : Names = names_in w in
@@ -409,6 +440,8 @@ promises_some limit w words form answer e run known quiet wanting bounded still 
       config_writes_nothing = quiet;
       limit_writes_nothing = λ seven survey config tape asked. bounded seven survey config tape (the (Surveys survey config tape) asked);
       tape_writes_nothing = λ told four config tape capture asked. still told four config tape capture (the (Enforce config tape capture) asked);
+      stopped_unspoken = λ told asked is refusal stops. stopped told refusal (subst (λ (f : Form). StopsSo limit holds f refusal) (sym (the asked is)) stops);
+      tape_opens_nothing = λ told four config tape capture asked. early told four config tape capture (the (Enforce config tape capture) asked);
       memory_writes_nothing = λ six asked is untold none. wanting six (ap tells_changes (the asked is) ∙ untold) (subst (HasNoMoments tells limit holds) (sym (the asked is)) none);
       memory_keeps_judged = λ told six config tape capture asked. unfinished told six config tape capture (the (Enforce config tape capture) asked);
       causes = causes;
@@ -416,6 +449,7 @@ promises_some limit w words form answer e run known quiet wanting bounded still 
       headline = λ told zero config tape capture asked.
           enforced_well limit holds config tape capture _ call answer (does (Enforce config tape capture) asked told) zero;
       listed = λ told zero survey config tape asked. listed_well (text_for survey) limit holds config tape _ call answer (does (Surveys survey config tape) asked told) zero;
+      checked_file = λ told one_not six_not file asked. file_checked limit holds file _ call answer (does (CheckFile file) asked told) one_not six_not;
       changed = λ told zero config tape asked. changes_well limit holds config tape _ call answer (does (Changes config tape) asked told) zero;
       converted = λ told zero config dump asked. converted_well limit holds config dump _ call answer (does (Converts config dump) asked told) zero;
       announced = λ told config rules address asked. announce_promises limit holds config rules call talk answer (does (Announce config rules address) asked told);

@@ -1,9 +1,10 @@
 -- What the command line may say.
 use Rattle.std.specs.{Prelude.{◌==◌, ◌&&◌, ℕ, List, [], ◌∷◌, Bool, false, not, nat_le, Option, Some, None, if◌then◌else◌, codes, decimal, option_map}, Str.{bytes_eq, Parse.{digits_value}}}
 use Rattle.fs_base.specs.declared.prefix.Family.TheVariants.{V4, V6}
-use Rattle.fs_cli.specs.declared.{command.{Command.{Command, TheVariants.{Enforce as EnforceCommand, Survey as SurveyCommand, Changes as ChangesCommand, Convert as ConvertCommand, Check as CheckCommand, Gen as GenCommand, Announce as AnnounceCommand, Listen as ListenCommand, Pair as PairCommand}}, Subject.{Subject, TheVariants.{Nlri, Text}}}, survey.Survey.{Survey, TheVariants.{Rules, Shadow, Words}}}
+use Rattle.fs_cli.specs.declared.{command.{Command.{Command, TheVariants.{Enforce as EnforceCommand, Survey as SurveyCommand, Changes as ChangesCommand, Convert as ConvertCommand, Check as CheckCommand, CheckFile as CheckFileCommand, Gen as GenCommand, Announce as AnnounceCommand, Listen as ListenCommand, Pair as PairCommand}}, Subject.{Subject, TheVariants.{Nlri, Text}}}, survey.Survey.{Survey, TheVariants.{Rules, Shadow, Words}}}
+use Rattle.fs_cli.specs.FileCheck.{FileForm, OfConfig, file_shown}
 
--- a command, with the names of the files that it is to read, or the word that it is to say of and what as, or how
+-- a command, with the names of the files that it is to read, or the word or the file that it is to say of and what as, or how
 -- many steps and packets it is to generate, or the files and the address of whom it is to announce to or to receive from,
 -- or the files of both ends that it is to join
 pub data Form : Type 0 where
@@ -12,6 +13,7 @@ pub data Form : Type 0 where
   Changes : (config tape : List ℕ) → Form
   Converts : (config dump : List ℕ) → Form
   Check : Subject → (word : List ℕ) → Form
+  CheckFile : FileForm → Form
   Gen : (count : ℕ) → Form
   Announce : (config rules address : List ℕ) → Form
   Listen : (config address : List ℕ) → Form
@@ -29,8 +31,17 @@ subject_of word =
     else if bytes_eq word (codes "v6") then Some (Nlri V6)
     else if bytes_eq word (codes "text") then Some Text else None
 
+-- the file that is to be checked, by its kind
+abbrev pub file_of : (kind word : List ℕ) → Option FileForm
+file_of kind word = if bytes_eq kind (codes "config") then Some (OfConfig word) else None
+
+-- a file of this kind, or else a word
+abbrev pub check_by : Option FileForm → (subject word : List ℕ) → Option Form
+check_by (Some file) subject word = Some (CheckFile file)
+check_by None subject word = option_map (λ s. Check s word) (subject_of subject)
+
 abbrev pub check_form : (subject word : List ℕ) → Option Form
-check_form subject word = if is_name word then option_map (λ s. Check s word) (subject_of subject) else None
+check_form subject word = if is_name word then check_by (file_of subject word) subject word else None
 
 -- a number from 1 to 1000000 in decimal, without leading zeros: its text is the one that the number has
 abbrev pub count_of : List ℕ → Option ℕ
@@ -78,6 +89,7 @@ form_shown (SurveyCommand survey config tape) = Surveys survey config.now tape.n
 form_shown (ChangesCommand config tape) = Changes config.now tape.now
 form_shown (ConvertCommand names) = Converts names.config.now names.dump.now
 form_shown (CheckCommand subject word) = Check subject word.now
+form_shown (CheckFileCommand file) = CheckFile (file_shown file)
 form_shown (GenCommand count) = Gen count
 form_shown (AnnounceCommand config rules address) = Announce config.now rules.now address.now
 form_shown (ListenCommand config address) = Listen config.now address.now

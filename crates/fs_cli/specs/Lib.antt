@@ -1,4 +1,14 @@
+pub use Rattle.fs_desk.specs.Desk
+pub use Rattle.fs_desk.specs.HoldTimer
+pub use Rattle.fs_desk.specs.Idle
+pub use Rattle.fs_desk.specs.Laws
+pub use Rattle.fs_desk.specs.Leaves
+pub use Rattle.fs_desk.specs.Life
+pub use Rattle.fs_desk.specs.Limit
+pub use Rattle.fs_desk.specs.Receive
+pub use Rattle.fs_desk.specs.Updates
 pub mod Changes
 pub mod Command
+pub mod FileCheck
 pub mod Program
 pub mod Survey

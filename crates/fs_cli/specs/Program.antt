@@ -1,13 +1,13 @@
 -- What a run of the program promises, and what it answers and writes.
-use Rattle.std.specs.Prelude.{◌≡◌, ◌⊎◌, ℕ, List, [], ◌∷◌, Bool, true, false, Option, if◌then◌else◌, ◌↔◌, IsTrue, IfSome, Some, None}
+use Rattle.std.specs.Prelude.{◌≡◌, ◌≢◌, ◌⊎◌, ℕ, List, [], ◌∷◌, Bool, true, false, Option, if◌then◌else◌, ◌↔◌, IsTrue, IfSome, Some, None}
 use Rattle.fs_base.specs.{Happened.{Happened, SinkFailed, happened, with_wire, FilesFailed, FilesStood, SinkStood, WireStood, Wrote}, Sink.{Grew}}
 use Rattle.fs_reports.specs.{Report.{Reports}, Text.{ReportsText}}
-use Rattle.cmd_stages.specs.{Refusal.{Verdict, Answers}, Load.{Names, sending_stage, Openings, OpensFront, config_alone, config_then}, Play.{HasVersion, accepted_stage}}
+use Rattle.cmd_stages.specs.{Refusal.{Verdict, Answers, Stopped}, declared.refusal.Refusal.{Refusal}, Load.{Names, sending_stage, Openings, OpensFront, config_alone, config_then}, Play.{HasVersion, accepted_stage}}
 use Rattle.cmd_convert.specs.Command.{Converts as ConvertsDump, Converted, convert_status}
-use Rattle.cmd_enforce.specs.Command.{Enforces, Enforced, Wants, inputs_stage, status_for, openings_of}
+use Rattle.cmd_enforce.specs.Command.{Enforces, Enforced, Unopened, Wants, inputs_stage, Shown, shown, status_for, openings_of}
 use Rattle.cmd_gen.specs.Command.{Generates, Generated}
 use Rattle.cmd_wire.specs.{Announcing.{Announced, Announces}, Conversation.{Conversation, conversation}, Listening.{Heard, ListensTo, hearing_stage}, Pairing.{Carries, Joins}, Concluded.{AnyFailed, HasStatusBy}, Promised.{AnnouncePromises, ListenPromises, PairPromises}}
-use Rattle.fs_cli.specs.{Changes.{Changed, TellsChanges}, Command.{Form, Enforce, Surveys, Changes, Converts, Check, Gen, form_of, Announce, Listen, Pair}, Survey.{Lists, Surveyed, listed_status, text_for}, declared.{command.Subject.{Subject, TheVariants.{Nlri, Text}}, survey.Survey.{Survey}}}
+use Rattle.fs_cli.specs.{Changes.{Changed, TellsChanges}, Command.{Form, Enforce, Surveys, Changes, Converts, Check, CheckFile, Gen, form_of, Announce, Listen, Pair}, FileCheck.{ChecksFile, FileChecked, FileForm, HasFileStatus, file_openings, file_statuses}, Survey.{Lists, Surveyed, listed_status, text_for}, declared.{command.Subject.{Subject, TheVariants.{Nlri, Text}}, survey.Survey.{Survey}}}
 use Rattle.fs_tape.specs.declared.magic.Version.TheVariants.{Two}
 use Rattle.fs_base.specs.declared.Files as files
 use Rattle.fs_base.specs.declared.Sink as sink
@@ -48,6 +48,7 @@ Does tells limit holds (Surveys survey config tape) call talk answer = IsTrue te
 Does tells limit holds (Changes config tape) call talk answer = IsTrue tells → TellsChanges limit holds config tape call answer
 Does tells limit holds (Converts config dump) call talk answer = IsTrue tells → ConvertsDump limit holds config dump call answer
 Does tells limit holds (Check subject word) call talk answer = Checks subject word call answer
+Does tells limit holds (CheckFile file) call talk answer = IsTrue tells → ChecksFile limit holds file call answer
 Does tells limit holds (Gen count) call talk answer = Generates count call answer
 Does tells limit holds (Announce config rules address) call talk answer = IsTrue tells → Announces limit holds config rules call talk answer
 Does tells limit holds (Listen config address) call talk answer = IsTrue tells → ListensTo limit holds config call talk answer
@@ -65,6 +66,7 @@ statuses (Surveys survey config tape) = 0 ∷ 1 ∷ 3 ∷ 4 ∷ 6 ∷ 7 ∷ []
 statuses (Changes config tape) = 0 ∷ 1 ∷ 3 ∷ 4 ∷ 6 ∷ 7 ∷ []
 statuses (Converts config dump) = 0 ∷ 1 ∷ 3 ∷ 6 ∷ 7 ∷ 10 ∷ []
 statuses (Check subject word) = 0 ∷ 1 ∷ 6 ∷ 9 ∷ []
+statuses (CheckFile file) = file_statuses file
 statuses (Gen count) = 0 ∷ 1 ∷ 6 ∷ []
 statuses form = 0 ∷ 1 ∷ 3 ∷ 6 ∷ 7 ∷ 8 ∷ []
 
@@ -81,6 +83,7 @@ HasStatus limit holds (Changes config tape) talk answer = answer ≡ listed_stat
 HasStatus limit holds (Converts config dump) talk answer = answer ≡ convert_status limit holds config dump
 HasStatus limit holds (Check subject word) talk answer =
     (accepted : Bool) × (text : List ℕ) × ReportsOn subject word text accepted × (answer ≡ (report_verdict accepted text).status)
+HasStatus limit holds (CheckFile file) talk answer = HasFileStatus limit holds file answer
 HasStatus limit holds (Gen count) talk answer = answer ≡ 0
 HasStatus limit holds (Announce config rules address) talk answer =
     HasStatusBy (Announced limit talk) (sending_stage limit holds config rules) answer
@@ -93,6 +96,7 @@ openings (Enforce config tape capture) = openings_of config tape capture
 openings (Surveys survey config tape) = config_then 1 config tape
 openings (Changes config tape) = config_then 1 config tape
 openings (Converts config dump) = config_then 1 config dump
+openings (CheckFile file) = file_openings file
 openings (Announce config rules address) = config_then 2 config rules
 openings (Listen config address) = config_alone config
 openings (Pair config rules) = config_then 2 config rules
@@ -104,6 +108,13 @@ speaks (Announce config rules address) = true
 speaks (Listen config address) = true
 speaks (Pair config rules) = true
 speaks form = false
+
+-- what the files are accepted as before a command that speaks over the wire opens it stops it so
+abbrev pub StopsSo : (limit : ℕ) (holds : Names) → Form → Refusal → Type 0
+StopsSo limit holds (Announce config rules address) refusal = sending_stage limit holds config rules ≡ Stopped refusal
+StopsSo limit holds (Listen config address) refusal = hearing_stage limit holds config ≡ Stopped refusal
+StopsSo limit holds (Pair config rules) refusal = sending_stage limit holds config rules ≡ Stopped refusal
+StopsSo limit holds form refusal = ⊥
 
 -- whether a command writes while it plays a tape
 abbrev pub tells_changes : Form → Bool
@@ -187,6 +198,10 @@ happened_in w =
 abbrev pub talk_in : {F S W C : Type 0} → Objects F S W C → Conversation
 talk_in w = conversation w.of_wire w.of_clock w.wire_before w.wire_behind w.clock_before w.clock_behind
 
+-- what the files showed of the openings and of the capture
+abbrev pub shown_in : {F S W C : Type 0} → Objects F S W C → Shown
+shown_in w = shown w.of_files.opened w.of_files.left w.files_before w.files_behind
+
 abbrev pub FilesKept : {F S W C : Type 0} → Objects F S W C → Type 0
 FilesKept w = w.files_behind ≡ w.files_before
 
@@ -210,7 +225,7 @@ pub record Promises {F S W C : Type 0} (limit : ℕ) (w : Objects F S W C) (word
   pub possible : (form : Form) → form_of words ≡ Some form → IsOneOf (statuses form) answer
   -- Where the words ask for no command no file is opened, nothing is written, and neither the wire nor the clock is used.
   pub nothing_done : form_of words ≡ None → FilesKept w × SinkKept w × WireKept w × ClockKept w
-  -- `check` opens no file.
+  -- `check` of a word opens no file.
   pub check_opens_nothing : (subject : Subject) (word : List ℕ)
       → form_of words ≡ Some (Check subject word) → FilesKept w
   -- `gen` opens no file.
@@ -223,12 +238,20 @@ pub record Promises {F S W C : Type 0} (limit : ℕ) (w : Objects F S W C) (word
   pub wire_unused : (form : Form) → form_of words ≡ Some form → speaks form ≡ false → WireKept w × ClockKept w
   -- At 3 nothing is written, and neither the wire nor the clock is used, whatever the files tell.
   pub config_writes_nothing : answer ≡ 3 → SinkKept w × WireKept w × ClockKept w
+  -- Where a file stops `announce`, `listen` or `pair`, whether it is missing, too long or refused, nothing is dialled,
+  -- listened for or said, and the clock isn't asked.
+  pub stopped_unspoken : AreTold w → (form : Form) → form_of words ≡ Some form → (refusal : Refusal)
+      → StopsSo limit (names_in w) form refusal → WireKept w × ClockKept w
   -- At 7 a survey writes nothing, whatever the files tell.
   pub limit_writes_nothing : answer ≡ 7 → (survey : Survey) (config tape : List ℕ)
       → form_of words ≡ Some (Surveys survey config tape) → SinkKept w
   -- At 4 `enforce` writes nothing, where the files tell.
   pub tape_writes_nothing : AreTold w → answer ≡ 4 → (config tape capture : List ℕ)
       → form_of words ≡ Some (Enforce config tape capture) → SinkKept w
+  -- At 4 `enforce` hasn't opened the capture, where the files tell.
+  pub tape_opens_nothing : AreTold w → answer ≡ 4 → (config tape capture : List ℕ)
+      → form_of words ≡ Some (Enforce config tape capture)
+      → Unopened config tape capture (w.of_files.opened w.files_before) (w.of_files.opened w.files_behind)
   -- At 6 nothing is written, but by `changes`, and by `enforce` over a tape of the second version: no packet ends another
   -- run for want of memory.
   pub memory_writes_nothing : answer ≡ 6 → (form : Form) → form_of words ≡ Some form → tells_changes form ≡ false
@@ -237,7 +260,7 @@ pub record Promises {F S W C : Type 0} (limit : ℕ) (w : Objects F S W C) (word
   -- most one that was read; over a tape of the first version these are all.
   pub memory_keeps_judged : AreTold w → answer ≡ 6 → (config tape capture : List ℕ)
       → form_of words ≡ Some (Enforce config tape capture)
-      → Wants limit (names_in w) config tape capture (w.of_files.left w.files_before 2) (w.of_files.left w.files_behind 2) (happened_in w)
+      → Wants limit (names_in w) config tape capture (shown_in w) (happened_in w)
   -- Each status has its cause: what the words, the files and the other end call for, want of memory, or a failed call.
   pub causes : AreTold w → HasCauses limit (names_in w) (form_of words) (happened_in w) (talk_in w) answer
   -- Where no call failed, only want of memory prevents the status that words and files call for.
@@ -254,6 +277,10 @@ pub record Promises {F S W C : Type 0} (limit : ℕ) (w : Objects F S W C) (word
   pub listed : AreTold w → answer ≡ 0 → (survey : Survey) (config tape : List ℕ)
       → form_of words ≡ Some (Surveys survey config tape)
       → Surveyed (text_for survey) limit (names_in w) config tape (happened_in w)
+  -- What `check` of a file answered and wrote, but at want of memory and where a call on the outside failed: the status
+  -- and the text that the file calls for, which is its first fault where it isn't accepted.
+  pub checked_file : AreTold w → answer ≢ 1 → answer ≢ 6 → (file : FileForm) → form_of words ≡ Some (CheckFile file)
+      → FileChecked limit (names_in w) file (happened_in w) answer
   -- At 0 `changes` wrote, item by item, what the tape changes of the rules that validation admits from the routes that
   -- are held after the item.
   pub changed : AreTold w → answer ≡ 0 → (config tape : List ℕ) → form_of words ≡ Some (Changes config tape)

@@ -3,6 +3,7 @@
 ghost use Rattle.std.specs.{Prelude.{◌≡◌, ◌∷◌, [], decimal, map, option_map, string_bytes}, Str.{bytes_eq}};
 ghost use Rattle.fs_cli.specs.Command.{check_form, count_of, form_of, is_name, form_shown, subject_of, survey_of};
 
+use crate::file_check::CheckedFile;
 use crate::survey::Survey;
 use cmd_convert::DumpNames;
 use cmd_enforce::InputNames;
@@ -34,6 +35,8 @@ pub enum Command<'w> {
     Gen(u32),
     /// Says what a word is.
     Check(Subject, &'w str),
+    /// Says whether a file is accepted, or where its first fault is.
+    CheckFile(CheckedFile<'w>),
     /// Connects to an address, and announces the rules of a file there.
     Announce {
         config: &'w str,
@@ -155,6 +158,9 @@ fn parse_check<'w>(subject: &str, word: &'w str) -> Option<Command<'w>>
 {
     if !is_name(word) {
         return None;
+    }
+    if subject == "config" {
+        return Some(Command::CheckFile(CheckedFile::Config(word)));
     }
     match subject_of(subject) {
         Some(subject) => Some(Command::Check(subject, word)),

@@ -3,6 +3,7 @@
 
 mod changes;
 mod command;
+mod file_check;
 mod laws;
 mod program;
 mod survey;

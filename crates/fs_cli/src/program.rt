@@ -2,13 +2,14 @@
 
 ghost use Rattle.std.specs.Prelude.{◌≡◌, ◌≢◌, ◌≤◌, ◌^◌, ◌∷◌, [], ℕ, IfOk, IsTrue, List, Some, false, map, string_bytes};
 ghost use Rattle.fs_base.specs.Happened.{at_sink, happened, with_wire};
-ghost use Rattle.fs_cli.specs.{declared.{command.Subject.{Subject}, survey.Survey.{Survey}}, Program.{Checks, HasNoMoments, IsOneOf, Promises, ReportsOn, Runs, checked, speaks, objects, openings, tells_changes}, Command.{form_shown, Check, Enforce, Gen, Surveys}};
-ghost use Rattle.cmd_stages.specs.{Load.{OpensFront}, Refusal.{answered}};
-ghost use Rattle.cmd_enforce.specs.Command.{Wants};
+ghost use Rattle.fs_cli.specs.{declared.{command.Subject.{Subject}, survey.Survey.{Survey}}, Program.{Checks, HasNoMoments, IsOneOf, Promises, ReportsOn, Runs, StopsSo, checked, speaks, objects, openings, tells_changes}, Command.{form_shown, Check, Enforce, Gen, Surveys}};
+ghost use Rattle.cmd_stages.specs.{Load.{OpensFront}, Refusal.{answered}, declared.refusal.Refusal.{Refusal as Cause}};
+ghost use Rattle.cmd_enforce.specs.Command.{Unopened, Wants, shown};
 ghost use Rattle.cmd_wire.specs.Conversation.{conversation};
 
 use crate::changes::tell_changes;
 use crate::command::{Command, Subject, parse};
+use crate::file_check::check_file;
 use crate::survey::survey_tape;
 use cmd_convert::convert;
 use cmd_enforce::enforce;
@@ -43,8 +44,7 @@ pub fn run<F: Files, S: Sink, W: Wire, C: Clock>(
 /// Runs the command that the words ask for, over inputs of fewer than `limit` octets, and answers the status with
 /// which the process is to end: 0 where the job is done, 1 for a fault outside or a name that no file has, 2 for words
 /// that ask for no command, 3 for the configuration or the rules file, 4 for the tape, 5 for the capture, 6 for want of
-/// memory, 7 for the limit, 8 for a session, 9 for NLRI or a text that isn't
-/// accepted, 10 for the dump.
+/// memory, 7 for the limit, 8 for a session, 9 for NLRI, a text or a file of `check` that isn't accepted, 10 for the dump.
 pub fn run_within<F: Files, S: Sink, W: Wire, C: Clock>(
     alloc: Global,
     words: &[String],
@@ -104,11 +104,20 @@ fn perform<F: Files, S: Sink, W: Wire, C: Clock>(
         → (config tape capture : List ℕ)
         → form_shown job.entry.command ≡ Enforce config tape capture
         → sink.new ≡ sink.old }
+    ensures early { IsTrue F.tells
+        → result ≡ 4
+        → (config tape capture : List ℕ)
+        → form_shown job.entry.command ≡ Enforce config tape capture
+        → Unopened config tape capture (F.opened files.old) (F.opened files.new) }
+    ensures stopped { IsTrue F.tells
+        → (refusal : Cause)
+        → StopsSo job.entry.limit (F.holds files.old) (form_shown job.entry.command) refusal
+        → (wire.new ≡ wire.old) × (clock.new ≡ clock.old) }
     ensures unfinished { IsTrue F.tells
         → result ≡ 6
         → (config tape capture : List ℕ)
         → form_shown job.entry.command ≡ Enforce config tape capture
-        → Wants job.entry.limit (F.holds files.old) config tape capture (F.left files.old 2) (F.left files.new 2)
+        → Wants job.entry.limit (F.holds files.old) config tape capture (shown F.opened F.left files.old files.new)
         (happened F.Files S.Sink files.old files.new sink.old sink.new) }
     ensures unopened { (subject : Subject)
         → (word : List ℕ)
@@ -131,6 +140,7 @@ fn perform<F: Files, S: Sink, W: Wire, C: Clock>(
         }
         Command::Convert(names) => answer_of(convert(alloc, files, sink, &names, limit)),
         Command::Check(subject, word) => run_check(alloc, sink, subject, word),
+        Command::CheckFile(file) => check_file(alloc, files, sink, file, limit),
         Command::Gen(count) => answer_of(generate(alloc, sink, count)),
         Command::Announce {
             config,

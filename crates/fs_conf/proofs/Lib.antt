@@ -7,6 +7,9 @@ mod Single
 mod OneRule
 pub mod Found
 pub mod Accepted
+mod Documents
+mod Faulted
+mod Judging
 mod Sought
 mod CanonicalFrame
 mod ListedActions

@@ -1,5 +1,5 @@
 -- The words of the crates below, and of the specs, that lemmas here speak of.
-pub use Rattle.toml.{proofs.Views.{items_view-drop}, specs.{Data.{Data, Items, Members, array, as_array, as_str, as_table, boolean, datetime, float, get_member, integer, item, no_items, string, table}, View.{items_view, members_view, table_view, view}, declared.value.Value.{Value}}}
+pub use Rattle.toml.{proofs.Views.{items_view-drop}, specs.{Data.{Data, Items, Members, array, as_array, as_str, as_table, boolean, datetime, float, get_member, integer, item, no_members, no_items, string, table}, View.{items_view, members_view, table_view, view}, declared.value.Value.{Value}}}
 pub use Rattle.std.{proofs.{Common.{All, Bool, Bor, Err, Global, List, None, Ok, Option, Result, Some, String, [], ap, append-nil, append_assoc, arith, bit_and, cond, decimal, drop, eq-eqb, eqb-true, false, filter_map, get_or, if◌then◌else◌, inl, inr, le-leb, length, length-drop, lit≤, lt-ltb, ltb-true, map, nat_le, nat_lt, ne_eqb, not, option_map, refl, replicate, rules, string_bytes, subst, suc, sym, take, true, true≢false, zero, ℕ, ◌%◌, ◌&&◌, ◌*◌, ◌++◌, ◌+◌, ◌-◌, ◌/◌, ◌<◌, ◌==◌, ◌^◌, ◌||◌, ◌∙◌, ◌∷◌, ◌≡◌, ◌≤◌, ◌⊎◌}, NetLemmas.Options.{and_then_some, cond_some, map_some, same_parts}, lemmas.{Bool.{and_from, and_parts, leb-true}, List.{drop_more, length-append, length-take-le, take-append-drop, take_all, Elements.{All-append, All-from_get_or}}, Option.{none-some, same_Some}, Slice.Eq.{bytes_eq-Decides}}}, specs.{Char.{digit_value, is_digit}, List.{AllByRecursion, concat, cons_option, flat_map, list_all, list_any, range_with_len}, Net.Grammar.{IsColonHex, IsDotted, IsGroup, IsGroups, IsGroupsAfter, IsIpv4Text, IsIpv6Text}, Ordering.{is_eq}, Prelude.{codes, find, is_some, negsuc, option_and_then, pos, ◌≢◌}, Str.{IsUtf8, bytes_eq, is_utf8, Parse.{AllDigits, digits_value}}}}
 unfoldable pub use Rattle.std.specs.Net.Addr.{ipv4_bits, ipv6_bits}
 pub use Rattle.fs_base.{proofs.{Lists.{all_each, each_append, each_mapped, each_weaker}, Octets.{octets_drop, octets_from, octets_of_each, octets_take}}, specs.{Language.{IsOctets}, declared.{config.{Config.{Config}, Peer.{Peer}}, prefix.Family.{Family}}}}

@@ -1,8 +1,10 @@
 -- What the values are that accepted files write.
-use Rattle.std.specs.{Prelude.{◌≡◌, ℕ, ◌^◌, ◌<◌, true, List, Some}, List.{AllByRecursion}}
+use Rattle.std.specs.{Prelude.{◌≡◌, ◌≢◌, ◌↔◌, ℕ, ◌^◌, ◌<◌, true, List, Some, None, is_some}, List.{AllByRecursion}}
 use Rattle.fs_base.specs.declared.config.{Config.{Config}, Peer.{Peer}}
 use Rattle.fs_speaker.specs.{declared.Sending.{Sending}, Laws.{AreSendable, IsSent}, Numbers.{HasOwnNumbers, IsFourOctet}, Sending.{is_short, sender_of}, Transition.{terms_of}}
-use Rattle.fs_conf.specs.{Config.{config_of}, Rules.{rules_of}}
+use Rattle.toml.specs.Data.{Members}
+use Rattle.fs_conf.specs.{Config.{config_keys, config_of, config_of_document}, Fault.{IsFirstFault, config_fault, first_other, own_fault, unfit}, Rules.{rules_of}}
+use Rattle.fs_conf.specs.declared.fault.{ConfigFault.{ConfigFault, TheVariants.{Memory as NoMemory}}, KeyReason.TheVariants.{Unknown}}
 
 -- a peer's number has two octets, its AS number four, and neither is 0
 pub record HasPeerNumbers (peer : Peer) : Type 0 where
@@ -29,3 +31,11 @@ pub record HasRules (config : Config) (sending : Sending) : Type 0 where
 
 abbrev pub AcceptsRules : Type 0
 AcceptsRules = (octets : List ℕ) (config : Config) (sending : Sending) → rules_of config octets ≡ Some sending → HasRules config sending
+
+-- A document is accepted exactly where no fault is named; octets that have a fault are no configuration; and of the faults
+-- of a document a key that it doesn't have is the first.
+pub record NamesTheFault : Type 0 where
+  pub exact : (members : Members) → (config_fault members ≡ None) ↔ (is_some (config_of_document members) ≡ true)
+  pub refused : (octets : List ℕ) (fault : ConfigFault) → IsFirstFault octets fault → fault ≢ NoMemory → config_of octets ≡ None
+  pub other_first : (members : Members) (key : List ℕ) → first_other config_keys members ≡ Some key
+      → config_fault members ≡ Some (own_fault (unfit key Unknown))

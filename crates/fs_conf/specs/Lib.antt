@@ -6,4 +6,5 @@ pub mod Worded
 pub mod Sent
 pub mod WordedLaw
 pub mod Rules
+pub mod Fault
 pub mod Laws

@@ -32,7 +32,7 @@ impl From<Memory> for ConfFault {
     }
 }
 
-const PEER_LIMIT: usize = 1024;
+pub(crate) const PEER_LIMIT: usize = 1024;
 
 // The peer of one item of `[[peer]]`.
 fn read_peer(value: &Value) -> Option<Peer>
@@ -54,7 +54,7 @@ fn read_peer(value: &Value) -> Option<Peer>
 }
 
 // How many routes a peer may hold at most, None inside where it isn't bounded.
-fn limit_at(table: &Table, key: &str) -> Option<Option<u32>>
+pub(crate) fn limit_at(table: &Table, key: &str) -> Option<Option<u32>>
     ensures { result ≡ limit_in (get_member key.now (table_view table.now)) }
 {
     match value_at(table, key) {
@@ -98,7 +98,7 @@ fn have_distinct_numbers(peers: &[Peer]) -> bool
 }
 
 // The local BGP identifier.
-fn identifier_at(table: &Table, key: &str) -> Option<u32>
+pub(crate) fn identifier_at(table: &Table, key: &str) -> Option<u32>
     ensures { result ≡ identifier (get_member (key.now) (table_view table.now)) }
 {
     match read_ipv4(text_at(table, key)?) {
@@ -108,7 +108,7 @@ fn identifier_at(table: &Table, key: &str) -> Option<u32>
 }
 
 // The hold time in seconds.
-fn hold_time_at(table: &Table, key: &str) -> Option<u16>
+pub(crate) fn hold_time_at(table: &Table, key: &str) -> Option<u16>
     ensures { result ≡ hold_time_in (get_member key.now (table_view table.now)) }
 {
     match number_or(table, key, 0, 0, 65535)? {
@@ -134,7 +134,7 @@ fn peers_at(alloc: Global, table: &Table, key: &str) -> Result<Peers, ConfFault>
 }
 
 // The configuration that a document's table is.
-fn config_from(alloc: Global, table: &Table) -> Result<Config, ConfFault>
+pub(crate) fn config_from(alloc: Global, table: &Table) -> Result<Config, ConfFault>
     ensures ok { IfOk result (λ config. config_of_document (table_view table.now) ≡ Some config) }
     ensures refused { IsErrOf result ConfFault.Refused → config_of_document (table_view table.now) ≡ None }
 {

@@ -5,6 +5,8 @@ mod address;
 mod array;
 mod config;
 mod document;
+mod fault;
+mod faults;
 mod fields;
 mod laws;
 mod rules;
@@ -12,6 +14,8 @@ mod sent;
 mod worded;
 
 pub use config::{ConfFault, read_config};
-pub use laws::{accepts_numbers, accepts_rules};
+pub use fault::{ConfigFault, KeyReason};
+pub use faults::judge_config;
+pub use laws::{accepts_numbers, accepts_rules, names_the_fault};
 pub use rules::read_rules;
 pub use worded::says_its_own;

@@ -1,4 +1,4 @@
-use Rattle.fs_cli.proofs.{Words.{◌∙◌, ◌∷◌, [], ap, refl, sym, happened, with_wire, form_shown, Wants, conversation}, Running.{enforce_as, one_but, one_of_session, opens_as, opens_none, runs_as, wants_changes, wants_enforce}}
+use Rattle.fs_cli.proofs.{Words.{◌∙◌, ◌∷◌, [], ap, refl, sym, happened, with_wire, form_shown, subst, Form, Unopened, Wants, shown, StopsSo, conversation}, Running.{enforce_as, one_but, one_of_session, opens_as, opens_none, runs_as, wants_changes, wants_enforce}}
 use Rattle.fs_cli.proofs.program.perform.Goals as goal
 
 pub returns-in-Enforce-clause-runs : goal.returns-in-Enforce-clause-runs
@@ -12,9 +12,26 @@ returns-in-Enforce-clause-wanting g c =
 
 pub returns-in-Enforce-clause-unfinished : goal.returns-in-Enforce-clause-unfinished
 returns-in-Enforce-clause-unfinished g c = λ told six config tape capture asked.
-    enforce_as (λ config tape capture. Wants c.args.job.limit (g.F.Files.holds c.args.files.now) config tape capture (g.F.Files.left c.args.files.now 2) (g.F.Files.left c.enforce.new.files 2)
+    enforce_as (λ config tape capture. Wants c.args.job.limit (g.F.Files.holds c.args.files.now) config tape capture (shown g.F.Files.opened g.F.Files.left c.args.files.now c.enforce.new.files)
     (happened g.F.Files g.S.Sink c.args.files.now c.enforce.new.files c.args.sink.now c.enforce.new.sink))
     (ap form_shown c.in-Enforce.is) asked (c.enforce.ensures.wanting told (sym c.answer_of.ensures.answered ∙ six))
+
+pub returns-in-Enforce-clause-early : goal.returns-in-Enforce-clause-early
+returns-in-Enforce-clause-early g c = λ told four config tape capture asked.
+    enforce_as (λ config tape capture. Unopened config tape capture (g.F.Files.opened c.args.files.now) (g.F.Files.opened c.enforce.new.files))
+    (ap form_shown c.in-Enforce.is) asked (c.enforce.ensures.unopened told (sym c.answer_of.ensures.answered ∙ four))
+
+pub returns-in-Announce-clause-stopped : goal.returns-in-Announce-clause-stopped
+returns-in-Announce-clause-stopped g c = λ told refusal stops.
+    c.announce.ensures.stopped told refusal (subst (λ (f : Form). StopsSo c.args.job.limit (g.F.Files.holds c.args.files.now) f refusal) (ap form_shown c.in-Announce.is) stops)
+
+pub returns-in-Listen-clause-stopped : goal.returns-in-Listen-clause-stopped
+returns-in-Listen-clause-stopped g c = λ told refusal stops.
+    c.listen.ensures.stopped told refusal (subst (λ (f : Form). StopsSo c.args.job.limit (g.F.Files.holds c.args.files.now) f refusal) (ap form_shown c.in-Listen.is) stops)
+
+pub returns-in-Pair-clause-stopped : goal.returns-in-Pair-clause-stopped
+returns-in-Pair-clause-stopped g c = λ told refusal stops.
+    c.pair.ensures.stopped told refusal (subst (λ (f : Form). StopsSo c.args.job.limit (g.F.Files.holds c.args.files.now) f refusal) (ap form_shown c.in-Pair.is) stops)
 
 pub returns-in-Survey-clause-runs : goal.returns-in-Survey-clause-runs
 returns-in-Survey-clause-runs g c =
@@ -46,6 +63,16 @@ returns-in-Check-clause-runs g c =
     (with_wire g.W.Wire c.args.wire.now c.args.wire.now (happened g.F.Files g.S.Sink c.args.files.now c.args.files.now c.args.sink.now c.run_check.new.sink))
     (conversation g.W.Wire g.C.Clock c.args.wire.now c.args.wire.now c.args.clock.now c.args.clock.now)
     (ap form_shown c.in-Check.is) refl c.run_check.ensures.possible c.run_check.ensures.checks
+
+pub returns-in-CheckFile-clause-runs : goal.returns-in-CheckFile-clause-runs
+returns-in-CheckFile-clause-runs g c =
+    runs_as g.F.Files.tells c.args.job.limit (g.F.Files.holds c.args.files.now)
+    (with_wire g.W.Wire c.args.wire.now c.args.wire.now (happened g.F.Files g.S.Sink c.args.files.now c.check_file.new.files c.args.sink.now c.check_file.new.sink))
+    (conversation g.W.Wire g.C.Clock c.args.wire.now c.args.wire.now c.args.clock.now c.args.clock.now)
+    (ap form_shown c.in-CheckFile.is) refl c.check_file.ensures.possible c.check_file.ensures.checks
+
+pub returns-in-CheckFile-clause-opens : goal.returns-in-CheckFile-clause-opens
+returns-in-CheckFile-clause-opens g c = opens_as (ap form_shown c.in-CheckFile.is) refl c.check_file.ensures.opens
 
 pub returns-in-Gen-clause-runs : goal.returns-in-Gen-clause-runs
 returns-in-Gen-clause-runs g c =

@@ -12,4 +12,4 @@ returns-in-Some g c =
     _ _ c.perform.result
     c.in-Some.ensures c.perform.ensures.runs c.perform.ensures.known
     (λ three. ((c.perform.ensures.quiet three).0, (c.perform.ensures.quiet three).1.0, (c.perform.ensures.quiet three).1.1))
-    c.perform.ensures.wanting c.perform.ensures.limited c.perform.ensures.still c.perform.ensures.unfinished c.perform.ensures.unopened c.perform.ensures.generates c.perform.ensures.opens c.perform.ensures.unspoken
+    c.perform.ensures.wanting c.perform.ensures.limited c.perform.ensures.still c.perform.ensures.early c.perform.ensures.stopped c.perform.ensures.unfinished c.perform.ensures.unopened c.perform.ensures.generates c.perform.ensures.opens c.perform.ensures.unspoken

@@ -1,0 +1,126 @@
+#!/usr/bin/env python3
+"""Makes the mistakes that people make in the files of the program, and reports what the program says of each.
+
+    bench/mistakes.py PROGRAM
+
+A row is a file with one mistake, and the line and the status with which `check config` answers it, or of a tape `rules`:
+whoever reads the line can mend the file. Files that only look wrong are here too, and are accepted. Ends with 0 where
+each is answered so.
+"""
+
+import gzip
+import pathlib
+import subprocess
+import sys
+import tempfile
+
+HEAD = 'local_as = 65000\nlocal_id = "192.0.2.254"\n'
+PEER = '\n[[peer]]\nnumber = 1\naddress = "198.51.100.1"\nas = 65001\n'
+CONFIG = HEAD + PEER
+SECOND = PEER.replace("number = 1", "number = 2")
+TAPE = b"FSTAPE1\n" + bytes.fromhex("01000100000000")
+DUMP = bytes.fromhex("6553f10000100005 00000018 0000fde9 0000fde8 0000 0001 c6336401 c6336402 0005 0006")
+CAPTURE = bytes.fromhex("a1b2c3d4 0002 0004 00000000 00000000 00040000 00000065")
+
+
+def changed(old, new):
+    """The configuration with one text in it changed."""
+    if CONFIG.count(old) != 1:
+        sys.exit(f"{old!r} isn't once in the configuration")
+    return CONFIG.replace(old, new)
+
+
+# What is done, the file, the status, and the line.
+CONFIGS = [
+    ("nothing wrong", CONFIG, 0, "config 1 peers"),
+    ("indented by tabs", CONFIG.replace("\n", "\n\t"), 0, "config 1 peers"),
+    ("a byte order mark in front", "\ufeff" + CONFIG, 0, "config 1 peers"),
+    ("lines that end with CRLF", CONFIG.replace("\n", "\r\n"), 0, "config 1 peers"),
+    ("an empty file", "", 9, "config local_as Missing"),
+    ("a key misspelt", changed("address", "adress"), 9, "config peer 1 adress Unknown"),
+    ("a key in capitals", changed("local_as", "LOCAL_AS"), 9, "config LOCAL_AS Unknown"),
+    ("a key with a hyphen", changed("local_id", "local-id"), 9, "config local-id Unknown"),
+    ("a key between quotes", CONFIG.replace("local_as", '"local as"'), 9, 'config "local as" Unknown'),
+    ("a key of a peer in front", "number = 1\n" + CONFIG, 9, "config number Unknown"),
+    ("a key of the document behind the peers", CONFIG + "hold_time = 90\n", 9, "config peer 1 hold_time Unknown"),
+    ("no identifier", changed('local_id = "192.0.2.254"\n', ""), 9, "config local_id Missing"),
+    ("a number for an identifier", changed('"192.0.2.254"', "1"), 9, "config local_id Kind"),
+    ("0.0.0.0 as identifier", changed("192.0.2.254", "0.0.0.0"), 9, "config local_id Value"),
+    ("an AS number between quotes", changed("65000", '"65000"'), 9, "config local_as Kind"),
+    ("an AS number of 2^32", changed("65001", "4294967296"), 9, "config peer 1 as Value"),
+    ("an AS number of 0", changed("65001", "0"), 9, "config peer 1 as Value"),
+    ("an AS number with a point", changed("65001", "1.10"), 9, "config peer 1 as Kind"),
+    ("a hold time of 2", "hold_time = 2\n" + CONFIG, 9, "config hold_time Value"),
+    ("a truth value between quotes", 'empty_path_valid = "true"\n' + CONFIG, 9, "config empty_path_valid Kind"),
+    ("a number for a truth value", "allow_no_destination = 1\n" + CONFIG, 9, "config allow_no_destination Kind"),
+    ("no peer", HEAD, 9, "config peer Missing"),
+    ("an empty list of peers", HEAD + "peer = []\n", 9, "config peer Value"),
+    ("single brackets round peer", changed("[[peer]]", "[peer]"), 9, "config peer Kind"),
+    ("a list of addresses", HEAD + 'peer = ["198.51.100.1"]\n', 9, "config peer 1 Kind"),
+    ("two peers of one number", CONFIG + PEER, 9, "config peer 2 number Repeated"),
+    ("the second peer without a number", CONFIG + SECOND.replace("number = 2\n", ""), 9, "config peer 2 number Missing"),
+    ("a peer's number of 65536", changed("number = 1", "number = 65536"), 9, "config peer 1 number Value"),
+    ("a v6 address in brackets", changed("198.51.100.1", "[2001:db8::1]"), 9, "config peer 1 address Value"),
+    ("an address with its length", changed("198.51.100.1", "198.51.100.1/32"), 9, "config peer 1 address Value"),
+    ("an address with zeros in front", changed("198.51.100.1", "198.051.100.001"), 9, "config peer 1 address Value"),
+    ("a name for an address", changed("198.51.100.1", "router.example"), 9, "config peer 1 address Value"),
+    ("no limit of routes, written as 0", CONFIG + "max_routes = 0\n", 9, "config peer 1 max_routes Value"),
+    ("an address without quotes", changed('"198.51.100.1"', "198.51.100.1"), 9, "config line 6 column 11"),
+    ("a missing quote", changed('254"', "254"), 9, "config line 2 column 24"),
+    ("a key twice", 'local_as = 65000\n' + CONFIG, 9, "config line 2 column 1"),
+    ("a colon for the equals sign", changed("local_as =", "local_as:"), 9, "config line 1 column 9"),
+    ("curly quotes", CONFIG.replace('"192.0.2.254"', "\u201c192.0.2.254\u201d"), 9, "config line 2 column 12"),
+    ("UTF-16", CONFIG.encode("utf-16"), 9, "config line 1 column 1"),
+    ("compressed by gzip", gzip.compress(CONFIG.encode(), mtime=0), 9, "config line 1 column 2"),
+    ("a tape in its place", TAPE, 9, "config line 1 column 8"),
+    ("a dump in its place", DUMP, 9, "config line 1 column 3"),
+]
+
+TAPES = [
+    ("nothing wrong", TAPE, 0, "peer 1 wait-open"),
+    ("an empty file for a tape", b"", 4, "tape Cut at 0"),
+    ("a dump for a tape", DUMP, 4, "tape Magic at 0"),
+    ("a capture for a tape", CAPTURE, 4, "tape Magic at 0"),
+    ("a tape compressed by gzip", gzip.compress(TAPE, mtime=0), 4, "tape Magic at 0"),
+    ("a tape that went through a change of line ends", TAPE.replace(b"\n", b"\r\n"), 4, "tape Magic at 7"),
+    ("a tape without its last octet", TAPE[:-1], 4, "tape Cut at 14"),
+    ("a tape of another neighbour", TAPE.replace(b"\1\0\1", b"\1\0\2"), 4, "tape Peer at 9"),
+]
+
+
+def written(folder, name, content):
+    path = folder / name
+    path.write_bytes(content if isinstance(content, bytes) else content.encode())
+    return str(path)
+
+
+def answer_of(program, words):
+    done = subprocess.run([program, *words], stdout=subprocess.PIPE, stderr=subprocess.PIPE, timeout=60, check=False)
+    return done.returncode, (done.stdout + done.stderr).decode(errors="replace")
+
+
+def answers(program, folder):
+    """Of each row the mistake, what is wanted, and what is found."""
+    for mistake, content, status, line in CONFIGS:
+        yield mistake, (status, line + "\n"), answer_of(program, ["check", "config", written(folder, "config", content)])
+    config = written(folder, "config", CONFIG)
+    for mistake, content, status, line in TAPES:
+        yield mistake, (status, line + "\n"), answer_of(program, ["rules", config, written(folder, "tape", content)])
+
+
+def main():
+    if len(sys.argv) != 2:
+        sys.exit(__doc__)
+    count = wrong = 0
+    with tempfile.TemporaryDirectory() as made:
+        for mistake, wanted, found in answers(sys.argv[1], pathlib.Path(made)):
+            count += 1
+            if found != wanted:
+                wrong += 1
+                print(f"{mistake}: wanted {wanted[0]} {wanted[1]!r}, found {found[0]} {found[1]!r}")
+    print(f"{count - wrong} of {count} files are answered as they should be")
+    sys.exit(1 if wrong else 0)
+
+
+if __name__ == "__main__":
+    main()

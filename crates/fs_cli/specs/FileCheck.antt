@@ -1,0 +1,78 @@
+-- What `check` answers and writes of a file.
+use Rattle.std.specs.Prelude.{◌≡◌, ◌≢◌, ◌⊎◌, ℕ, List, [], ◌∷◌, ◌++◌, length, codes, decimal, Option, Some, None, string_bytes}
+use Rattle.fs_base.specs.{Happened.{Happened, FilesFailed, SinkFailed, Wrote}, Sink.{Grew}, declared.config.Config.{Config}}
+use Rattle.fs_conf.specs.{Config.{config_of}, Fault.{IsFirstFault, fault_text}, declared.fault.ConfigFault.{ConfigFault, TheVariants.{Memory as NoMemory}}}
+use Rattle.fs_cli.specs.declared.file_check.{CheckedFile.{CheckedFile, TheVariants.{Config as ConfigFile}}, Said.{Said}}
+use Rattle.cmd_stages.specs.{Load.{Names, Openings, config_alone, fetch}, Refusal.{Answers, Verdict, verdict_with, Stage, Found, Stopped, status_of}, declared.refusal.Refusal.{Refusal, TheVariants.{Memory, Outside}}}
+
+-- a file that is checked
+pub data FileForm : Type 0 where
+  OfConfig : (config : List ℕ) → FileForm
+
+-- what a parsed word for it says
+abbrev pub file_shown : CheckedFile → FileForm
+file_shown (ConfigFile config) = OfConfig config.now
+
+-- how many peers a configuration has; or its first fault
+abbrev pub config_line : Config → List ℕ
+config_line config = codes "config " ++ (decimal (length config.peers) ++ codes " peers\n")
+
+abbrev pub config_fault_line : ConfigFault → List ℕ
+config_fault_line fault = codes "config " ++ (fault_text fault ++ codes "\n")
+
+-- the octets aren't a configuration, and this is their first fault
+pub record IsRefusedFor (octets : List ℕ) (fault : ConfigFault) : Type 0 where
+  pub some : fault ≢ NoMemory
+  pub refused : config_of octets ≡ None
+  pub first : IsFirstFault octets fault
+
+-- what is due of the octets of a configuration
+abbrev pub JudgesConfig : List ℕ → Verdict → Type 0
+JudgesConfig octets verdict =
+    ((config : Config) × (config_of octets ≡ Some config) × (verdict ≡ verdict_with 0 (config_line config)))
+    ⊎ ((fault : ConfigFault) × IsRefusedFor octets fault × (verdict ≡ verdict_with 9 (config_fault_line fault)))
+
+-- what is due where a stage gives what is judged so; where it ends the run nothing is said
+abbrev pub Due : {A : Type 0} → (A → Verdict → Type 0) → Stage A → Verdict → Type 0
+Due judges (Found given) verdict = judges given verdict
+Due judges (Stopped refusal) verdict = verdict ≡ verdict_with (status_of refusal) []
+
+-- the status and the text that a file calls for
+abbrev pub IsDue : ℕ → Names → FileForm → Verdict → Type 0
+IsDue limit holds (OfConfig config) verdict = Due JudgesConfig (fetch limit holds config) verdict
+
+-- why nothing is said of a file: it calls for that, memory was wanting, or a call on the outside failed
+abbrev pub Unsaid : (Verdict → Type 0) → Type 0 → Refusal → Type 0
+Unsaid due failed refusal =
+    due (verdict_with (status_of refusal) []) ⊎ (refusal ≡ Memory) ⊎ ((refusal ≡ Outside) × failed)
+
+abbrev pub said_shown : Said → Verdict
+said_shown said = verdict_with said.status (string_bytes said.text)
+
+-- They were answered and written; or memory was wanting or a call on the outside failed before anything was written.
+abbrev pub ChecksFileSo : ℕ → Names → FileForm → Type 0 → (before now : Option (List ℕ)) → ℕ → Type 0
+ChecksFileSo limit holds form failed before now answer =
+    (((answer ≡ 6) ⊎ ((answer ≡ 1) × failed)) × Grew before now [])
+    ⊎ ((verdict : Verdict) × IsDue limit holds form verdict × Answers verdict failed before now answer)
+
+abbrev pub ChecksFile : ℕ → Names → FileForm → Happened → ℕ → Type 0
+ChecksFile limit holds form call answer =
+    ChecksFileSo limit holds form (FilesFailed call ⊎ SinkFailed call) call.before.written call.now.written answer
+
+-- the status that a file calls for
+abbrev pub HasFileStatus : ℕ → Names → FileForm → ℕ → Type 0
+HasFileStatus limit holds form answer = (verdict : Verdict) × IsDue limit holds form verdict × (answer ≡ verdict.status)
+
+-- the statuses that may be answered, whatever the outside tells
+abbrev pub file_statuses : FileForm → List ℕ
+file_statuses (OfConfig config) = 0 ∷ 1 ∷ 6 ∷ 7 ∷ 9 ∷ []
+
+abbrev pub file_openings : FileForm → Openings
+file_openings (OfConfig config) = config_alone config
+
+-- the status and the text that the file calls for were answered and written
+pub record FileChecked (limit : ℕ) (holds : Names) (form : FileForm) (call : Happened) (answer : ℕ) : Type 0 where
+  pub verdict : Verdict
+  pub due : IsDue limit holds form verdict
+  pub status_is : answer ≡ verdict.status
+  pub wrote : Wrote call verdict.text
