@@ -7,7 +7,7 @@ STATUSES = [
         "0",
         "words, files and what the other end gave call for it, no call failed, and memory was there: then the "
         "defined text was written whole",
-        "runs complete headline listed converted announced listened paired generator",
+        "runs complete headline listed checked_file converted announced listened paired generator",
     ),
     (
         "1",
@@ -57,7 +57,8 @@ STATUSES = [
     ),
     (
         "9",
-        "exactly where the word of `check` isn't hexadecimal, has a fault, or is no text of a rule",
+        "exactly where the word of `check` isn't hexadecimal, has a fault, or is no text of a rule, or where its file "
+        "isn't accepted",
         "runs causes",
     ),
     (
@@ -394,8 +395,9 @@ LEFT = [
     ),
     (
         "4",
-        "by `enforce` nothing, where the files tell; by `rules`, `list` and `shadow` the line of the fault",
-        "tape_writes_nothing runs",
+        "by `enforce` nothing, and its capture isn't opened, where the files tell; by `rules`, `list` and `shadow` the "
+        "line of the fault",
+        "tape_writes_nothing tape_opens_nothing runs",
     ),
     (
         "6",

@@ -1,5 +1,6 @@
 #!/usr/bin/env python3
-"""Tries what stands around the program, on the example of the README: tools/verdicts.py, the manual pages, the install.
+"""Tries what stands around the program, on the example of the README: tools/verdicts.py, tools/peers.py, the manual
+pages, the install.
 
     tools/check_tools.py [PROGRAM] [--flushes COMMAND,..]
 
@@ -34,8 +35,8 @@ sys.path.append(str(ROOT / "bench"))
 import convert
 import moments
 import plain
-from changes import CONFIG, START, announce, flow, slash24
-from enforce import packet, write_packets
+import wire
+from wire import CONFIG, DROP, KEEPALIVE, TAPE, announce, capture_of, flow, packet, pcap_record, says, slash24, up
 
 TOOL = ROOT / "tools" / "verdicts.py"
 DATA = ROOT / "crates" / "welgutan" / "data"
@@ -43,7 +44,7 @@ CAPTURE = (DATA / "packets.pcap").read_bytes()
 LINES = (ROOT / "crates" / "welgutan" / "stdout").read_text()
 FIRST_SECOND = 1700000000  # the frames come a second apart
 MICROS = 1001
-FLUSHES = ["changes", "enforce"]  # the commands that write what they have before they wait for more of their input
+FLUSHES = ["changes", "convert", "enforce"]  # the commands that write what they have before they wait for more of their input
 PATIENCE = 60  # seconds until a line that isn't there is held to be kept back
 
 # Of each frame: octets on the wire, verdict, rules, source and destination.
@@ -112,28 +113,18 @@ def records():
 
 def pcap(order, magic, unit):
     """The capture as a libpcap file of that order, in which a microsecond has so many units."""
-    parts = [struct.pack(order + "IHHIIII", magic, 2, 4, 0, 0, 262144, 1)]
-    for seconds, micros, octets, length in records():
-        parts += [struct.pack(order + "IIII", seconds, micros * unit, len(octets), length), octets]
-    return b"".join(parts)
-
-
-def block(order, kind, body):
-    body += bytes(-len(body) % 4)
-    total = struct.pack(order + "I", 12 + len(body))
-    return struct.pack(order + "I", kind) + total + body + total
+    parts = (pcap_record(octets, seconds, micros * unit, length, order) for seconds, micros, octets, length in records())
+    return wire.pcap_head(wire.ETHERNET, order, magic) + b"".join(parts)
 
 
 def pcapng(order):
     """The capture as pcapng, with times in nanoseconds, beside blocks that are no packets and a second interface."""
-    parts = [block(order, 0x0A0D0D0A, struct.pack(order + "IHHq", 0x1A2B3C4D, 1, 0, -1))]
     nanoseconds = struct.pack(order + "HHB3xHH", 9, 1, 9, 0, 0)
-    parts += [block(order, 1, struct.pack(order + "HHI", link, 0, 262144) + nanoseconds) for link in (101, 1)]
-    parts += [block(order, 4, bytes(4)), block(order, 5, bytes(12)), block(order, 0x0BAD, b"custom")]
-    for seconds, micros, octets, length in records():
-        time = seconds * 10**9 + micros * 1000
-        head = struct.pack(order + "IIIII", 1, time >> 32, time & 0xFFFFFFFF, len(octets), length)
-        parts.append(block(order, 6, head + octets))
+    parts = [wire.section_block(order)]
+    parts += [wire.interface_block(link, order, options=nanoseconds) for link in (wire.RAW, wire.ETHERNET)]
+    parts += [wire.block(kind, octets, order) for kind, octets in ((4, bytes(4)), (5, bytes(12)), (0x0BAD, b"custom"))]
+    parts += [wire.packet_block(octets, seconds * 10**9 + micros * 1000, 1, length, order)
+              for seconds, micros, octets, length in records()]
     return b"".join(parts)
 
 
@@ -293,7 +284,7 @@ def counts_of_parts(folder, names, captures):
 
 
 def cut(path, part):
-    frames = (struct.pack("<IIII", *times, len(octets), length) + octets for *times, octets, length in part)
+    frames = (pcap_record(octets, *times, length) for *times, octets, length in part)
     path.write_bytes(CAPTURE[:24] + b"".join(frames))
     return path
 
@@ -338,19 +329,16 @@ FIRST, LAST = (f"v4 dst {network}/24 then bytes 65001:00000000" for network in (
 
 def changing(folder):
     """A tape whose rules change at each tenth of a second, and a capture with a packet to two destinations between."""
-    other_rate = moments.rule_comes(0).replace(moments.DROP, SOME_RATE)
-    steps = [moments.rule_at(moments.before(0)), moments.message(4, b""), moments.rule_goes(0), other_rate,
+    other_rate = moments.rule_comes(0).replace(DROP, SOME_RATE)
+    steps = [moments.rule_at(moments.before(0)), KEEPALIVE, moments.rule_goes(0), other_rate,
              moments.no_rule_at(moments.before(0)), moments.rule_comes(0)]
     (folder / "peers").write_text(CONFIG)
-    parts = [moments.start(2), moments.record(2, 0, moments.route_comes(moments.BEFORE))]
-    parts += [moments.record(2, number * 10**8, step) for number, step in enumerate(steps, 1)]
+    parts = [moments.start(2), says(announce(moments.BEFORE), moment=0)]
+    parts += [says(step, moment=number * 10**8) for number, step in enumerate(steps, 1)]
     (folder / "moving.tape").write_bytes(b"".join(parts))
     octets = [packet(to + b"\x07", 80) for to in (MIDDLE, bytes([10, 0, 1]))]
-    with open(folder / "moving.pcap", "wb") as out:
-        out.write(struct.pack("<IHHIIII", 0xA1B2C3D4, 2, 4, 0, 0, 262144, 101))
-        for number in range(len(steps) + 1):
-            for one in octets:
-                out.write(struct.pack("<IIII", 0, number * 100000 + 50000, len(one), len(one)) + one)
+    caught = (pcap_record(one, 0, number * 100000 + 50000) for number in range(len(steps) + 1) for one in octets)
+    (folder / "moving.pcap").write_bytes(wire.EMPTY_CAPTURE + b"".join(caught))
     (folder / "moving.changes").write_text(plainly("changes", folder, "peers", "moving.tape"))
     (folder / "moving.lines").write_text(plainly("enforce", folder, "peers", "moving.tape", "moving.pcap"))
 
@@ -398,7 +386,7 @@ def refuses_changes(folder):
 
 
 def has_command(program, command, folder):
-    (folder / "empty.tape").write_bytes(b"FSTAPE1\n")
+    (folder / "empty.tape").write_bytes(TAPE)
     words = [folder / "peers", folder / "empty.tape"] + [folder / "micros.pcap"] * (command == "enforce")
     return subprocess.run([program, command, *words], capture_output=True, check=False).returncode != 2
 
@@ -459,7 +447,7 @@ def blocks_of(octets):
 def enforce_stream(folder, program):
     """Of each packet its line; blocks that are no packets come between."""
     blocks = list(blocks_of(FORMS["blocks.pcapng"]))
-    frames = [struct.pack("<IIII", *times, len(octets), length) + octets for *times, octets, length in records()]
+    frames = [pcap_record(octets, *times, length) for *times, octets, length in records()]
     lines = [0, *itertools.accumulate(len(line.encode()) for line in LINES.splitlines(keepends=True))]
     for pieces, first in ([CAPTURE[:24], *frames], 1), (blocks, [one[0] for one in blocks].index(6)):
         due = [lines[max(0, number + 1 - first)] for number in range(len(pieces))]
@@ -470,8 +458,8 @@ def enforce_stream(folder, program):
 def convert_stream(folder, program):
     """Of each record what `convert` writes of the dump up to it; records of no peer come between."""
     up, down = (struct.pack(">HH", *states) for states in ((5, 6), (6, 1)))
-    dumped = [(4, 1, convert.update(0)), (4, 9, convert.update(1)), (5, 2, up), (4, 2, convert.update(2)), (5, 9, down),
-              (4, 1, convert.update(3)), (5, 1, down), (4, 3, convert.update(4))]
+    dumped = [(4, 1, convert.said(0)), (4, 9, convert.said(1)), (5, 2, up), (4, 2, convert.said(2)), (5, 9, down),
+              (4, 1, convert.said(3)), (5, 1, down), (4, 3, convert.said(4))]
     pieces = [convert.mrt(1700000000 + number, *record) for number, record in enumerate(dumped)]
     (folder / "dumped").write_text(convert.CONFIG)
     due, whole = [], ""
@@ -494,6 +482,16 @@ def dont_wait(folder, program, commands):
 
 
 # What else is around it
+
+
+def first_configuration(folder):
+    """tools/peers.py writes the configuration by which a dump was made."""
+    (folder / "dump").write_bytes(convert.block(FIRST_SECOND))
+    told = run(ROOT / "tools" / "peers.py", folder / "dump")
+    want(told.replace("\n\n", "\n") == convert.CONFIG, f"tools/peers.py says of a dump: {told}")
+    (folder / "dump").write_bytes(b"")
+    told = run(ROOT / "tools" / "peers.py", folder / "dump", status=1)
+    want(told.startswith("no record of the dump tells of a session"), f"tools/peers.py says of no octets: {told}")
 
 
 def picture(folder):
@@ -537,7 +535,8 @@ def installed_names():
     docs = ["README.md", "CHANGELOG.md", "SECURITY.md"]
     docs += [f"docs/{path.name}" for path in (ROOT / "docs").iterdir() if path.suffix in (".md", ".svg")]
     return sorted([f"bin/{name}" for name in PAGES] + [f"share/man/man1/{name}.1" for name in PAGES]
-                  + [f"share/welgutan/tools/{name}" for name in tools] + ["share/welgutan/units/welgutan.service"]
+                  + [f"share/welgutan/tools/{name}" for name in tools]
+                  + ["share/welgutan/units/welgutan.service", "share/welgutan/grafana/welgutan.json"]
                   + [f"share/doc/welgutan/{name}" for name in docs])
 
 
@@ -564,10 +563,10 @@ def install(folder):
 def judges_many(folder, program):
     """A table of 131,072 rules isn't too large: a packet meets the last of them."""
     rules = 1 << 17
-    parts = [*START, announce(b"\x07\x0a"), *(flow(b"\x05\x01" + slash24(number)) for number in range(rules))]
+    parts = [TAPE, up(), says(announce(b"\x07\x0a")), *(says(flow(b"\1" + slash24(number))) for number in range(rules))]
     (folder / "config").write_text(CONFIG)
     (folder / "tape").write_bytes(b"".join(parts))
-    write_packets(folder / "capture", [packet(bytes([11, 255, 255, 1]), 80)])
+    (folder / "capture").write_bytes(capture_of([packet(bytes([11, 255, 255, 1]), 80)]))
     lines = run(program, "enforce", *(folder / name for name in ("config", "tape", "capture")))
     want(lines == f"1 discard rules {rules}\n", f"of a packet under {rules} rules it is said: {lines}")
 
@@ -585,7 +584,7 @@ def main():
         (folder / "example.pcap").write_bytes(CAPTURE)
         for form, octets in FORMS.items():
             (folder / form).write_bytes(octets)
-        for trial in counts, as_json, refuses, resolves, refuses_changes:
+        for trial in counts, as_json, refuses, resolves, refuses_changes, first_configuration:
             trial(folder)
         splits(folder, program)
         joins(folder, program)
