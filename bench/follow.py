@@ -309,7 +309,7 @@ def try_mistakes(pairs, seed):
     for name, (module, function, wrong) in MISTAKES.items():
         told = None
         with mock.patch.object(module, function, wrong):
-            for number in range(seed, seed + 12):
+            for number in range(seed, seed + 40):
                 told = told or first_difference(number, pairs)
         print(f"planted, and {f'told: {name}' if told else f'NOT told: {name}'}", flush=True)
         want(told, name)
