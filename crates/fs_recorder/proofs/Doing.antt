@@ -1,0 +1,181 @@
+-- Deeds, one after the other.
+use Rattle.fs_recorder.proofs.{Words.{ℕ, Bool, List, [], ◌∷◌, ◌++◌, Option, ◌≡◌, refl, ap, sym, subst, ◌∙◌, append-nil, append_assoc, AllByRecursion, Turn, said, shut, Grew, Grew-refl, Grew-trans, part_then, GrewPart, take, IsWritable, item_text, Item, timed, Two, expired_after, nobody, AgreesBut, Booked, Tells, TellsPart, BreaksOff, Deed, Did, Does, asked_in, items_of, leaves, says, sends, shuts, tells, text_at, told_at, Seat, was_lost, Result, Ok, Err, OnErr, OnOk, arith, length}, Telling.{told_on}}
+
+pub items_both : (first later : List Deed) → items_of (first ++ later) ≡ items_of first ++ items_of later
+items_both [] later = refl
+items_both (tells item ∷ first) later = ap (λ items. item ∷ items) (items_both first later)
+items_both (sends line octets ∷ first) later = items_both first later
+items_both (shuts line ∷ first) later = items_both first later
+
+asked_both : (first later : List Deed) → asked_in (first ++ later) ≡ asked_in first ++ asked_in later
+asked_both [] later = refl
+asked_both (tells item ∷ first) later = asked_both first later
+asked_both (sends line octets ∷ first) later = ap (λ turns. said line octets ∷ turns) (asked_both first later)
+asked_both (shuts line ∷ first) later = ap (λ turns. shut line ∷ turns) (asked_both first later)
+
+told_both : (moment : ℕ) (first later : List Item) → told_at moment (first ++ later) ≡ told_at moment first ++ told_at moment later
+told_both moment [] later = refl
+told_both moment (item ∷ first) later = ap (λ told. timed moment item ∷ told) (told_both moment first later)
+
+text_both : (moment : ℕ) (first later : List Item) → text_at moment (first ++ later) ≡ text_at moment first ++ text_at moment later
+text_both moment [] later = refl
+text_both moment (item ∷ first) later =
+    ap (λ text. item_text Two (timed moment item) ++ text) (text_both moment first later)
+    ∙ sym (append_assoc (item_text Two (timed moment item)) (text_at moment first) (text_at moment later))
+
+all_both : (P : Item → Type 0) (first later : List Item) → AllByRecursion P first → AllByRecursion P later → AllByRecursion P (first ++ later)
+all_both P [] later a b = b
+all_both P (item ∷ first) later a b = (a.0, all_both P first later a.1 b)
+
+-- the gate alone was asked
+pub does_ask : (expired : ℕ → Bool) (deeds : List Deed) (books : Booked) (turns turns' : Option (List Turn)) (written : Option (List ℕ))
+    → items_of deeds ≡ [] → Grew turns turns' (asked_in deeds) → Does expired expired deeds books books turns turns' written written
+does_ask expired deeds books turns turns' written none grew = record {
+  writable = subst (AllByRecursion (IsWritable books.desk.config)) (sym none) tt;
+  tape = subst (λ items. Grew written written (text_at books.scribe.moment items)) (sym none) (Grew-refl written);
+  gate = grew;
+  moment_is = refl;
+  config_is = refl;
+  agrees = λ config told agrees.
+      subst (λ items. AgreesBut expired config (told ++ told_at books.scribe.moment items) books) (sym none)
+      (subst (λ t. AgreesBut expired config t books) (sym (append-nil told)) agrees);
+}
+
+-- one item was told
+pub does_tell : (item : Item) (old new : Booked) (turns : Option (List Turn)) (before now : Option (List ℕ)) → Tells item old new before now
+    → (expired : ℕ → Bool) → Does expired (expired_after item expired) (tells item ∷ []) old new turns turns before now
+does_tell item old new turns before now told expired = record {
+  writable = (told.writable, tt);
+  tape = subst (Grew before now) (sym (append-nil (item_text Two (timed old.scribe.moment item)))) told.grew;
+  gate = Grew-refl turns;
+  moment_is = ap (λ s. s.moment) told.scribe_is;
+  config_is = told.config_is;
+  agrees = told_on item old new before now told expired;
+}
+
+-- a front of an item's record was written
+pub breaks_tell : (item : Item) (old : Booked) (turns : Option (List Turn)) (before now : Option (List ℕ)) → TellsPart item old before now
+    → BreaksOff old turns turns before now
+breaks_tell item old turns before now part = record {
+  items = item ∷ [];
+  writable = (part.writable, tt);
+  part = (part.part.0, subst (λ text. Grew before now (take part.part.0 text)) (sym (append-nil (item_text Two (timed old.scribe.moment item)))) part.part.1);
+  asked = [];
+  gate = Grew-refl turns;
+}
+
+-- it was broken off before anything was written
+pub breaks_early : (old : Booked) (turns turns' : Option (List Turn)) (asked : List Turn) (written : Option (List ℕ)) → Grew turns turns' asked
+    → BreaksOff old turns turns' written written
+breaks_early old turns turns' asked written grew = record {
+  items = [];
+  writable = tt;
+  part = (0, Grew-refl written);
+  asked = asked;
+  gate = grew;
+}
+
+module _ (expired expired1 : ℕ → Bool) (first : List Deed) (a b : Booked) (t t1 : Option (List Turn)) (w w1 : Option (List ℕ))
+    (one : Does expired expired1 first a b t t1 w w1) where
+  pub does_then : (expired2 : ℕ → Bool) (later : List Deed) (c : Booked) (t2 : Option (List Turn)) (w2 : Option (List ℕ))
+      → Does expired1 expired2 later b c t1 t2 w1 w2 → Does expired expired2 (first ++ later) a c t t2 w w2
+  does_then expired2 later c t2 w2 next =
+      let moment = a.scribe.moment in
+      let all : items_of (first ++ later) ≡ items_of first ++ items_of later = items_both first later in
+      let tape : Grew w1 w2 (text_at moment (items_of later)) =
+      subst (λ m. Grew w1 w2 (text_at m (items_of later))) one.moment_is next.tape in
+      record {
+        writable = subst (AllByRecursion (IsWritable a.desk.config)) (sym all)
+            (all_both (IsWritable a.desk.config) (items_of first) (items_of later) one.writable
+            (subst (λ config. AllByRecursion (IsWritable config) (items_of later)) one.config_is next.writable));
+        tape = subst (Grew w w2) (sym (ap (text_at moment) all ∙ text_both moment (items_of first) (items_of later)))
+            (Grew-trans w w1 w2 (text_at moment (items_of first)) (text_at moment (items_of later)) one.tape tape);
+        gate = subst (Grew t t2) (sym (asked_both first later)) (Grew-trans t t1 t2 (asked_in first) (asked_in later) one.gate next.gate);
+        moment_is = next.moment_is ∙ one.moment_is;
+        config_is = next.config_is ∙ one.config_is;
+        agrees = λ config told agrees.
+            subst (λ t. AgreesBut expired2 config t c)
+            (append_assoc told (told_at moment (items_of first)) (told_at moment (items_of later))
+            ∙ ap (λ more. told ++ more) (sym (ap (told_at moment) all ∙ told_both moment (items_of first) (items_of later))))
+            (subst (λ m. AgreesBut expired2 config ((told ++ told_at moment (items_of first)) ++ told_at m (items_of later)) c) one.moment_is
+            (next.agrees config (told ++ told_at moment (items_of first)) (one.agrees config told agrees)));
+      }
+
+  pub breaks_then : (t2 : Option (List Turn)) (w2 : Option (List ℕ)) → BreaksOff b t1 t2 w1 w2 → BreaksOff a t t2 w w2
+  breaks_then t2 w2 next =
+      let moment = a.scribe.moment in
+      let part : GrewPart w1 w2 (text_at moment next.items) = subst (λ m. GrewPart w1 w2 (text_at m next.items)) one.moment_is next.part in
+      record {
+        items = items_of first ++ next.items;
+        writable = all_both (IsWritable a.desk.config) (items_of first) next.items one.writable
+            (subst (λ config. AllByRecursion (IsWritable config) next.items) one.config_is next.writable);
+        part = subst (GrewPart w w2) (sym (text_both moment (items_of first) next.items))
+            (part_then w w1 w2 (text_at moment (items_of first)) (text_at moment next.items) one.tape part);
+        asked = asked_in first ++ next.asked;
+        gate = Grew-trans t t1 t2 (asked_in first) next.asked one.gate next.gate;
+      }
+
+-- what a session replied is sent, where it is something
+
+pub says_items : (line : ℕ) (octets : List ℕ) → items_of (says line octets) ≡ []
+says_items line [] = refl
+says_items line (octet ∷ octets) = refl
+
+pub says_none : (line : ℕ) (octets : List ℕ) (turns : Option (List Turn)) → length octets ≡ 0 → Grew turns turns (asked_in (says line octets))
+says_none line [] turns none = Grew-refl turns
+says_none line (octet ∷ octets) turns none = absurd (omega arith)
+
+pub says_some : (line : ℕ) (octets : List ℕ) (turns turns' : Option (List Turn)) → (length octets ≡ 0 → ⊥)
+    → Grew turns turns' (said line octets ∷ []) → Grew turns turns' (asked_in (says line octets))
+says_some line [] turns turns' some grew = absurd (some refl)
+says_some line (octet ∷ octets) turns turns' some grew = grew
+
+-- what follows at a success, and at a failure
+
+pub ok_to : {T E : Type 0} {X Y : Type 0} (result : Result T E) → OnOk result X → (X → Y) → OnOk result Y
+ok_to (Ok value) x f = f x
+ok_to (Err error) x f = tt
+
+pub err_to : {T E : Type 0} {X Y : Type 0} (result : Result T E) → OnErr result X → (X → Y) → OnErr result Y
+err_to (Ok value) x f = tt
+err_to (Err error) x f = f x
+
+-- a line is closed, and its peer lost
+module _ (seat : Seat) (old : Booked) (turns turns' : Option (List Turn)) (before now : Option (List ℕ)) (closed : Grew turns turns' (shut seat.line ∷ [])) where
+  shutting : (expired : ℕ → Bool) → Does expired expired (shuts seat.line ∷ []) old old turns turns' before before
+  shutting expired = does_ask expired (shuts seat.line ∷ []) old turns turns' before refl closed
+
+  pub does_leave : (new : Booked) → Tells (was_lost seat.peer) old new before now → (expired : ℕ → Bool)
+      → Does expired (expired_after (was_lost seat.peer) expired) (leaves seat) old new turns turns' before now
+  does_leave new told expired =
+      does_then expired expired (shuts seat.line ∷ []) old old turns turns' before before (shutting expired)
+      (expired_after (was_lost seat.peer) expired) (tells (was_lost seat.peer) ∷ []) new turns' now
+      (does_tell (was_lost seat.peer) old new turns' before now told expired)
+
+  pub breaks_leave : TellsPart (was_lost seat.peer) old before now → BreaksOff old turns turns' before now
+  breaks_leave part =
+      breaks_then nobody nobody (shuts seat.line ∷ []) old old turns turns' before before (shutting nobody) turns' now
+      (breaks_tell (was_lost seat.peer) old turns' before now part)
+
+-- a session's replies are sent, its line is closed, and its peer lost
+module _ (seat : Seat) (replies : List ℕ) (old : Booked) (turns turns1 turns2 : Option (List Turn)) (before now : Option (List ℕ))
+    (said : Grew turns turns1 (asked_in (says seat.line replies))) where
+  saying : (expired : ℕ → Bool) → Does expired expired (says seat.line replies) old old turns turns1 before before
+  saying expired = does_ask expired (says seat.line replies) old turns turns1 before (says_items seat.line replies) said
+
+  pub does_answer : (new : Booked)
+      → ((expired : ℕ → Bool) → Does expired (expired_after (was_lost seat.peer) expired) (leaves seat) old new turns1 turns2 before now)
+      → (expired : ℕ → Bool)
+      → Does expired (expired_after (was_lost seat.peer) expired) (says seat.line replies ++ leaves seat) old new turns turns2 before now
+  does_answer new left expired =
+      does_then expired expired (says seat.line replies) old old turns turns1 before before (saying expired)
+      (expired_after (was_lost seat.peer) expired) (leaves seat) new turns2 now (left expired)
+
+  pub breaks_answer : BreaksOff old turns1 turns2 before now → BreaksOff old turns turns2 before now
+  breaks_answer breaks = breaks_then nobody nobody (says seat.line replies) old old turns turns1 before before (saying nobody) turns2 now breaks
+
+-- one item was told, without the gate
+pub did_tell : (item : Item) (old new : Booked) (before now : Option (List ℕ)) → Tells item old new before now → (turns : Option (List Turn))
+    → Did old new turns turns before now
+did_tell item old new before now told turns =
+    record { deeds = tells item ∷ []; does = does_tell item old new turns before now told nobody }

@@ -1,0 +1,21 @@
+use Rattle.fs_recorder.proofs.{Words.{ap, arith, drop, length, length-drop, on_err, part_whole, subst, ◌∙◌, ◌-◌, ◌≤◌, Plays, received, longer_by}, Telling.{part_as, payload_all, received_size, tells_as}}
+use Rattle.fs_recorder.proofs.books.Books.octets.Goals as goal
+
+pub returns-in_err-write-clause-err : goal.returns-in_err-write-clause-err
+returns-in_err-write-clause-err g c =
+    let short : length (drop 15 c.args.piece.now) ≤ 65536 = omega (arith, c.requires.long, length-drop 15 c.args.piece.now) in
+    on_err c.from_residual.result
+    (part_as (received c.args.peer (drop 15 c.args.piece.now)) (record { desk = c.self.inside.desk; scribe = c.self.inside.scribe }) c.args.self.now _ _ c.self.view_is ((c.ranges.peer.fits, c.requires.known), short) c.in_err-write.ensures.err)
+
+pub returns-in_err-octets-clause-err : goal.returns-in_err-octets-clause-err
+returns-in_err-octets-clause-err g c =
+    let short : length (drop 15 c.args.piece.now) ≤ 65536 = omega (arith, c.requires.long, length-drop 15 c.args.piece.now) in
+    on_err c.from_residual-in_err-octets.result
+    (part_as (received c.args.peer (drop 15 c.args.piece.now)) (record { desk = c.self.inside.desk; scribe = c.self.inside.scribe }) c.args.self.now _ _ c.self.view_is ((c.ranges.peer.fits, c.requires.known), short) (part_whole _ _ _ c.in_ok-write.ensures.written))
+
+pub returns-clause-told : goal.returns-clause-told
+returns-clause-told g c =
+    let short : length (drop 15 c.args.piece.now) ≤ 65536 = omega (arith, c.requires.long, length-drop 15 c.args.piece.now) in
+    tells_as (received c.args.peer (drop 15 c.args.piece.now)) (record { desk = c.self.inside.desk; scribe = c.self.inside.scribe }) c.args.self.now _ _ _ c.self.view_is ((c.ranges.peer.fits, c.requires.known), short) (subst (λ octets. Plays (received c.args.peer octets) c.self.inside.desk c.octets.new.self) (payload_all c.write.new.piece ∙ c.write.ensures.payload) c.in_ok-octets.ensures.played)
+    c.octets.ensures.config (c.in_ok-write.ensures.longer
+    ∙ ap (λ n. longer_by n c.self.inside.scribe) (received_size c.args.piece.now c.args.peer c.self.inside.scribe.moment c.requires.head)) c.in_ok-write.ensures.room c.in_ok-write.ensures.written

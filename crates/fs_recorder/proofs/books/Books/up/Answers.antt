@@ -1,0 +1,14 @@
+use Rattle.fs_recorder.proofs.{Words.{came_up, on_err, part_whole}, Telling.{part_as, tells_as}}
+use Rattle.fs_recorder.proofs.books.Books.up.Goals as goal
+
+pub returns-in_err-write-clause-err : goal.returns-in_err-write-clause-err
+returns-in_err-write-clause-err g c = on_err c.from_residual.result
+    (part_as (came_up c.args.peer) (record { desk = c.self.inside.desk; scribe = c.self.inside.scribe }) c.args.self.now _ _ c.self.view_is (c.ranges.peer.fits, c.requires) c.in_err-write.ensures.err)
+
+pub returns-in_err-up-clause-err : goal.returns-in_err-up-clause-err
+returns-in_err-up-clause-err g c = on_err c.from_residual-in_err-up.result
+    (part_as (came_up c.args.peer) (record { desk = c.self.inside.desk; scribe = c.self.inside.scribe }) c.args.self.now _ _ c.self.view_is (c.ranges.peer.fits, c.requires) (part_whole _ _ _ c.in_ok-write.ensures.written))
+
+pub returns-clause-told : goal.returns-clause-told
+returns-clause-told g c = tells_as (came_up c.args.peer) (record { desk = c.self.inside.desk; scribe = c.self.inside.scribe }) c.args.self.now _ _ _ c.self.view_is (c.ranges.peer.fits, c.requires) c.in_ok-up.ensures.played
+    c.up.ensures.config c.in_ok-write.ensures.longer c.in_ok-write.ensures.room c.in_ok-write.ensures.written

@@ -1,0 +1,10 @@
+use Rattle.fs_recorder.proofs.Doing.{breaks_answer, does_answer}
+use Rattle.fs_recorder.proofs.recorder.Recorder.answer.Goals as goal
+
+pub returns-in-Ok-clause-answers : goal.returns-in-Ok-clause-answers
+returns-in-Ok-clause-answers g c =
+    does_answer c.args.seat c.args.self.now.replies _ _ _ _ _ _ c.say.ensures.said _ c.in-Ok.ensures.leaves
+
+pub returns-in-Err-clause-breaks : goal.returns-in-Err-clause-breaks
+returns-in-Err-clause-breaks g c =
+    breaks_answer c.args.seat c.args.self.now.replies _ _ _ _ _ _ c.say.ensures.said c.in-Err.ensures.breaks

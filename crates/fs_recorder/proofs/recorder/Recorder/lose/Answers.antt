@@ -1,0 +1,17 @@
+use Rattle.fs_recorder.proofs.{Words.{ap, subst, ◌∙◌, Recording, Tells, TellsPart, was_lost, without}, Doing.{err_to, ok_to}, Seating.{known_left}}
+use Rattle.fs_recorder.proofs.recorder.Recorder.lose.Goals as goal
+
+pub returns-clause-told : goal.returns-clause-told
+returns-clause-told g c = ok_to c.lost.result c.lost.ensures.told
+    (λ told. subst (λ books. Tells (was_lost c.args.seat.peer) books c.lost.new.self (g.S.Sink.written c.args.sink.now) (g.S.Sink.written c.lost.new.sink)) (ap (λ (r : Recording). r.books) c.self.view_is) told)
+
+pub returns-clause-stay : goal.returns-clause-stay
+returns-clause-stay g c = ok_to c.lost.result c.lost.ensures.told
+    (λ told. λ known.
+    known_left c.args.self.now c.lost.new.self.desk.config c.args.seat.line c.remove.new.seats.items
+    (told.config_is ∙ ap (λ (r : Recording). r.books.desk.config) c.self.view_is)
+    (c.remove.ensures ∙ ap (λ (r : Recording). without c.args.seat.line r.seats) c.self.view_is) known)
+
+pub returns-clause-err : goal.returns-clause-err
+returns-clause-err g c = err_to c.lost.result c.lost.ensures.err
+    (λ part. subst (λ books. TellsPart (was_lost c.args.seat.peer) books (g.S.Sink.written c.args.sink.now) (g.S.Sink.written c.lost.new.sink)) (ap (λ (r : Recording). r.books) c.self.view_is) part)

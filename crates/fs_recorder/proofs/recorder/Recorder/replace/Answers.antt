@@ -1,0 +1,10 @@
+use Rattle.fs_recorder.proofs.{Doing.{err_to, ok_to}, Joining.{did_breaks, did_then}}
+use Rattle.fs_recorder.proofs.recorder.Recorder.replace.Goals as goal
+
+pub returns-clause-did : goal.returns-clause-did
+returns-clause-did g c = ok_to c.seat.result c.seat.ensures.did
+    (λ later. did_then _ _ _ _ _ _ _ _ _ c.in_ok-vacate.ensures.did (later (g.G.Gate.turns c.vacate.new.gate)))
+
+pub returns-clause-breaks : goal.returns-clause-breaks
+returns-clause-breaks g c = err_to c.seat.result c.seat.ensures.breaks
+    (λ breaks. did_breaks _ _ _ _ _ _ _ _ c.in_ok-vacate.ensures.did (breaks (g.G.Gate.turns c.vacate.new.gate)))

@@ -1,0 +1,4 @@
+pub mod Tapes
+pub mod Books
+pub mod Seats
+pub mod Deeds

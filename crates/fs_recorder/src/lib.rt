@@ -1,0 +1,12 @@
+//! Sessions with many peers at once, recorded onto a tape as they happen.
+#![tactic(auto)]
+
+mod books;
+mod recorder;
+mod scribe;
+mod seats;
+mod stop;
+
+pub use recorder::Recorder;
+pub use scribe::HEAD_SIZE;
+pub use stop::Stop;

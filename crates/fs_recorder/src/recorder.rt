@@ -1,0 +1,579 @@
+//! The sessions with all configured peers, each over a connection of its own, and the tape of what they say.
+
+ghost use Rattle.std.specs.{Prelude.{◌≡◌, ◌≤◌, ◌+◌, ℕ, Bool, List, Option, [], IfOk, IfSome, IsSome, OnOk, OnErr, drop, length, not}, Result.{IsErrOf}};
+ghost use Rattle.fs_base.specs.{Config.{peer_of}, Gate.{FitsIn, Turn}, Outside.{Rose}, Sink.{Grew, GrewPart}};
+ghost use Rattle.fs_tape.specs.{Magic.{magic_of}, Tape.{was_lost}, declared.magic.Version.TheVariants.{Two}};
+ghost use Rattle.fs_desk.specs.Desk.{expired_after, standing_at_desk};
+ghost use Rattle.fs_recorder.specs.{Books.{Agrees, Tells, TellsPart}, Deeds.{AreKnown, BreaksOff, Did, Does, IsKnown, StayKnown, answered, asked_in, behind_answer, is_closed, leaves, passing, says}, Tapes.{begun}};
+
+use crate::books::Books;
+use crate::scribe::HEAD_SIZE;
+use crate::seats::{Seat, add, first_peer, free_peer, remove, seat_for, seat_of};
+use crate::stop::Stop;
+use fs_base::{Address, Came, Config, Event, Gate, Sink};
+use fs_speaker::{Standing, State};
+use std::alloc::Global;
+use std::marker::Model;
+
+/// The clock of each session is heard again where so many milliseconds have passed.
+const SWEEP: u64 = 500;
+
+/// A session that isn't established so many milliseconds after its connection was taken closes (RFC 4271, section 8.2.2: a
+/// large hold time, for which four minutes are suggested).
+const OPEN_TIME: u64 = 240_000;
+
+/// The NOTIFICATION of an expired hold time (RFC 4271, sections 4.5 and 6.5).
+const EXPIRED: [u8; 21] = [
+    255, 255, 255, 255, 255, 255, 255, 255, 255, 255, 255, 255, 255, 255, 255, 255, 0, 21, 3, 4, 0,
+];
+
+/// The sessions with all configured peers, and the tape of what they say.
+#[derive(Drop)]
+pub struct Recorder<'a> {
+    books: Books<'a>,
+    seats: Vec<Seat>,
+    swept: u64,
+    replies: Vec<u8>,
+}
+
+impl<'a> Model for Recorder<'a> {
+    ghost use Rattle.fs_recorder.specs.Deeds.{Recording};
+
+    ghost Value = { Recording };
+
+    ghost view = { λ r. record { books = r.books; seats = r.seats.items; replies = r.replies.items } };
+}
+
+impl<'a> Recorder<'a> {
+    /// Begins a tape. No peer is up.
+    ///
+    /// # Errors
+    ///
+    /// `Limit` where the magic is as long as the limit; `Failed` where the sink failed.
+    pub fn begin<S: Sink>(
+        alloc: Global,
+        config: &'a Config,
+        limit: u64,
+        sink: &mut S,
+    ) -> Result<Recorder<'a>, Stop>
+        ensures later { S.faults sink.old ≤ S.faults sink.new }
+        ensures failed { IsErrOf result Stop.Failed → Rose (S.faults sink.old) (S.faults sink.new) }
+        ensures agrees { IfOk result (λ recorder. Agrees config.entry.now [] recorder.books) }
+        ensures begun { IfOk result (λ recorder. recorder.books.scribe ≡ begun limit) }
+        ensures config { IfOk result (λ recorder. recorder.books.desk.config ≡ config.entry.now) }
+        ensures empty { IfOk result (λ recorder. recorder.seats ≡ []) }
+        ensures written { OnOk result (Grew (S.written sink.old) (S.written sink.new) (magic_of Two)) }
+        ensures err { OnErr result (GrewPart (S.written sink.old) (S.written sink.new) (magic_of Two)) }
+    {
+        let books = Books::begin(alloc, config, limit, sink)?;
+        Ok(Recorder {
+            books,
+            seats: Vec::new(alloc),
+            swept: 0,
+            replies: Vec::new(alloc),
+        })
+    }
+
+    /// Does what an event calls for. Octets that came stand in `buffer` behind room for a record's head.
+    ///
+    /// # Errors
+    ///
+    /// `Limit` where the next record would make the tape as long as the limit; `Failed` where the sink failed; `Memory`
+    /// where the machine refused memory.
+    pub fn hear<G: Gate, S: Sink>(
+        &mut self,
+        event: Event,
+        buffer: &mut [u8],
+        gate: &mut G,
+        sink: &mut S,
+    ) -> Result<(), Stop>
+        requires known { AreKnown self.old.books.desk.config self.old.seats }
+        requires head { 15 ≤ length buffer.old }
+        requires long { length buffer.old ≤ 65551 }
+        requires fits { FitsIn event.came (drop 15 buffer.old) }
+        ensures still { G.faults gate.new ≡ G.faults gate.old }
+        ensures later { S.faults sink.old ≤ S.faults sink.new }
+        ensures failed { IsErrOf result Stop.Failed → Rose (S.faults sink.old) (S.faults sink.new) }
+        ensures size { length buffer.new ≡ length buffer.old }
+        ensures did { OnOk result (Did (passing event.moment self.old).books self.new.books
+            (G.turns gate.old) (G.turns gate.new) (S.written sink.old) (S.written sink.new)) }
+        ensures stay { OnOk result (StayKnown (passing event.moment self.old) self.new) }
+        ensures breaks { OnErr result (BreaksOff (passing event.moment self.old).books
+            (G.turns gate.old) (G.turns gate.new) (S.written sink.old) (S.written sink.new)) }
+    {
+        self.books.pass(event.moment);
+        self.follow(event, buffer, gate, sink)?;
+        self.sweep_where_due(event.time, gate, sink)
+    }
+
+    /// Does what an event calls for itself.
+    fn follow<G: Gate, S: Sink>(
+        &mut self,
+        event: Event,
+        buffer: &mut [u8],
+        gate: &mut G,
+        sink: &mut S,
+    ) -> Result<(), Stop>
+        requires known { AreKnown self.old.books.desk.config self.old.seats }
+        requires head { 15 ≤ length buffer.old }
+        requires long { length buffer.old ≤ 65551 }
+        requires fits { FitsIn event.came (drop 15 buffer.old) }
+        ensures still { G.faults gate.new ≡ G.faults gate.old }
+        ensures later { S.faults sink.old ≤ S.faults sink.new }
+        ensures failed { IsErrOf result Stop.Failed → Rose (S.faults sink.old) (S.faults sink.new) }
+        ensures size { length buffer.new ≡ length buffer.old }
+        ensures did { OnOk result (Did self.old.books self.new.books
+            (G.turns gate.old) (G.turns gate.new) (S.written sink.old) (S.written sink.new)) }
+        ensures stay { OnOk result (StayKnown self.old self.new) }
+        ensures breaks { OnErr result (BreaksOff self.old.books
+            (G.turns gate.old) (G.turns gate.new) (S.written sink.old) (S.written sink.new)) }
+    {
+        match event.came {
+            Came::Taken { line, from } => self.take(line, from, event.time, gate, sink),
+            Came::Octets { line, count } => {
+                let piece = &mut buffer[..HEAD_SIZE + count];
+                self.octets(line, event.time, piece, gate, sink)
+            }
+            Came::Ended { line } => self.end(line, sink),
+            Came::Made { .. } | Came::Nothing => Ok(()),
+        }
+    }
+
+    /// The clock of each session, where it wasn't heard for a while.
+    fn sweep_where_due<G: Gate, S: Sink>(
+        &mut self,
+        time: u64,
+        gate: &mut G,
+        sink: &mut S,
+    ) -> Result<(), Stop>
+        requires known { AreKnown self.old.books.desk.config self.old.seats }
+        ensures still { G.faults gate.new ≡ G.faults gate.old }
+        ensures later { S.faults sink.old ≤ S.faults sink.new }
+        ensures failed { IsErrOf result Stop.Failed → Rose (S.faults sink.old) (S.faults sink.new) }
+        ensures did { OnOk result (Did self.old.books self.new.books
+            (G.turns gate.old) (G.turns gate.new) (S.written sink.old) (S.written sink.new)) }
+        ensures stay { OnOk result (StayKnown self.old self.new) }
+        ensures breaks { OnErr result (BreaksOff self.old.books
+            (G.turns gate.old) (G.turns gate.new) (S.written sink.old) (S.written sink.new)) }
+    {
+        if time.saturating_sub(self.swept) < SWEEP {
+            return Ok(());
+        }
+        self.swept = time;
+        self.sweep(time, gate, sink)
+    }
+
+    /// A connection was taken: it speaks for the first configured peer of its address for which none speaks. Where there is
+    /// none, and no hold time is configured, it replaces the connection of the first peer of its address; else it is closed
+    /// (RFC 4271, section 6.8).
+    fn take<G: Gate, S: Sink>(
+        &mut self,
+        line: u64,
+        from: Address,
+        time: u64,
+        gate: &mut G,
+        sink: &mut S,
+    ) -> Result<(), Stop>
+        requires known { AreKnown self.old.books.desk.config self.old.seats }
+        ensures still { G.faults gate.new ≡ G.faults gate.old }
+        ensures later { S.faults sink.old ≤ S.faults sink.new }
+        ensures failed { IsErrOf result Stop.Failed → Rose (S.faults sink.old) (S.faults sink.new) }
+        ensures did { OnOk result (Did self.old.books self.new.books
+            (G.turns gate.old) (G.turns gate.new) (S.written sink.old) (S.written sink.new)) }
+        ensures stay { OnOk result (StayKnown self.old self.new) }
+        ensures breaks { OnErr result (BreaksOff self.old.books
+            (G.turns gate.old) (G.turns gate.new) (S.written sink.old) (S.written sink.new)) }
+    {
+        match self.peer_for(from) {
+            Some(peer) => self.replace(line, peer, time, gate, sink),
+            None => {
+                gate.close(line);
+                Ok(())
+            }
+        }
+    }
+
+    /// The peer for which a connection from this address is to speak.
+    fn peer_for(&self, from: Address) -> Option<u16>
+        ensures { IfSome result (λ peer. IsSome (peer_of peer self.now.books.desk.config.peers)) }
+    {
+        let config = self.books.config();
+        let peers = config.peers.as_slice();
+        if let Some(peer) = free_peer(peers, &self.seats, from) {
+            return Some(peer.number);
+        }
+        match first_peer(peers, from) {
+            Some(peer) if config.hold_time == 0 => Some(peer.number),
+            _ => None,
+        }
+    }
+
+    /// The connection speaks for the peer. An earlier one that does is closed.
+    fn replace<G: Gate, S: Sink>(
+        &mut self,
+        line: u64,
+        peer: u16,
+        since: u64,
+        gate: &mut G,
+        sink: &mut S,
+    ) -> Result<(), Stop>
+        requires known { AreKnown self.old.books.desk.config self.old.seats }
+        requires peer { IsSome (peer_of peer self.old.books.desk.config.peers) }
+        ensures still { G.faults gate.new ≡ G.faults gate.old }
+        ensures later { S.faults sink.old ≤ S.faults sink.new }
+        ensures failed { IsErrOf result Stop.Failed → Rose (S.faults sink.old) (S.faults sink.new) }
+        ensures did { OnOk result (Did self.old.books self.new.books
+            (G.turns gate.old) (G.turns gate.new) (S.written sink.old) (S.written sink.new)) }
+        ensures stay { OnOk result (StayKnown self.old self.new) }
+        ensures breaks { OnErr result (BreaksOff self.old.books
+            (G.turns gate.old) (G.turns gate.new) (S.written sink.old) (S.written sink.new)) }
+    {
+        self.vacate(peer, gate, sink)?;
+        self.seat(Seat { line, peer, since }, sink)
+    }
+
+    /// The connection that speaks for the peer, if one does, is closed.
+    fn vacate<G: Gate, S: Sink>(
+        &mut self,
+        peer: u16,
+        gate: &mut G,
+        sink: &mut S,
+    ) -> Result<(), Stop>
+        requires known { AreKnown self.old.books.desk.config self.old.seats }
+        ensures still { G.faults gate.new ≡ G.faults gate.old }
+        ensures later { S.faults sink.old ≤ S.faults sink.new }
+        ensures failed { IsErrOf result Stop.Failed → Rose (S.faults sink.old) (S.faults sink.new) }
+        ensures did { OnOk result (Did self.old.books self.new.books
+            (G.turns gate.old) (G.turns gate.new) (S.written sink.old) (S.written sink.new)) }
+        ensures stay { OnOk result (StayKnown self.old self.new) }
+        ensures breaks { OnErr result (BreaksOff self.old.books
+            (G.turns gate.old) (G.turns gate.new) (S.written sink.old) (S.written sink.new)) }
+    {
+        match seat_for(&self.seats, peer) {
+            Some(seat) => self.dismiss(seat, gate, sink),
+            None => Ok(()),
+        }
+    }
+
+    /// A peer takes its seat.
+    fn seat<S: Sink>(&mut self, seat: Seat, sink: &mut S) -> Result<(), Stop>
+        requires { IsKnown self.old.books.desk.config seat }
+        ensures later { S.faults sink.old ≤ S.faults sink.new }
+        ensures failed { IsErrOf result Stop.Failed → Rose (S.faults sink.old) (S.faults sink.new) }
+        ensures did { OnOk result ((turns : Option (List Turn))
+            → Did self.old.books self.new.books turns turns (S.written sink.old) (S.written sink.new)) }
+        ensures stay { OnOk result (StayKnown self.old self.new) }
+        ensures breaks { OnErr result ((turns : Option (List Turn))
+            → BreaksOff self.old.books turns turns (S.written sink.old) (S.written sink.new)) }
+    {
+        self.books.up(seat.peer, sink)?;
+        add(&mut self.seats, seat)?;
+        Ok(())
+    }
+
+    /// The connection of this seat is closed, and its peer lost.
+    fn dismiss<G: Gate, S: Sink>(
+        &mut self,
+        seat: Seat,
+        gate: &mut G,
+        sink: &mut S,
+    ) -> Result<(), Stop>
+        requires { IsKnown self.old.books.desk.config seat }
+        ensures still { G.faults gate.new ≡ G.faults gate.old }
+        ensures later { S.faults sink.old ≤ S.faults sink.new }
+        ensures failed { IsErrOf result Stop.Failed → Rose (S.faults sink.old) (S.faults sink.new) }
+        ensures leaves { OnOk result ((expired : ℕ → Bool)
+            → Does expired (expired_after (was_lost seat.peer) expired) (leaves seat) self.old.books self.new.books
+            (G.turns gate.old) (G.turns gate.new) (S.written sink.old) (S.written sink.new)) }
+        ensures stay { OnOk result (StayKnown self.old self.new) }
+        ensures breaks { OnErr result (BreaksOff self.old.books
+            (G.turns gate.old) (G.turns gate.new) (S.written sink.old) (S.written sink.new)) }
+    {
+        gate.close(seat.line);
+        self.lose(seat, sink)
+    }
+
+    /// The peer of this seat is lost.
+    fn lose<S: Sink>(&mut self, seat: Seat, sink: &mut S) -> Result<(), Stop>
+        requires { IsKnown self.old.books.desk.config seat }
+        ensures later { S.faults sink.old ≤ S.faults sink.new }
+        ensures failed { IsErrOf result Stop.Failed → Rose (S.faults sink.old) (S.faults sink.new) }
+        ensures told { OnOk result
+            (Tells (was_lost seat.peer) self.old.books self.new.books (S.written sink.old) (S.written sink.new)) }
+        ensures stay { OnOk result (StayKnown self.old self.new) }
+        ensures err { OnErr result
+            (TellsPart (was_lost seat.peer) self.old.books (S.written sink.old) (S.written sink.new)) }
+    {
+        remove(&mut self.seats, seat.line);
+        self.books.lost(seat.peer, sink)
+    }
+
+    /// A connection has ended: the peer for which it spoke is lost.
+    fn end<S: Sink>(&mut self, line: u64, sink: &mut S) -> Result<(), Stop>
+        requires known { AreKnown self.old.books.desk.config self.old.seats }
+        ensures later { S.faults sink.old ≤ S.faults sink.new }
+        ensures failed { IsErrOf result Stop.Failed → Rose (S.faults sink.old) (S.faults sink.new) }
+        ensures did { OnOk result ((turns : Option (List Turn))
+            → Did self.old.books self.new.books turns turns (S.written sink.old) (S.written sink.new)) }
+        ensures stay { OnOk result (StayKnown self.old self.new) }
+        ensures breaks { OnErr result ((turns : Option (List Turn))
+            → BreaksOff self.old.books turns turns (S.written sink.old) (S.written sink.new)) }
+    {
+        match seat_of(&self.seats, line) {
+            Some(seat) => self.lose(seat, sink),
+            None => Ok(()),
+        }
+    }
+
+    /// A connection gave octets: first the clock of its session is heard, and then they are.
+    fn octets<G: Gate, S: Sink>(
+        &mut self,
+        line: u64,
+        time: u64,
+        piece: &mut [u8],
+        gate: &mut G,
+        sink: &mut S,
+    ) -> Result<(), Stop>
+        requires known { AreKnown self.old.books.desk.config self.old.seats }
+        requires head { 15 ≤ length piece.old }
+        requires long { length piece.old ≤ 65551 }
+        ensures still { G.faults gate.new ≡ G.faults gate.old }
+        ensures later { S.faults sink.old ≤ S.faults sink.new }
+        ensures failed { IsErrOf result Stop.Failed → Rose (S.faults sink.old) (S.faults sink.new) }
+        ensures did { OnOk result (Did self.old.books self.new.books
+            (G.turns gate.old) (G.turns gate.new) (S.written sink.old) (S.written sink.new)) }
+        ensures stay { OnOk result (StayKnown self.old self.new) }
+        ensures breaks { OnErr result (BreaksOff self.old.books
+            (G.turns gate.old) (G.turns gate.new) (S.written sink.old) (S.written sink.new)) }
+    {
+        match seat_of(&self.seats, line) {
+            Some(seat) => self.speak(seat, time, piece, gate, sink),
+            None => Ok(()),
+        }
+    }
+
+    /// The clock of a seat's session, and where it is still open behind it, these octets.
+    fn speak<G: Gate, S: Sink>(
+        &mut self,
+        seat: Seat,
+        time: u64,
+        piece: &mut [u8],
+        gate: &mut G,
+        sink: &mut S,
+    ) -> Result<(), Stop>
+        requires known { IsKnown self.old.books.desk.config seat }
+        requires head { 15 ≤ length piece.old }
+        requires long { length piece.old ≤ 65551 }
+        ensures still { G.faults gate.new ≡ G.faults gate.old }
+        ensures later { S.faults sink.old ≤ S.faults sink.new }
+        ensures failed { IsErrOf result Stop.Failed → Rose (S.faults sink.old) (S.faults sink.new) }
+        ensures did { OnOk result (Did self.old.books self.new.books
+            (G.turns gate.old) (G.turns gate.new) (S.written sink.old) (S.written sink.new)) }
+        ensures stay { OnOk result (StayKnown self.old self.new) }
+        ensures breaks { OnErr result (BreaksOff self.old.books
+            (G.turns gate.old) (G.turns gate.new) (S.written sink.old) (S.written sink.new)) }
+    {
+        let is_open = self.wake(seat, time, gate, sink)?;
+        if !is_open {
+            return Ok(());
+        }
+        self.receive(seat, piece, gate, sink)
+    }
+
+    /// Octets of a seat's session, which is open.
+    fn receive<G: Gate, S: Sink>(
+        &mut self,
+        seat: Seat,
+        piece: &mut [u8],
+        gate: &mut G,
+        sink: &mut S,
+    ) -> Result<(), Stop>
+        requires known { IsKnown self.old.books.desk.config seat }
+        requires head { 15 ≤ length piece.old }
+        requires long { length piece.old ≤ 65551 }
+        ensures still { G.faults gate.new ≡ G.faults gate.old }
+        ensures later { S.faults sink.old ≤ S.faults sink.new }
+        ensures failed { IsErrOf result Stop.Failed → Rose (S.faults sink.old) (S.faults sink.new) }
+        ensures did { OnOk result (Did self.old.books self.new.books
+            (G.turns gate.old) (G.turns gate.new) (S.written sink.old) (S.written sink.new)) }
+        ensures stay { OnOk result (StayKnown self.old self.new) }
+        ensures breaks { OnErr result (BreaksOff self.old.books
+            (G.turns gate.old) (G.turns gate.new) (S.written sink.old) (S.written sink.new)) }
+    {
+        self.replies.clear();
+        self.books
+            .octets(seat.peer, piece, &mut self.replies, sink)?;
+        self.answer(seat, gate, sink)?;
+        Ok(())
+    }
+
+    /// The clock of a seat's session. Answers whether it is still open.
+    fn wake<G: Gate, S: Sink>(
+        &mut self,
+        seat: Seat,
+        time: u64,
+        gate: &mut G,
+        sink: &mut S,
+    ) -> Result<bool, Stop>
+        requires { IsKnown self.old.books.desk.config seat }
+        ensures still { G.faults gate.new ≡ G.faults gate.old }
+        ensures later { S.faults sink.old ≤ S.faults sink.new }
+        ensures failed { IsErrOf result Stop.Failed → Rose (S.faults sink.old) (S.faults sink.new) }
+        ensures did { OnOk result (Did self.old.books self.new.books
+            (G.turns gate.old) (G.turns gate.new) (S.written sink.old) (S.written sink.new)) }
+        ensures stay { OnOk result (StayKnown self.old self.new) }
+        ensures breaks { OnErr result (BreaksOff self.old.books
+            (G.turns gate.old) (G.turns gate.new) (S.written sink.old) (S.written sink.new)) }
+    {
+        self.replies.clear();
+        self.books.tick(seat.peer, time, &mut self.replies)?;
+        self.answer(seat, gate, sink)
+    }
+
+    /// Sends what a seat's session replied. Where it has closed the seat goes. Answers whether it is still open.
+    fn answer<G: Gate, S: Sink>(
+        &mut self,
+        seat: Seat,
+        gate: &mut G,
+        sink: &mut S,
+    ) -> Result<bool, Stop>
+        requires { IsKnown self.old.books.desk.config seat }
+        ensures still { G.faults gate.new ≡ G.faults gate.old }
+        ensures later { S.faults sink.old ≤ S.faults sink.new }
+        ensures failed { IsErrOf result Stop.Failed → Rose (S.faults sink.old) (S.faults sink.new) }
+        ensures closes { IfOk result (λ lives. is_closed (standing_at_desk self.old.books.desk seat.peer) ≡ not lives) }
+        ensures answers { IfOk result (λ lives. (expired : ℕ → Bool)
+            → Does expired (behind_answer lives seat.peer expired) (answered lives seat self.old.replies)
+            self.old.books self.new.books
+            (G.turns gate.old) (G.turns gate.new) (S.written sink.old) (S.written sink.new)) }
+        ensures stay { OnOk result (StayKnown self.old self.new) }
+        ensures breaks { OnErr result (BreaksOff self.old.books
+            (G.turns gate.old) (G.turns gate.new) (S.written sink.old) (S.written sink.new)) }
+    {
+        self.say(seat.line, gate);
+        if !is_closed(self.books.standing(seat.peer)) {
+            return Ok(true);
+        }
+        match self.dismiss(seat, gate, sink) {
+            Ok(()) => Ok(false),
+            Err(stop) => Err(stop),
+        }
+    }
+
+    /// Sends what a session replied, if it did.
+    fn say<G: Gate>(&self, line: u64, gate: &mut G)
+        ensures still { G.faults gate.new ≡ G.faults gate.old }
+        ensures said { Grew (G.turns gate.old) (G.turns gate.new) (asked_in (says line self.now.replies)) }
+    {
+        if !self.replies.is_empty() {
+            gate.send(line, &self.replies);
+        }
+    }
+
+    /// The clock of each session, in the order in which their connections were taken.
+    fn sweep<G: Gate, S: Sink>(&mut self, time: u64, gate: &mut G, sink: &mut S) -> Result<(), Stop>
+        requires known { AreKnown self.old.books.desk.config self.old.seats }
+        ensures still { G.faults gate.new ≡ G.faults gate.old }
+        ensures later { S.faults sink.old ≤ S.faults sink.new }
+        ensures failed { IsErrOf result Stop.Failed → Rose (S.faults sink.old) (S.faults sink.new) }
+        ensures did { OnOk result (Did self.old.books self.new.books
+            (G.turns gate.old) (G.turns gate.new) (S.written sink.old) (S.written sink.new)) }
+        ensures stay { OnOk result (StayKnown self.old self.new) }
+        ensures breaks { OnErr result (BreaksOff self.old.books
+            (G.turns gate.old) (G.turns gate.new) (S.written sink.old) (S.written sink.new)) }
+    {
+        let seats = self.seats.clone()?;
+        self.check_each(&seats, time, gate, sink)
+    }
+
+    /// The clock of the session of each of these seats.
+    fn check_each<G: Gate, S: Sink>(
+        &mut self,
+        seats: &[Seat],
+        time: u64,
+        gate: &mut G,
+        sink: &mut S,
+    ) -> Result<(), Stop>
+        requires { AreKnown self.old.books.desk.config seats.now }
+        ensures still { G.faults gate.new ≡ G.faults gate.old }
+        ensures later { S.faults sink.old ≤ S.faults sink.new }
+        ensures failed { IsErrOf result Stop.Failed → Rose (S.faults sink.old) (S.faults sink.new) }
+        ensures did { OnOk result (Did self.old.books self.new.books
+            (G.turns gate.old) (G.turns gate.new) (S.written sink.old) (S.written sink.new)) }
+        ensures stay { OnOk result (StayKnown self.old self.new) }
+        ensures breaks { OnErr result (BreaksOff self.old.books
+            (G.turns gate.old) (G.turns gate.new) (S.written sink.old) (S.written sink.new)) }
+    {
+        for seat in seats {
+            self.check(*seat, time, gate, sink)?;
+        }
+        Ok(())
+    }
+
+    /// The clock of a seat's session, and the time that it has to be established.
+    fn check<G: Gate, S: Sink>(
+        &mut self,
+        seat: Seat,
+        time: u64,
+        gate: &mut G,
+        sink: &mut S,
+    ) -> Result<(), Stop>
+        requires { IsKnown self.old.books.desk.config seat }
+        ensures still { G.faults gate.new ≡ G.faults gate.old }
+        ensures later { S.faults sink.old ≤ S.faults sink.new }
+        ensures failed { IsErrOf result Stop.Failed → Rose (S.faults sink.old) (S.faults sink.new) }
+        ensures did { OnOk result (Did self.old.books self.new.books
+            (G.turns gate.old) (G.turns gate.new) (S.written sink.old) (S.written sink.new)) }
+        ensures stay { OnOk result (StayKnown self.old self.new) }
+        ensures breaks { OnErr result (BreaksOff self.old.books
+            (G.turns gate.old) (G.turns gate.new) (S.written sink.old) (S.written sink.new)) }
+    {
+        let is_open = self.wake(seat, time, gate, sink)?;
+        if !is_open || time.saturating_sub(seat.since) < OPEN_TIME {
+            return Ok(());
+        }
+        self.hurry(seat, gate, sink)
+    }
+
+    /// A session that isn't established by now closes.
+    fn hurry<G: Gate, S: Sink>(
+        &mut self,
+        seat: Seat,
+        gate: &mut G,
+        sink: &mut S,
+    ) -> Result<(), Stop>
+        requires { IsKnown self.old.books.desk.config seat }
+        ensures still { G.faults gate.new ≡ G.faults gate.old }
+        ensures later { S.faults sink.old ≤ S.faults sink.new }
+        ensures failed { IsErrOf result Stop.Failed → Rose (S.faults sink.old) (S.faults sink.new) }
+        ensures did { OnOk result (Did self.old.books self.new.books
+            (G.turns gate.old) (G.turns gate.new) (S.written sink.old) (S.written sink.new)) }
+        ensures stay { OnOk result (StayKnown self.old self.new) }
+        ensures breaks { OnErr result (BreaksOff self.old.books
+            (G.turns gate.old) (G.turns gate.new) (S.written sink.old) (S.written sink.new)) }
+    {
+        if is_established(self.books.standing(seat.peer)) {
+            return Ok(());
+        }
+        gate.send(seat.line, &EXPIRED);
+        self.dismiss(seat, gate, sink)
+    }
+}
+
+/// Whether a session has closed.
+fn is_closed(standing: Standing) -> bool
+    ensures { result ≡ is_closed standing }
+{
+    match standing {
+        Standing::Ended(_) => true,
+        Standing::Live(_) | Standing::Down => false,
+    }
+}
+
+/// Whether a session is established.
+fn is_established(standing: Standing) -> bool {
+    match standing {
+        Standing::Live(State::Established) => true,
+        Standing::Live(_) | Standing::Ended(_) | Standing::Down => false,
+    }
+}

@@ -1,0 +1,101 @@
+//! Which connection speaks for which peer.
+
+ghost use Rattle.std.specs.{Prelude.{◌≡◌, ◌++◌, ◌∷◌, [], OnOk}, Option.{option_copied}};
+ghost use Rattle.fs_recorder.specs.Seats.{first_peer, free_peer, is_same, is_seated, seat_for, seat_of, without};
+
+use fs_base::{Address, Memory, Peer};
+
+/// A connection that speaks for a peer, and the time in milliseconds when it was taken.
+#[derive(Clone, Copy, Debug, PartialEq, Eq, Drop)]
+pub struct Seat {
+    pub line: u64,
+    pub peer: u16,
+    pub since: u64,
+}
+
+/// One seat more.
+///
+/// # Errors
+///
+/// `Memory` where the machine refused memory.
+pub fn add(seats: &mut Vec<Seat>, seat: Seat) -> Result<(), Memory>
+    ensures { OnOk result (seats.new.items ≡ seats.old.items ++ seat ∷ []) }
+{
+    seats.push(seat)?;
+    Ok(())
+}
+
+/// The seat of this line goes.
+pub fn remove(seats: &mut Vec<Seat>, line: u64)
+    ensures { seats.new.items ≡ without line seats.old.items }
+{
+    seats.retain(|seat| seat.line != line);
+}
+
+/// The seat of this line.
+pub fn seat_of(seats: &[Seat], line: u64) -> Option<Seat>
+    ensures { result ≡ seat_of line seats.now }
+{
+    of_line(seats, line).copied()
+}
+
+fn of_line(seats: &[Seat], line: u64) -> Option<&Seat>
+    ensures { option_copied result ≡ seat_of line seats.now }
+{
+    seats.iter().find(|seat| seat.line == line)
+}
+
+/// The seat of this peer.
+pub fn seat_for(seats: &[Seat], peer: u16) -> Option<Seat>
+    ensures { result ≡ seat_for peer seats.now }
+{
+    of_peer(seats, peer).copied()
+}
+
+fn of_peer(seats: &[Seat], peer: u16) -> Option<&Seat>
+    ensures { option_copied result ≡ seat_for peer seats.now }
+{
+    seats.iter().find(|seat| seat.peer == peer)
+}
+
+fn is_seated(seats: &[Seat], peer: u16) -> bool
+    ensures { result ≡ is_seated peer seats.now }
+{
+    seats.iter().any(|seat| seat.peer == peer)
+}
+
+fn is_same(address: Address, other: Address) -> bool
+    ensures { result ≡ is_same address other }
+{
+    match (address, other) {
+        (Address::V4(address), Address::V4(other)) => address == other,
+        (Address::V6(address), Address::V6(other)) => address == other,
+        _ => false,
+    }
+}
+
+/// The first of these peers that has this address and no seat.
+pub fn free_peer(peers: &[Peer], seats: &[Seat], from: Address) -> Option<Peer>
+    ensures { result ≡ free_peer from seats.now peers.now }
+{
+    free(peers, seats, from).copied()
+}
+
+fn free<'p>(peers: &'p [Peer], seats: &[Seat], from: Address) -> Option<&'p Peer>
+    ensures { option_copied result ≡ free_peer from seats.now peers.entry.now }
+{
+    peers.iter().find(|peer| is_same(peer.address, from) && !is_seated(seats, peer.number))
+}
+
+/// The first of these peers that has this address.
+pub fn first_peer(peers: &[Peer], from: Address) -> Option<Peer>
+    ensures { result ≡ first_peer from peers.now }
+{
+    first(peers, from).copied()
+}
+
+fn first(peers: &[Peer], from: Address) -> Option<&Peer>
+    ensures { option_copied result ≡ first_peer from peers.now }
+{
+    peers.iter().find(|peer| is_same(peer.address, from))
+}
