@@ -193,6 +193,32 @@ pub followed_read : {work : Judging} {now : Progress} (rest : List Captured × E
     → now.rest ≡ rest → Follows work now → Follows work (progress rest now.written now.pending now.number)
 followed_read {work} {now} rest e f = subst (λ (r : List Captured × End CaptureReason). Follows work (progress r now.written now.pending now.number)) e f
 
+-- the lines that were pending have left, or stand as they stood
+pub followed_left : {work : Judging} {now : Progress} (written : Option (List ℕ)) (pending : List ℕ) (number : ℕ)
+    → Follows work now → Goes now.written written now.pending pending [] → number ≡ now.number → Follows work (progress now.rest written pending number)
+followed_left written pending number f g n = record {
+  held = f.held;
+  gone = f.gone;
+  parts = f.parts;
+  end_is = f.end_is;
+  count = n ∙ f.count;
+  leaves = f.leaves;
+  goes = goes_as (append-nil (lines_from 0 (rules_by f.held) f.gone)) (goes_then f.goes g);
+}
+
+-- the sink failed while they left
+pub followed_held : {work : Judging} {now : Progress} (left : List Captured) (written : Option (List ℕ)) (pending : List ℕ) (files : Type 0) (first mid after : ℕ)
+    → Follows work now → Stops now.written written now.pending pending [] → first ≤ mid → Rose mid after
+    → BreaksOff work (outcome left written pending) (files ⊎ Rose first after) Outside
+followed_held left written pending files first mid after f stop l rose = (
+  came_of f,
+  inr (inr (
+    refl,
+    inr (rose_earlier first mid after l rose),
+    inr (stops_as (append-nil (lines_from 0 (rules_by f.held) f.gone)) (goes_stops f.goes stop)),
+  )),
+)
+
 -- the same routes are left under the same configuration
 pub leaves_as : (config config' : Config) (items : List Item) (held : Held) → config ≡ config' → Leaves config' items held → Leaves config items held
 leaves_as config config' items held e l = subst (λ (c : Config). Leaves c items held) (sym e) l

@@ -9,6 +9,7 @@ use crate::caught::Caught;
 use crate::fault::{Answer, CaptureFault};
 use crate::reader::Reader;
 use byteorder::{BigEndian, ByteOrder};
+use cmd_stages::CAPTURE_SLOT;
 use fs_base::{Counted, Files, fill};
 use fs_pcap::Capture as Pcap;
 use fs_pcapng::{Ng, SECTION_HEADER};
@@ -55,10 +56,16 @@ impl Capture {
         open(is_section(front), counted, files)
     }
 
-    /// Whether `next` answers without a call to the outside: the next packet stands whole in what the slot gives at
-    /// once. No clause says when: it decides only when lines leave.
+    /// Whether `next` answers without a wait: no read of the capture's slot waits, or the next packet stands whole in
+    /// what the slot gives at once. No clause says when: it decides only when lines leave.
     #[inline(always)]
     pub fn is_at_hand<F: Files>(&self, files: &F) -> bool {
+        !files.waits(CAPTURE_SLOT) || self.is_whole(files)
+    }
+
+    /// Whether the next packet stands whole in what the slot gives at once.
+    #[inline(never)]
+    fn is_whole<F: Files>(&self, files: &F) -> bool {
         match &self.reader {
             Reader::Records(capture) => capture.is_at_hand(files),
             Reader::Blocks(capture) => capture.is_at_hand(files),

@@ -125,21 +125,14 @@ fn judge_packets<F: Files, S: Sink>(
         let rules = &following.rules;
         let mut walked = Vec::with_capacity(following.alloc, rules.most())?;
         let octets = &buffer[..caught.taken];
-        judge_packet(
-            capture.is_at_hand(files),
-            rules,
-            caught.link,
-            octets,
-            &mut walked,
-            lines,
-            sink,
-        )?;
+        judge_packet(rules, caught.link, octets, &mut walked, lines, sink)?;
     }
     Ok(())
 }
 
 /// Judges packets while the tape stands still: those of the capture up to the first before which an item is to be
-/// played, which is handed back. `None` at the capture's end. All memory is taken before the first of them.
+/// played, which is handed back. `None` at the capture's end. All memory is taken before the first of them. Lines that
+/// are pending leave before the capture is waited for.
 fn judge_on<F: Files, S: Sink>(
     files: &mut F,
     capture: &mut Capture,
@@ -188,20 +181,15 @@ fn judge_on<F: Files, S: Sink>(
     same_routes(); // what is held at one moment is one list
     let rules = &following.rules;
     let mut walked = Vec::with_capacity(following.alloc, rules.most())?;
-    'packets: while let Some(caught) = next_packet(files, capture, buffer)? {
+    'packets: loop {
+        lines.leave(capture.is_at_hand(files), sink)?;
+        let Some(caught) = next_packet(files, capture, buffer)? else {
+            return Ok(None);
+        };
         if following.player.is_due(caught.moment) {
             return Ok(Some(caught));
         }
         let octets = &buffer[..caught.taken];
-        judge_packet(
-            capture.is_at_hand(files),
-            rules,
-            caught.link,
-            octets,
-            &mut walked,
-            lines,
-            sink,
-        )?;
+        judge_packet(rules, caught.link, octets, &mut walked, lines, sink)?;
     }
-    Ok(None)
 }

@@ -1,6 +1,6 @@
 //! The lines of packets.
 
-ghost use Rattle.std.specs.Prelude.{◌≡◌, ◌≤◌, ◌<◌, ◌+◌, ◌^◌, ◌⊎◌, [], IsTrue, IfOk, OnOk, vec_capacity};
+ghost use Rattle.std.specs.Prelude.{◌≡◌, ◌≤◌, ◌<◌, ◌+◌, ◌^◌, ◌⊎◌, [], IsTrue, IfOk, vec_capacity};
 ghost use Rattle.cmd_enforce.specs.{Judge.{AdmittedRules, packet_text, rules_for, seen_of}, Matcher.{IsReady, StandsFor}};
 ghost use Rattle.cmd_stages.specs.Writing.{Finishes};
 ghost use Rattle.fs_base.specs.Outside.{Rose};
@@ -32,9 +32,10 @@ impl Lines {
         })
     }
 
-    /// Writes out the lines that are pending, unless the next packet is at hand.
+    /// Writes out the lines that are pending, unless the next packet is at hand: where the capture is waited for,
+    /// nothing is held back.
     #[inline(always)]
-    fn leave<S: Sink>(&mut self, at_hand: bool, sink: &mut S) -> Result<(), Failed>
+    pub(crate) fn leave<S: Sink>(&mut self, at_hand: bool, sink: &mut S) -> Result<(), Failed>
         ensures number { self.new.number ≡ self.old.number }
         ensures later { S.faults sink.old ≤ S.faults sink.new }
         ensures sends { Sends S.Sink sink.old sink.new self.old.output self.new.output [] result }
@@ -62,35 +63,8 @@ impl Lines {
     }
 }
 
-/// Writes the line of the next packet. It leaves with all that are pending, unless the packet behind it is at hand:
-/// where the input is waited for, nothing is held back. No memory is taken: there is room for each rule of its family.
+/// Writes the line of the next packet. No memory is taken: there is room for each rule of its family.
 pub(crate) fn judge_packet<'r, S: Sink>(
-    at_hand: bool,
-    rules: &'r Compiled,
-    link: Option<Link>,
-    octets: &[u8],
-    walked: &mut Vec<Walked<'r>>,
-    lines: &mut Lines,
-    sink: &mut S,
-) -> Result<(), Failed>
-    requires ready { IsReady rules.now (vec_capacity walked.old) }
-    requires fits { lines.old.number + 1 < 2 ^ 64 }
-    ensures room { vec_capacity walked.new ≡ vec_capacity walked.old }
-    ensures number { lines.new.number ≡ lines.old.number + 1 }
-    ensures later { S.faults sink.old ≤ S.faults sink.new }
-    ensures sends { (admitted : AdmittedRules)
-        → StandsFor admitted rules.now
-        → Sends S.Sink sink.old sink.new lines.old.output lines.new.output
-        (packet_text (lines.old.number + 1) admitted link octets.now) result }
-    ensures none_held { OnOk result (IsTrue at_hand ⊎ (lines.new.output ≡ [])) }
-{
-    write_packet(rules, link, octets, walked, lines, sink)?;
-    lines.leave(at_hand, sink)
-}
-
-/// Writes the line of the next packet.
-#[inline(always)]
-fn write_packet<'r, S: Sink>(
     rules: &'r Compiled,
     link: Option<Link>,
     octets: &[u8],

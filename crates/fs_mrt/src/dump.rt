@@ -59,9 +59,16 @@ impl Dump {
         })
     }
 
-    /// Whether `next` answers without a call to the outside: a record of a configured peer stands whole in what the slot
-    /// gives at once. No clause says when: it decides only when records leave.
+    /// Whether `next` answers without a wait: no read of the slot waits, or a record of a configured peer stands whole in
+    /// what the slot gives at once. No clause says when: it decides only when records leave.
+    #[inline(always)]
     pub fn is_at_hand<F: Files>(&self, config: &Config, files: &F) -> bool {
+        !files.waits(self.counted.slot) || self.is_heard_within(config, files)
+    }
+
+    /// Whether a record of a configured peer stands whole in what the slot gives at once.
+    #[inline(never)]
+    fn is_heard_within<F: Files>(&self, config: &Config, files: &F) -> bool {
         self.counted.back.is_empty()
             && is_heard_within(config.peers.as_slice(), files.at_hand(self.counted.slot))
     }

@@ -55,6 +55,15 @@ pub trait Files {
         ensures opened { opened self.new ≡ opened self.old }
         ensures others { OnlySlot tells left holds slot self.old self.new };
 
+    /// Whether a read of `slot` may wait for octets that are still to come, as one of a pipe or of a terminal may; one of a
+    /// file of the system doesn't. No clause says of which: it decides only when lines leave.
+    #[inline(always)]
+    fn waits(&self, slot: u8) -> bool
+        requires { slot ≤ 2 }
+    {
+        true
+    }
+
     /// What `slot` gives without a call to the outside: octets that `read` would give next, or none where that isn't
     /// known. No clause says which: it decides only when lines leave.
     #[inline(always)]

@@ -9,10 +9,11 @@ use std::alloc::Global;
 use std::io::{ErrorKind, Read, Write};
 use std::{fs, io, rt};
 
-/// The three slots and the faults so far.
+/// The three slots, which of them may wait in a read, and the faults so far.
 #[derive(Drop)]
 struct Slots<F: Read + Drop> {
     readers: [Option<Blocks<F>>; 3],
+    waits: [bool; 3],
     faults: u64,
 }
 
@@ -86,6 +87,7 @@ impl<'a, R: rt::Files> RealFiles<'a, R> {
     {
         let slots = Slots {
             readers: [None, None, None],
+            waits: [true; 3],
             faults: 0,
         };
         RealFiles {
@@ -111,6 +113,7 @@ impl<'a, R: rt::Files> Files for RealFiles<'a, R> {
     ghost faults = { real_files_faults };
 
     fn open_file(&mut self, slot: u8, name: &str) -> Result<bool, Failed> {
+        self.slots.waits[slot as usize] = !is_file(self.runtime, name);
         let opened = fs::open(self.runtime, name);
         self.slots.put(slot, opened, self.alloc)
     }
@@ -121,8 +124,21 @@ impl<'a, R: rt::Files> Files for RealFiles<'a, R> {
     }
 
     #[inline(always)]
+    fn waits(&self, slot: u8) -> bool {
+        self.slots.waits[slot as usize]
+    }
+
+    #[inline(always)]
     fn at_hand(&self, slot: u8) -> &[u8] {
         self.slots.at_hand(slot)
+    }
+}
+
+/// Whether the name is that of a file whose octets are all there.
+fn is_file<R: rt::Files>(runtime: &R, name: &str) -> bool {
+    match fs::metadata(runtime, name) {
+        Ok(shown) => shown.is_file(),
+        Err(_) => false,
     }
 }
 

@@ -8,7 +8,7 @@ use fs_base::{Address, Family};
 use std::fmt;
 
 /// All fields of a packet that a view tells.
-#[derive(Clone, Copy, Debug, PartialEq, Eq, Drop)]
+#[derive(Clone, Copy, PartialEq, Eq, Drop)]
 pub(crate) struct Told {
     family: Family,
     source: Address,
@@ -66,8 +66,23 @@ impl Eq for View<'_> {
     ghost laws = { on_equiv told_of laws-law };
 }
 
+/// Prints the fields that are compared.
 impl fmt::Debug for View<'_> {
     fn fmt<W: fmt::Write>(&self, f: &mut fmt::Formatter<W>) -> fmt::Result {
-        fmt::Debug::fmt(&fields_of(self), f)
+        f.debug_struct("View")
+            .field("family", &self.family())
+            .field("source", &self.source())
+            .field("destination", &self.destination())
+            .field("protocol", &self.protocol())
+            .field("icmp_type", &self.icmp_type())
+            .field("icmp_code", &self.icmp_code())
+            .field("source_port", &self.source_port())
+            .field("destination_port", &self.destination_port())
+            .field("tcp_octets", &self.tcp_octets())
+            .field("length", &self.length())
+            .field("dscp", &self.dscp())
+            .field("fragment", &self.fragment())
+            .field("flow_label", &self.flow_label())
+            .finish()
     }
 }
