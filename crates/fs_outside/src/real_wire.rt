@@ -10,8 +10,8 @@ use std::io::{ErrorKind, Read, Write};
 use std::net::{Net, OpenListener, OpenStream, Shutdown, TcpListener, TcpStream};
 use std::time::{Clock, Duration};
 
-/// So many seconds an end that closes waits for its peer to close too, and a write for room: a router may be slow to read
-/// what it was sent.
+/// So many seconds an end that closes waits for its peer to close too, and what is written at once for room: a router may be
+/// slow to read what it was sent.
 const PATIENCE: u64 = 180;
 
 /// An end that closes reads at most so many pieces of 4096 octets that its peer still sends.
@@ -26,7 +26,7 @@ const TYPE: usize = 18;
 /// The type of an UPDATE.
 const UPDATE: u8 = 2;
 
-/// Each piece leaves at once, and a write waits for room no longer than `PATIENCE`.
+/// Each piece leaves at once, and waits for room no longer than `PATIENCE`.
 fn prepare<S: OpenStream>(stream: &S) -> io::Result<()> {
     stream.set_nodelay(true)?;
     stream.set_write_timeout(Some(Duration::from_secs(PATIENCE)))
@@ -102,12 +102,13 @@ fn begins_update(piece: &[u8]) -> bool {
     TYPE < piece.len() && piece[TYPE] == UPDATE
 }
 
-/// An end that is open, and whether UPDATEs were written to it. All else that an end writes opens the session or answers
-/// what it has read, and is of no more use once its peer has gone.
+/// An end that is open, whether UPDATEs were written to it, and how long what is written next may still wait for room. All
+/// else that an end writes opens the session or answers what it has read, and is of no more use once its peer has gone.
 #[derive(Drop)]
 struct End<S: Read + Write + OpenStream + Drop> {
     stream: S,
     announced: bool,
+    rest: Duration,
 }
 
 impl<S: Read + Write + OpenStream + Drop> End<S> {
@@ -115,6 +116,7 @@ impl<S: Read + Write + OpenStream + Drop> End<S> {
         End {
             stream,
             announced: false,
+            rest: Duration::from_secs(PATIENCE),
         }
     }
 
@@ -128,15 +130,36 @@ impl<S: Read + Write + OpenStream + Drop> End<S> {
         }
     }
 
+    /// What is written next may wait for so long. None at all is refused.
+    fn grant(&mut self, rest: Duration) -> io::Result<()> {
+        if rest != self.rest {
+            self.rest = rest;
+            self.stream.set_write_timeout(Some(rest))?;
+        }
+        Ok(())
+    }
+
     /// What is written to a connection that was torn down is lost. Whether that matters shows at the closing: what the
-    /// peer said before may still be read.
-    fn write(&mut self, piece: &[u8]) -> io::Result<usize>
+    /// peer said before may still be read. A peer that takes a part of a piece has what is left of its time for the rest:
+    /// so one that reads little by little holds nobody for longer than one that reads nothing.
+    fn write<R: Clock>(&mut self, runtime: &R, piece: &[u8]) -> io::Result<usize>
         ensures { IfOk result (λ n. n ≤ length piece.now) }
     {
         self.announced = self.announced || begins_update(piece);
+        let begun = runtime.monotonic()?;
         match self.stream.write(piece) {
             Err(error) if is_torn_down(&error) => Ok(piece.len()),
-            written => written,
+            Err(error) => Err(error),
+            Ok(count) => {
+                let rest = if count < piece.len() {
+                    let spent = runtime.monotonic()?.saturating_sub(begun);
+                    self.rest.saturating_sub(spent)
+                } else {
+                    Duration::from_secs(PATIENCE)
+                };
+                self.grant(rest)?;
+                Ok(count)
+            }
         }
     }
 
@@ -210,7 +233,7 @@ impl<S: Read + Write + OpenStream + Drop> Streams<S> {
     }
 
     /// Hands the whole piece to the system, which takes what it has room for. An end that isn't open can't be written.
-    fn write(&mut self, end: u8, piece: &[u8]) -> Result<usize, Failed>
+    fn write<R: Clock>(&mut self, runtime: &R, end: u8, piece: &[u8]) -> Result<usize, Failed>
         requires { end ≤ 1 }
         ensures cause { HasCause self.old.faults self.new.faults result }
         ensures bound { IfOk result (λ n. n ≤ length piece.now) }
@@ -219,7 +242,7 @@ impl<S: Read + Write + OpenStream + Drop> Streams<S> {
         let Some(open) = &mut self.ends[end as usize] else {
             return Err(fault(&mut self.faults));
         };
-        match open.write(piece) {
+        match open.write(runtime, piece) {
             Ok(count) if 0 < count || piece.is_empty() => Ok(count),
             _ => Err(fault(&mut self.faults)),
         }
@@ -295,7 +318,7 @@ impl<'a, R: Net + Clock> Wire for RealWire<'a, R> {
     }
 
     fn write(&mut self, end: u8, piece: &[u8]) -> Result<usize, Failed> {
-        self.streams.write(end, piece)
+        self.streams.write(self.runtime, end, piece)
     }
 
     /// The peer's octets are read to its end, as long as it goes on, before the connection goes; not of joined ends.
