@@ -1,5 +1,5 @@
 -- The desk behind one more item of the tape.
-use Rattle.fs_desk.proofs.{Words.{◌≡◌, ◌==◌, ℕ, List, [], ◌∷◌, ◌++◌, Bool, true, false, not, ◌&&◌, cond, Option, Some, None, if◌then◌else◌, option_map, refl, ap, sym, ◌∙◌, subst, append-nil, arith, unwrap_or, IsSome, nat_tests, nat_cmp, is_eq, IsTotalOrder, nat_cmp_total, eq_by_cmp_equiv, IsStrictlySortedBy, remove_entry, set_value, keys_of, insert_entry, is_at, lookup-remove_entry, lookup-set_value, keys-set_value, IsDistinct-from_sorted, peer_of, Config, Peer, eq_itself, equal_of_eq, equal_of_is_eq, is_eq_of_nats, if_true, if_false, Noted, Held, Closed, fresh, Live, live, begins, Item, came_up, received, was_lost, bounds_life, begins_life, sent_in, life, Changes, nothing, IsListed, bounded_replies_from, IsLeft, Spares, IsUp, TakesPiece, Desked, session_at, PeerIs, StandsAs, HasExpired, PlayedBut, Played, Replied, RepliedBy, expired_after, lookup-insert_entry, sorted-insert_entry, sorted-remove_entry}, Life.{life-bound, life-more}, Follows.{follows_none, within_none}, Replying.{replied_none}, Updates.{left_nothing, left_spared, spares_none, spares_others}}
+use Rattle.fs_desk.proofs.{Words.{◌≡◌, ◌==◌, ℕ, List, [], ◌∷◌, ◌++◌, Bool, true, false, not, ◌&&◌, cond, Option, Some, None, if◌then◌else◌, option_map, refl, ap, sym, ◌∙◌, subst, append-nil, arith, unwrap_or, IsSome, nat_tests, nat_cmp, is_eq, IsTotalOrder, nat_cmp_total, eq_by_cmp_equiv, IsStrictlySortedBy, remove_entry, set_value, keys_of, insert_entry, is_at, lookup-remove_entry, lookup-set_value, keys-set_value, IsDistinct-from_sorted, peer_of, Config, Peer, eq_itself, equal_of_eq, equal_of_is_eq, is_eq_of_nats, if_true, if_false, Noted, Held, Closed, fresh, Live, live, begins, Item, came_up, received, was_lost, bounds_life, begins_life, sent_in, life, Changes, nothing, IsListed, bounded_replies_from, IsLeft, Spares, IsUp, TakesPiece, Desked, KeepsOthers, session_at, PeerIs, StandsAs, HasExpired, PlayedBut, Played, Replied, RepliedBy, expired_after, lookup-insert_entry, sorted-insert_entry, sorted-remove_entry}, Life.{life-bound, life-more}, Follows.{follows_none, within_none}, Replying.{replied_none}, Updates.{left_nothing, left_spared, spares_none, spares_others}}
 
 same_swapped : (m n : ℕ) (b : Bool) → (m == n) ≡ b → (n == m) ≡ b
 same_swapped m n b h = grind (arith, nat_tests, h)
@@ -407,3 +407,33 @@ pub desk_stays : {noted : Noted} {expired : ℕ → Bool} (config : Config) (ite
     → PlayedBut expired config items old → PlayedBut expired config items (record { config = own; held = table; changes = noted; sessions = sessions' })
 desk_stays {noted} {expired} config items own table sessions sessions' old e s p =
     subst (λ (d : Desked). PlayedBut expired config items d) (e ∙ ap (λ (z : List (ℕ × Live)). desk_of own table noted z) (sym s)) p
+
+-- the sessions of the other peers, where one is lost, begins, or goes on
+pub others_gone : {noted noted' : Noted} (n : ℕ) (own : Config) (table table' : Held) (sessions sessions' : List (ℕ × Live)) (old : Desked)
+    → old ≡ desk_of own table noted sessions → sessions' ≡ remove_entry (is_at (nat_cmp n)) sessions
+    → KeepsOthers n old (desk_of own table' noted' sessions')
+others_gone n own table table' sessions sessions' old e s = λ expired config items played number apart.
+    ap (session_at number) s
+    ∙ session_gone number n sessions (subst (λ (d : Desked). IsStrictlySortedBy nat_cmp (keys_of d.sessions)) e played.sessions)
+    ∙ if_false (number == n) None (session_at number sessions) apart
+    ∙ sym (ap (λ (d : Desked). session_at number d.sessions) e)
+
+pub others_put : {noted noted' : Noted} (n : ℕ) (session : Live) (own : Config) (table table' : Held) (sessions sessions' : List (ℕ × Live)) (old mid : Desked)
+    → mid ≡ desk_of own table noted sessions → sessions' ≡ insert_entry nat_cmp sessions n session
+    → KeepsOthers n old mid → KeepsOthers n old (desk_of own table' noted' sessions')
+others_put n session own table table' sessions sessions' old mid e s before = λ expired config items played number apart.
+    ap (session_at number) s ∙ session_put number n session sessions ∙ if_false (number == n) (Some session) (session_at number sessions) apart
+    ∙ sym (ap (λ (d : Desked). session_at number d.sessions) e) ∙ before expired config items played number apart
+
+pub others_set : {noted noted' : Noted} (n : ℕ) (session session' : Live) (own : Config) (table table' : Held) (sessions sessions' : List (ℕ × Live)) (old : Desked)
+    → old ≡ desk_of own table noted sessions → session_at n sessions ≡ Some session → sessions' ≡ set_value (is_at (nat_cmp n)) sessions session'
+    → KeepsOthers n old (desk_of own table' noted' sessions')
+others_set n session session' own table table' sessions sessions' old e there s = λ expired config items played number apart.
+    session_value number n session session' sessions sessions' there s
+    ∙ if_false (number == n) (Some session') (session_at number sessions) apart
+    ∙ sym (ap (λ (d : Desked). session_at number d.sessions) e)
+
+pub others_stay : {noted noted' : Noted} (n : ℕ) (own : Config) (table table' : Held) (sessions sessions' : List (ℕ × Live)) (old : Desked)
+    → old ≡ desk_of own table noted sessions → sessions' ≡ sessions → KeepsOthers n old (desk_of own table' noted' sessions')
+others_stay n own table table' sessions sessions' old e s = λ expired config items played number apart.
+    ap (session_at number) s ∙ sym (ap (λ (d : Desked). session_at number d.sessions) e)

@@ -12,4 +12,4 @@ pub use Rattle.fs_tape.specs.Tape.{Item, came_up, received, was_lost}
 pub use Rattle.fs_unicast.{proofs.PlaceOrder.{place_total}, specs.{Unicast.{Route, place_cmp}, declared.unicast.Place.{Place}}}
 pub use Rattle.fs_validate.specs.declared.route.FlowRoute.{FlowRoute}
 pub use Rattle.fs_rules.{proofs.Entries.{lookup-insert_entry, sorted-insert_entry, sorted-remove_entry}, specs.{Changes.{AdmitsElsewhere, Covers, Noted, is_to}, Table.{Held, has_route, held_count, is_key, put_route, without_peer, without_peer_flows, without_peer_unicast, without_route}}}
-pub use Rattle.fs_desk.specs.{Apply.{Announces, Changes, given_at, given_or, nothing, rules_given, rules_taken, same, taken_of, told, told_of}, Desk.{Desked, ExpiresPlayed, ExpiresSo, HandsPeer, HasExpired, HasHoldTime, IsHanded, LosesNothing, PeerIs, Played, PlayedBut, Replied, RepliedBy, StandsAs, TicksPeer, expired_after, expired_with, session_at, standing_at_desk, standing_but, standing_of}, Idle.{AreIdle, IdlesMessage, IdlesPiece, IdlesUpdate, IsIdle, KeepsAll, completed}, Leaves.{FlowKey, IsListed, Leaves, LeavesBut, counted, flow_at, flow_key, flow_key_cmp, given_of, nobody, unicast_at, updates_but, updates_of}, Life.{begins_life, bounds_life, life, sent_by, sent_in}, Limit.{bounded, bounded_from, bounded_replies_from, bounded_session, first_over, fronts, is_over, replies_to_limit, routes_left, too_many}, Receive.{AreWithin, Comes, Extends, Follows, HasReplied, HasRepliedMore, HasTaken, IsFed, IsLeft, IsOver, IsReplying, IsReplyingMore, IsUp, MessageComes, MessageTaken, PieceComes, RepliesMessage, RepliesTo, Spares, TakesMessage, TakesPiece, TakesUpdate, comes_to, point_of, said_in, wants_memory, with_updates}, Updates.{Given, flow_left, given_with, gives_at, is_prefix, is_rule, last_such, path_left, rule_given, same_prefix, tells_of, tells_of_rule, unicast_left}, Watched.{Tells, Watched}}
+pub use Rattle.fs_desk.specs.{Apply.{Announces, Changes, given_at, given_or, nothing, rules_given, rules_taken, same, taken_of, told, told_of}, Desk.{Desked, ExpiresPlayed, ExpiresSo, HandsPeer, HasExpired, HasHoldTime, IsHanded, KeepsOthers, LosesNothing, PeerIs, Played, PlayedBut, Replied, RepliedBy, StandsAs, TicksPeer, expired_after, expired_with, session_at, standing_at_desk, standing_but, standing_of}, Idle.{AreIdle, IdlesMessage, IdlesPiece, IdlesUpdate, IsIdle, KeepsAll, completed}, Leaves.{FlowKey, IsListed, Leaves, LeavesBut, counted, flow_at, flow_key, flow_key_cmp, given_of, nobody, unicast_at, updates_but, updates_of}, Life.{begins_life, bounds_life, life, sent_by, sent_in}, Limit.{bounded, bounded_from, bounded_replies_from, bounded_session, first_over, fronts, is_over, replies_to_limit, routes_left, too_many}, Receive.{AreWithin, Comes, Extends, Follows, HasReplied, HasRepliedMore, HasTaken, IsFed, IsLeft, IsOver, IsReplying, IsReplyingMore, IsUp, MessageComes, MessageTaken, PieceComes, RepliesMessage, RepliesTo, Spares, TakesMessage, TakesPiece, TakesUpdate, comes_to, point_of, said_in, wants_memory, with_updates}, Updates.{Given, flow_left, given_with, gives_at, is_prefix, is_rule, last_such, path_left, rule_given, same_prefix, tells_of, tells_of_rule, unicast_left}, Watched.{Tells, Watched}}

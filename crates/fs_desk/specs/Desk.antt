@@ -102,6 +102,12 @@ HandsPeer peer old new piece replies replies' =
     → session_at peer old.sessions ≡ Some session → session_at peer new.sessions ≡ Some session'
     → session'.closed ≡ None → IsHanded session session' piece replies replies'
 
+-- the sessions of the other peers stay as they are, after whatever was played before
+abbrev pub KeepsOthers : ℕ → Desked → Desked → Type 0
+KeepsOthers peer old new =
+    (expired : ℕ → Bool) (config : Config) (items : List Item) → PlayedBut expired config items old
+    → (number : ℕ) → (number == peer) ≡ false → session_at number new.sessions ≡ session_at number old.sessions
+
 -- how it stands with a peer behind these items: it is down without a life, and else the session of its life's octets
 -- tells
 abbrev pub standing_of : Config → List Item → ℕ → Standing

@@ -38,7 +38,7 @@ impl<'a> Model for Desk<'a> {
 impl<'a> Desk<'a> {
     ghost use Rattle.fs_base.specs.{declared.config.Config.{Config}, Config.{peer_of}};
     ghost use Rattle.fs_tape.specs.Tape.{Item, came_up, received, was_lost};
-    ghost use Rattle.fs_desk.specs.{Desk.{ExpiresPlayed, ExpiresSo, HandsPeer, IdlesOctets, IdlesTick, Notes, Played, PlayedBut, Plays, RepliesBehind, StaysPlayed, TicksPeer, session_at, standing_at_desk, standing_but}, Leaves.{LeavesBut}};
+    ghost use Rattle.fs_desk.specs.{Desk.{ExpiresPlayed, ExpiresSo, HandsPeer, IdlesOctets, IdlesTick, KeepsOthers, Notes, Played, PlayedBut, Plays, RepliesBehind, StaysPlayed, TicksPeer, session_at, standing_at_desk, standing_but}, Leaves.{LeavesBut}};
     ghost use Rattle.fs_rules.specs.Table.{held_count};
     ghost use Rattle.fs_speaker.specs.Session.{begins};
 
@@ -61,6 +61,7 @@ impl<'a> Desk<'a> {
         ensures played { OnOk result (Plays (came_up peer) self.old self.new) }
         ensures lost { OnErr result (Plays (was_lost peer) self.old self.new) }
         ensures begun { OnOk result (session_at peer self.new.sessions ≡ begins self.old.config peer) }
+        ensures others { OnOk result (KeepsOthers peer self.old self.new) }
         ensures config { self.new.config ≡ self.old.config }
         ensures told { OnOk result (Notes self.old self.new) }
         ensures idle { held_count peer self.old.held ≡ 0 → self.new.changes ≡ self.old.changes }
@@ -74,6 +75,7 @@ impl<'a> Desk<'a> {
     /// The peer is lost, and with it all that it held. It needs not be up. Where it held nothing, no change is noted.
     pub fn lost(&mut self, peer: u16)
         ensures played { Plays (was_lost peer) self.old self.new }
+        ensures others { KeepsOthers peer self.old self.new }
         ensures config { self.new.config ≡ self.old.config }
         ensures told { Notes self.old self.new }
         ensures idle { held_count peer self.old.held ≡ 0 → self.new.changes ≡ self.old.changes }
@@ -94,6 +96,7 @@ impl<'a> Desk<'a> {
         ensures replied { OnOk result (RepliesBehind peer self.old piece.now replies.old.items replies.new.items) }
         ensures handed { OnOk result
             (HandsPeer peer self.old self.new piece.now replies.old.items replies.new.items) }
+        ensures others { OnOk result (KeepsOthers peer self.old self.new) }
         ensures err { OnErr result (replies.new.items ≡ replies.old.items) }
         ensures config { self.new.config ≡ self.old.config }
         ensures told { OnOk result (Notes self.old self.new) }

@@ -1,4 +1,4 @@
-use Rattle.fs_desk.proofs.{Idle.{desk_notes_none}, Words.{Closed, Desked, IsSome, Option, refl, session_at, ◌∙◌, subst, ◌≡◌, BTreeMap, Held, List, Live, Watched, ap, ℕ, sym}, Handed.{desk_handed, desk_unhanded}, Played.{desk_fed, desk_skipped, desk_replied, desk_silent}, desk.Desk.octets.Goals.{in-Ok, in-Err}}
+use Rattle.fs_desk.proofs.{Idle.{desk_notes_none}, Words.{Closed, Desked, IsSome, Option, refl, session_at, ◌∙◌, subst, ◌≡◌, BTreeMap, Held, List, Live, Watched, ap, ℕ, sym}, Handed.{desk_handed, desk_unhanded}, Played.{desk_fed, desk_skipped, desk_replied, desk_silent, others_set, others_stay}, desk.Desk.octets.Goals.{in-Ok, in-Err}}
 use Rattle.fs_desk.proofs.desk.Desk.octets.Goals as goal
 
 -- a session that has closed stays as it is
@@ -68,3 +68,17 @@ returns-clause-idle c = elim c.match-receive.branch [
 
 pub returns-in_default-clause-idle : goal.returns-in_default-clause-idle
 returns-in_default-clause-idle c = λ idle loses. ap (λ (d : Desked). d.changes) c.self.view_is
+
+pub returns-clause-others : goal.returns-clause-others
+returns-clause-others c = elim c.match-receive.branch [
+  | in-Ok w ↦ rw w.result-is
+      (others_set c.args.peer c.in-Some.session.now c.receive.new.session c.self.inside.config.now c.self.inside.table.held c.receive.new.table.held
+      c.self.inside.sessions.entries _ c.args.self.now (sym c.self.view_is) (sym c.in-Some.ensures.value)
+      (c.get_mut.follows.holds c.receive.new.session).0)
+  | in-Err w ↦ rw w.result-is tt
+]
+
+pub returns-in_default-clause-others : goal.returns-in_default-clause-others
+returns-in_default-clause-others c =
+    others_stay c.args.peer c.self.inside.config.now c.self.inside.table.held c.self.inside.table.held c.self.inside.sessions.entries _ c.args.self.now
+    (sym c.self.view_is) (ap (λ (m : BTreeMap ℕ Live). m.entries) c.get_mut.follows.holds-at-none)

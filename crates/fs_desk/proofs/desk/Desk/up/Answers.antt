@@ -1,4 +1,4 @@
-use Rattle.fs_desk.proofs.{Words.{Result, Ok, Err, OnErr, ap, sym, ◌∙◌, Desked}, Played.{desk_begun, desk_up, desk_stays}}
+use Rattle.fs_desk.proofs.{Words.{Result, Ok, Err, OnErr, ap, sym, ◌∙◌, Desked}, Played.{desk_begun, desk_up, desk_stays, others_put}}
 use Rattle.fs_desk.proofs.desk.Desk.up.Goals as goal
 
 on_err : {T E P : Type 0} (result : Result T E) → P → OnErr result P
@@ -22,3 +22,8 @@ pub returns-clause-begun : goal.returns-clause-begun
 returns-clause-begun c =
     desk_begun c.args.peer c.in_ok-session.session c.self.inside.config.now c.args.self.now.config c.self.inside.sessions.entries c.insert.new.self.entries
     (ap (λ (d : Desked). d.config) c.self.view_is ∙ c.lost.ensures.config) c.in_ok-session.ensures c.in_ok-insert.ensures.entries
+
+pub returns-clause-others : goal.returns-clause-others
+returns-clause-others c =
+    others_put c.args.peer c.in_ok-session.session c.self.inside.config.now c.self.inside.table.held c.self.inside.table.held c.self.inside.sessions.entries c.insert.new.self.entries
+    c.args.self.now c.lost.new.self (sym c.self.view_is) c.in_ok-insert.ensures.entries c.lost.ensures.others
