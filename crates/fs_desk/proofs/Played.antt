@@ -409,31 +409,31 @@ desk_stays {noted} {expired} config items own table sessions sessions' old e s p
     subst (λ (d : Desked). PlayedBut expired config items d) (e ∙ ap (λ (z : List (ℕ × Live)). desk_of own table noted z) (sym s)) p
 
 -- the sessions of the other peers, where one is lost, begins, or goes on
-pub others_gone : {noted noted' : Noted} (n : ℕ) (own : Config) (table table' : Held) (sessions sessions' : List (ℕ × Live)) (old : Desked)
+pub others_gone : {noted : Noted} (noted' : Noted) (n : ℕ) (own : Config) (table table' : Held) (sessions sessions' : List (ℕ × Live)) (old : Desked)
     → old ≡ desk_of own table noted sessions → sessions' ≡ remove_entry (is_at (nat_cmp n)) sessions
     → KeepsOthers n old (desk_of own table' noted' sessions')
-others_gone n own table table' sessions sessions' old e s = λ expired config items played number apart.
+others_gone noted' n own table table' sessions sessions' old e s = λ expired config items played number apart.
     ap (session_at number) s
     ∙ session_gone number n sessions (subst (λ (d : Desked). IsStrictlySortedBy nat_cmp (keys_of d.sessions)) e played.sessions)
     ∙ if_false (number == n) None (session_at number sessions) apart
     ∙ sym (ap (λ (d : Desked). session_at number d.sessions) e)
 
-pub others_put : {noted noted' : Noted} (n : ℕ) (session : Live) (own : Config) (table table' : Held) (sessions sessions' : List (ℕ × Live)) (old mid : Desked)
+pub others_put : {noted : Noted} (noted' : Noted) (n : ℕ) (session : Live) (own : Config) (table table' : Held) (sessions sessions' : List (ℕ × Live)) (old mid : Desked)
     → mid ≡ desk_of own table noted sessions → sessions' ≡ insert_entry nat_cmp sessions n session
     → KeepsOthers n old mid → KeepsOthers n old (desk_of own table' noted' sessions')
-others_put n session own table table' sessions sessions' old mid e s before = λ expired config items played number apart.
+others_put noted' n session own table table' sessions sessions' old mid e s before = λ expired config items played number apart.
     ap (session_at number) s ∙ session_put number n session sessions ∙ if_false (number == n) (Some session) (session_at number sessions) apart
     ∙ sym (ap (λ (d : Desked). session_at number d.sessions) e) ∙ before expired config items played number apart
 
-pub others_set : {noted noted' : Noted} (n : ℕ) (session session' : Live) (own : Config) (table table' : Held) (sessions sessions' : List (ℕ × Live)) (old : Desked)
+pub others_set : {noted : Noted} (noted' : Noted) (n : ℕ) (session session' : Live) (own : Config) (table table' : Held) (sessions sessions' : List (ℕ × Live)) (old : Desked)
     → old ≡ desk_of own table noted sessions → session_at n sessions ≡ Some session → sessions' ≡ set_value (is_at (nat_cmp n)) sessions session'
     → KeepsOthers n old (desk_of own table' noted' sessions')
-others_set n session session' own table table' sessions sessions' old e there s = λ expired config items played number apart.
+others_set noted' n session session' own table table' sessions sessions' old e there s = λ expired config items played number apart.
     session_value number n session session' sessions sessions' there s
     ∙ if_false (number == n) (Some session') (session_at number sessions) apart
     ∙ sym (ap (λ (d : Desked). session_at number d.sessions) e)
 
-pub others_stay : {noted noted' : Noted} (n : ℕ) (own : Config) (table table' : Held) (sessions sessions' : List (ℕ × Live)) (old : Desked)
+pub others_stay : {noted : Noted} (noted' : Noted) (n : ℕ) (own : Config) (table table' : Held) (sessions sessions' : List (ℕ × Live)) (old : Desked)
     → old ≡ desk_of own table noted sessions → sessions' ≡ sessions → KeepsOthers n old (desk_of own table' noted' sessions')
-others_stay n own table table' sessions sessions' old e s = λ expired config items played number apart.
+others_stay noted' n own table table' sessions sessions' old e s = λ expired config items played number apart.
     ap (session_at number) s ∙ sym (ap (λ (d : Desked). session_at number d.sessions) e)

@@ -9,5 +9,5 @@ returns-clause-played c = λ expired config items played.
 
 pub returns-clause-others : goal.returns-clause-others
 returns-clause-others c =
-    others_gone c.args.peer c.self.inside.config.now c.self.inside.table.held c.lose.new.table.held c.self.inside.sessions.entries c.remove.new.self.entries c.args.self.now
+    others_gone c.lose.new.table.changes c.args.peer c.self.inside.config.now c.self.inside.table.held c.lose.new.table.held c.self.inside.sessions.entries c.remove.new.self.entries c.args.self.now
     (sym c.self.view_is) c.remove.ensures.entries

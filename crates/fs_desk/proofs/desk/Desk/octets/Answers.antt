@@ -72,7 +72,7 @@ returns-in_default-clause-idle c = λ idle loses. ap (λ (d : Desked). d.changes
 pub returns-clause-others : goal.returns-clause-others
 returns-clause-others c = elim c.match-receive.branch [
   | in-Ok w ↦ rw w.result-is
-      (others_set c.args.peer c.in-Some.session.now c.receive.new.session c.self.inside.config.now c.self.inside.table.held c.receive.new.table.held
+      (others_set c.receive.new.table.changes c.args.peer c.in-Some.session.now c.receive.new.session c.self.inside.config.now c.self.inside.table.held c.receive.new.table.held
       c.self.inside.sessions.entries _ c.args.self.now (sym c.self.view_is) (sym c.in-Some.ensures.value)
       (c.get_mut.follows.holds c.receive.new.session).0)
   | in-Err w ↦ rw w.result-is tt
@@ -80,5 +80,5 @@ returns-clause-others c = elim c.match-receive.branch [
 
 pub returns-in_default-clause-others : goal.returns-in_default-clause-others
 returns-in_default-clause-others c =
-    others_stay c.args.peer c.self.inside.config.now c.self.inside.table.held c.self.inside.table.held c.self.inside.sessions.entries _ c.args.self.now
+    others_stay c.self.inside.table.changes c.args.peer c.self.inside.config.now c.self.inside.table.held c.self.inside.table.held c.self.inside.sessions.entries _ c.args.self.now
     (sym c.self.view_is) (ap (λ (m : BTreeMap ℕ Live). m.entries) c.get_mut.follows.holds-at-none)

@@ -25,5 +25,5 @@ returns-clause-begun c =
 
 pub returns-clause-others : goal.returns-clause-others
 returns-clause-others c =
-    others_put c.args.peer c.in_ok-session.session c.self.inside.config.now c.self.inside.table.held c.self.inside.table.held c.self.inside.sessions.entries c.insert.new.self.entries
+    others_put c.self.inside.table.changes c.args.peer c.in_ok-session.session c.self.inside.config.now c.self.inside.table.held c.self.inside.table.held c.self.inside.sessions.entries c.insert.new.self.entries
     c.args.self.now c.lost.new.self (sym c.self.view_is) c.in_ok-insert.ensures.entries c.lost.ensures.others
