@@ -16,13 +16,11 @@ With --beside-rules one rule comes and goes N times in all, beside the rules: re
 
 import argparse
 import pathlib
-import re
-import subprocess
 import sys
 import tempfile
 
 import moments
-from timing import best_of
+from timing import best_of, instructions
 from wire import CONFIG, LOST, TAPE, announce, flow, peer, record, says, slash24, up, withdraw
 
 MOST_TIMES = 4      # what `changes` may take of what `rules` takes of a tape
@@ -68,13 +66,6 @@ def shapes_of(rules, items):
         yield name, moments.start(rules), moments.changes(items, 0, told), moments.changes(items, items, told)
     yield "of a peer", moments.start(rules), b"", b"".join(map(peer_in_turn, range(items)))
     yield "of a route under a destination", with_rules(rules), b"", changes_of(items)
-
-
-def instructions(words):
-    """What callgrind counts."""
-    command = ["valgrind", "--tool=callgrind", "--callgrind-out-file=/dev/null", *map(str, words)]
-    done = subprocess.run(command, stdout=subprocess.DEVNULL, stderr=subprocess.PIPE, text=True, check=True)
-    return int(re.search(r"Collected : (\d+)", done.stderr)[1])
 
 
 def cost_of(options, folder, front, few, many):

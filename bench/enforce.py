@@ -2,12 +2,13 @@
 """Times `enforce` on a made-up capture and reports packets per second and the peak of memory.
 
     bench/enforce.py PROGRAM [--mix ports|atk] [--packets N] [--rules N] [--runs N] [--keep DIR]
+    bench/enforce.py PROGRAM --instructions [--packets N] [--rules N]
 
 One peer announces 192.0.2.0/24 and flow rules under it, each for one destination port of TCP. Every other packet goes
 to the prefix, to a port that is drawn from twice as many as there are rules; the rest go elsewhere. With `--mix atk` the
 rules are for one host under attack: reflected UDP by source ports and length, SYN floods, ranges of ports, some by their
 source too. Half of the packets are drawn from rules, a quarter miss them by their source, and a quarter go elsewhere. The
-draw is the same in each run, so that results compare.
+draw is the same in each run, so that results compare. With `--instructions` it tells what callgrind counts for a packet.
 """
 
 import argparse
@@ -17,7 +18,7 @@ import struct
 import sys
 import tempfile
 
-from timing import best_of
+from timing import best_of, instructions
 from wire import CONFIG, TAPE, announce, flow, ipv4, packet, says, up, write_capture
 
 FIRST_PORT = 1000
@@ -101,6 +102,19 @@ def attacked(rules):
     return [flow(value) for value in matched], list(matched.values())
 
 
+def make(options, folder, packets):
+    """Writes configuration, tape and capture, and answers the command over them."""
+    (folder / "config").write_text(CONFIG)
+    if options.mix == "atk":
+        updates, matched = attacked(options.rules)
+        (folder / "tape").write_bytes(tape_of(updates))
+        write_capture(folder / "capture", attack_packets(packets, matched))
+    else:
+        (folder / "tape").write_bytes(tape(options.rules))
+        write_capture(folder / "capture", port_packets(packets, options.rules))
+    return [options.program.resolve(), "enforce", *(folder / name for name in ("config", "tape", "capture"))]
+
+
 def main():
     parser = argparse.ArgumentParser(description=__doc__.split("\n", 1)[0])
     parser.add_argument("program", type=pathlib.Path)
@@ -108,6 +122,7 @@ def main():
     parser.add_argument("--packets", type=int, default=1_000_000)
     parser.add_argument("--rules", type=int, default=100)
     parser.add_argument("--runs", type=int, default=3)
+    parser.add_argument("--instructions", action="store_true")
     parser.add_argument("--keep", type=pathlib.Path, help="make the files here and leave them")
     options = parser.parse_args()
     if not 1 <= options.rules <= 64000:
@@ -116,15 +131,13 @@ def main():
     with tempfile.TemporaryDirectory() as name:
         folder = options.keep or pathlib.Path(name)
         folder.mkdir(parents=True, exist_ok=True)
-        (folder / "config").write_text(CONFIG)
-        if options.mix == "atk":
-            updates, matched = attacked(options.rules)
-            (folder / "tape").write_bytes(tape_of(updates))
-            write_capture(folder / "capture", attack_packets(options.packets, matched))
-        else:
-            (folder / "tape").write_bytes(tape(options.rules))
-            write_capture(folder / "capture", port_packets(options.packets, options.rules))
-        words = [options.program.resolve(), "enforce", *(folder / name for name in ("config", "tape", "capture"))]
+        words = make(options, folder, options.packets)
+        if options.instructions:
+            many = instructions(words)
+            few = instructions(make(options, folder, options.packets // 2))
+            each = (many - few) / (options.packets - options.packets // 2)
+            print(f"rules {options.rules}, mix {options.mix}: {each:,.0f} instructions a packet")
+            return
         best, _, peak = best_of(options.runs, words, folder / "lines")
         text = (folder / "lines").read_bytes()
         size = os.path.getsize(folder / "capture")

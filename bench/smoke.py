@@ -25,6 +25,7 @@ RUNS = [
     ("convert.py --megabytes 1 --runs 1", []),
     ("enforce.py --packets 1000 --rules 10 --runs 1", []),
     ("enforce.py --mix atk --packets 1000 --rules 10 --runs 1", []),
+    ("enforce.py --instructions --packets 100 --rules 10", ["valgrind"]),
     ("gen.py --runs 1 100", []),
     ("hostile.py --runs 1 --scale 0.005 --only turn", []),
     ("hostile.py --runs 1 --scale 0.005 --only shadow", []),

@@ -2,6 +2,7 @@
 
 import math
 import os
+import re
 import resource
 import subprocess
 import tempfile
@@ -56,3 +57,10 @@ def best_of(runs, words, out=None, status=0):
             taken.append(run(words, file, status))
     clocks, processors, peaks = zip(*taken)
     return Spent(min(clocks), min(processors), max(peaks))
+
+
+def instructions(words):
+    """What callgrind counts: the same on a busy machine as on a quiet one."""
+    command = ["valgrind", "--tool=callgrind", "--callgrind-out-file=/dev/null", *map(str, words)]
+    done = subprocess.run(command, stdout=subprocess.DEVNULL, stderr=subprocess.PIPE, text=True, check=True)
+    return int(re.search(r"Collected : (\d+)", done.stderr)[1])
