@@ -3,8 +3,10 @@
 
 Each case has a port that was free, and checks what the program wrote, its status, and what reached the peer. A listing
 has to be that of `rules` on a tape of the same octets. The last line counts the cases, which run side by side for some
-three minutes: so long the program waits for a peer that never reads. With --quick that one is left out.
+three minutes: so long the program waits for a peer that doesn't read. With --quick those of such peers are left out. A
+program that runs for 400 seconds is ended, so all cases end soon after that.
 """
+import contextlib
 import pathlib
 import socket
 import struct
@@ -18,9 +20,10 @@ import wire
 from wire import KEEPALIVE, MARKER, ORIGIN, TAPE, UP, V4_RULES, frame, message, reach, record, update
 
 PROGRAM = str(pathlib.Path(sys.argv[1] if len(sys.argv) > 1 else "crates/welgutan/out/welgutan").resolve())
-PATIENCE = 400
+PATIENCE = 400      # seconds that a program may run
 CONFIG = "allow_no_destination = true\nhold_time = {}\n" + wire.CONFIG
-RULES = 'id = "198.51.100.1"\nas_path = [65001]\n'
+RULES = 'id = "198.51.100.1"\nas_path = [{}]\n'
+MANY = 60000        # rules of which the system can't keep all on the way, by their long paths
 CEASE = message(3, bytes([6, 2]))
 
 
@@ -48,13 +51,23 @@ class Run:
         path = pathlib.Path(self.folder.name)
         (path / "config").write_text(CONFIG.format(hold_time))
         said = [f'[[rule]]\nfamily = "v4"\nnlri = "070381110591{port:04x}"\n' for port in range(rules)]
-        (path / "rules").write_text(RULES + "".join(said))
+        hops = 255 if rules == MANY else 1
+        (path / "rules").write_text(RULES.format(", ".join(["65001"] * hops)) + "".join(said))
         self.process = subprocess.Popen([PROGRAM, *words], cwd=path, stdout=subprocess.PIPE, stdin=subprocess.DEVNULL)
+        self.limit = threading.Timer(PATIENCE, self.process.kill)
+        self.limit.start()
+
+    def __enter__(self):
+        return self
+
+    def __exit__(self, *_):
+        self.limit.cancel()
+        self.process.kill()
+        self.folder.cleanup()
 
     def end(self):
         """What it wrote, and its status."""
-        written, _ = self.process.communicate(timeout=PATIENCE)
-        self.folder.cleanup()
+        written, _ = self.process.communicate()
         return written.decode(), self.process.returncode
 
 
@@ -64,7 +77,7 @@ def listing(octets, hold_time=0):
         path = pathlib.Path(folder)
         (path / "config").write_text(CONFIG.format(hold_time))
         (path / "tape").write_bytes(TAPE + record(UP) + wire.says(octets))
-        run = subprocess.run([PROGRAM, "rules", "config", "tape"], cwd=path, capture_output=True, timeout=PATIENCE)
+        run = subprocess.run([PROGRAM, "rules", "config", "tape"], cwd=path, capture_output=True, timeout=60)
         return run.stdout.decode(), run.returncode
 
 
@@ -108,9 +121,9 @@ def heard(end, count=None):
 def listened(behave, hold_time=0, host="127.0.0.1", family=socket.AF_INET):
     """What the program says that listens, while the peer behaves so."""
     port = free_port(family, host)
-    run = Run(["listen", "config", f"[{host}]:{port}" if ":" in host else f"{host}:{port}"], hold_time)
-    behave(connect(port, host, family))
-    return run.end()
+    with Run(["listen", "config", f"[{host}]:{port}" if ":" in host else f"{host}:{port}"], hold_time) as run:
+        behave(connect(port, host, family))
+        return run.end()
 
 
 def announced(behave, rules=1, hold_time=0, stays=False):
@@ -118,9 +131,8 @@ def announced(behave, rules=1, hold_time=0, stays=False):
     with socket.create_server(("127.0.0.1", 0)) as server:
         server.settimeout(PATIENCE)
         server.setsockopt(socket.SOL_SOCKET, socket.SO_RCVBUF, 4096)  # so that the rules don't all fit on the way
-        run = Run(["announce", "config", "rules", f"127.0.0.1:{server.getsockname()[1]}"], hold_time, rules)
-        end, _ = server.accept()
-        with end:
+        address = f"127.0.0.1:{server.getsockname()[1]}"
+        with Run(["announce", "config", "rules", address], hold_time, rules) as run, server.accept()[0] as end:
             end.settimeout(PATIENCE)
             seen = behave(end)
             if not stays:
@@ -169,8 +181,19 @@ def slowly(end):
 
 
 def reads_nothing(end):
-    """Takes the session up, and reads nothing at all."""
+    """Takes the session up, and reads nothing at all. Answers when that was."""
     end.sendall(REPLY)
+    return time.monotonic()
+
+
+def sips(end):
+    """Takes the session up, and reads a few octets each 20 seconds until the case ends. Answers when that was."""
+    def sip():
+        with contextlib.suppress(OSError):
+            while end.recv(8):
+                time.sleep(20)
+    threading.Thread(target=sip, daemon=True).start()
+    return reads_nothing(end)
 
 
 def dripping(end):
@@ -207,20 +230,27 @@ def heard_last(octets):
     return behave
 
 
-def case_silent():
-    """A peer that is silent for longer than the hold time, and says something then (RFC 4271 section 6.5)."""
+def case_silent(late):
+    """A peer that is silent for longer than the hold time, and does this then (RFC 4271 section 6.5)."""
     def behave(end):
-        end.sendall(open_message(65001, 3) + KEEPALIVE)
+        end.sendall(open_message(65001, 3) + KEEPALIVE + UPDATES)
+        heard(end, 80)
         time.sleep(4)
-        end.sendall(KEEPALIVE)
-        heard(end)
+        late(end)
+        assert heard(end) == message(3, bytes([4, 0])), "no NOTIFICATION"
         end.close()
     return listened(behave, hold_time=3) == ("session 4/0\n", 8)
 
 
+def case_starved(behave):
+    """The program waits three minutes for room, and no longer if the system has taken a part of the message."""
+    outcome, begun = announced(behave, MANY, stays=True)
+    return outcome == ("", 1) and time.monotonic() - begun < 300
+
+
 def case_refused():
-    run = Run(["announce", "config", "rules", f"127.0.0.1:{free_port(socket.AF_INET, '127.0.0.1')}"])
-    return run.end() == ("", 1)
+    with Run(["announce", "config", "rules", f"127.0.0.1:{free_port(socket.AF_INET, '127.0.0.1')}"]) as run:
+        return run.end() == ("", 1)
 
 
 def case_keepalive_due():
@@ -243,11 +273,12 @@ CASES = {
         lambda: listened(says(HELLO + UPDATES, wait=False)) == listing(HELLO + UPDATES),
     "a close where a KEEPALIVE is due": case_keepalive_due,
     "IPv6": lambda: listened(says(HELLO + UPDATES, ends), host="::1", family=socket.AF_INET6) == listing(HELLO + UPDATES),
-    "a peer that is silent past the hold time": case_silent,
+    "a KEEPALIVE behind the hold time": lambda: case_silent(lambda end: end.sendall(KEEPALIVE)),
+    "the stream's end behind the hold time": lambda: case_silent(lambda end: end.shutdown(socket.SHUT_WR)),
     "nobody listens": case_refused,
     "3,000 rules to a peer that is slow": lambda: announced(slowly, 3000) == (("sent 3000\n", 0), 3000),
     "a peer that sends on behind the end": lambda: announced(dripping) == (("sent 1\n", 0), 1),
-    "a reset among the rules": lambda: announced(tears_down, 60000)[0] == ("", 1),
+    "a reset among the rules": lambda: announced(tears_down, MANY)[0] == ("", 1),
     "a reset in answer to the OPEN": lambda: announced(reset)[0] == ("session ended\n", 8),
     "a wrong AS": lambda: announced(refuses(65000))[0] == ("session notified 2/2\n", 8),
     "a wrong AS at both ends": lambda: announced(refuses(65009))[0] == ("session 2/2\n", 8),
@@ -256,9 +287,11 @@ CASES = {
 }
 
 
-# The system keeps all of these rules on the way.
+# The system keeps 3,000 rules on the way.
 LONG_CASES = {
     "3,000 rules to a peer that never reads": lambda: announced(reads_nothing, 3000, stays=True)[0] == ("sent 3000\n", 0),
+    "60,000 rules to a peer that never reads": lambda: case_starved(reads_nothing),
+    "60,000 rules to a peer that reads a few octets now and then": lambda: case_starved(sips),
 }
 
 
