@@ -1,5 +1,5 @@
 #!/usr/bin/env python3
-"""Gives the tools wrong captures, lines, listings, tapes, changes and reports, and looks how they end.
+"""Gives the tools wrong captures, lines, listings, tapes, changes, reports and dumps, and looks how they end.
 
     bench/fuzz.py [--seconds N] [--seed N] [--only K]
 
@@ -25,8 +25,9 @@ ROOT = pathlib.Path(__file__).resolve().parent.parent
 sys.path.append(str(ROOT / "tools"))
 
 import check_tools
+import convert
 
-VERDICTS, NFT = str(ROOT / "tools" / "verdicts.py"), str(ROOT / "tools" / "nft.py")
+VERDICTS, NFT, PEERS = (str(ROOT / "tools" / name) for name in ("verdicts.py", "nft.py", "peers.py"))
 MOST_MEMORY, MOST_SECONDS, PATIENCE = 300_000, 5, 120      # kilobytes, processor seconds, seconds
 STATUSES = (0, 1, 2, 3)
 
@@ -42,6 +43,8 @@ WAYS = [
     [VERDICTS, "--join", "LINES=CAPTURE", "LINES=CAPTURE"],
     [VERDICTS, "--sum", "REPORT", "REPORT"],
     [NFT, "eth0", "--check", "<RULES"],
+    [NFT, "--with-ends", "CONFIG", "<DUMP"],
+    [PEERS, "DUMP"],
 ]
 
 
@@ -54,10 +57,13 @@ def seeds(folder):
     rules = "peer 1 established\nv4 1 0801c00002038106 peer 1 actions 8006fde900000000\n"
     rules += "v4 invalid 03058150 peer 1 LeftAs\n"
     read = {name: (folder / f"moving.{name}").read_bytes() for name in ("pcap", "lines", "changes")}
+    dump = b"".join(convert.mrt(1, *told) for each in (1, 2)
+                    for told in ((4, each, convert.said(each)), (5, each, b"\0\6\0\1")))
     return {"CAPTURE": list(check_tools.FORMS.values()), "LINES": [check_tools.LINES.encode()],
             "LISTING": [check_tools.LISTING.encode()], "TAPE": [(check_tools.DATA / "sessions.tape").read_bytes()],
             "MOVING": [read["pcap"]], "MOVED": [read["lines"]], "CHANGES": [read["changes"]],
-            "REPORT": [report.encode()], "RULES": [rules.encode()]}
+            "REPORT": [report.encode()], "RULES": [rules.encode()], "DUMP": [dump],
+            "CONFIG": [convert.CONFIG.encode()]}
 
 
 def wrong(draw, octets):
@@ -92,6 +98,10 @@ def hard_ones():
     for kind in (1, 4, 6, 3, 0x0BAD):
         yield f"a block of kind {kind} that claims two gigabytes", 0, {"CAPTURE": block(kind, 2**31 - 4)}
     yield "a tape that doesn't end", 3, {"TAPE": "/dev/zero"}
+    endless = struct.pack(">IHHI", 1, 16, 4, 2**32 - 1) + bytes(100)
+    for way in 10, 11:
+        yield "a record that claims four gigabytes", way, {"DUMP": endless}
+    yield "a number of 5,000 digits in a configuration", 10, {"CONFIG": b"peer = [{ number = " + b"9" * 5000 + b" }]\n"}
 
 
 def run(folder, words):
