@@ -3,8 +3,8 @@
 
 Each case has a port that was free, and checks what the program wrote, its status, and what reached the peer. A listing
 has to be that of `rules` on a tape of the same octets. The last line counts the cases, which run side by side for some
-three minutes: so long the program waits for a peer that doesn't read. With --quick those of such peers are left out. A
-program that runs for 400 seconds is ended, so all cases end soon after that.
+three minutes: so long the program waits for a peer that doesn't read. With --quick the cases that take more than some
+seconds are left out. A program that runs for 400 seconds is ended, so all cases end soon after that.
 """
 import contextlib
 import pathlib
@@ -265,6 +265,21 @@ def case_keepalive_due():
     return listened(behave, hold_time=30) == listing(octets, 30)
 
 
+def case_regular():
+    """A peer that says a KEEPALIVE after each third of the hold time hears one each time (RFC 4271 section 4.4)."""
+    opening = open_message(65001, 60) + KEEPALIVE
+
+    def behave(end):
+        end.sendall(opening)
+        heard(end, 80)
+        for _ in range(4):
+            time.sleep(20.5)
+            end.sendall(KEEPALIVE)
+            assert heard(end, 19) == KEEPALIVE, "no KEEPALIVE"
+        ends(end)
+    return listened(behave, hold_time=60) == listing(opening, 60)
+
+
 CASES = {
     "rules, then the end of the stream": lambda: listened(says(HELLO + UPDATES, ends)) == listing(HELLO + UPDATES),
     "Cease, the program's KEEPALIVE unread": lambda: listened(says(HELLO + CEASE)) == ("session notified 6/2\n", 8),
@@ -289,6 +304,7 @@ CASES = {
 
 # The system keeps 3,000 rules on the way.
 LONG_CASES = {
+    "a KEEPALIVE after each third of the hold time": case_regular,
     "3,000 rules to a peer that never reads": lambda: announced(reads_nothing, 3000, stays=True)[0] == ("sent 3000\n", 0),
     "60,000 rules to a peer that never reads": lambda: case_starved(reads_nothing),
     "60,000 rules to a peer that reads a few octets now and then": lambda: case_starved(sips),
