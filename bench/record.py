@@ -2,14 +2,15 @@
 """record.py [PROGRAM] [CASE ..] or [PROGRAM] --measure [WHAT ..]: routers on loopback that PROGRAM records.
 
 They come and go in each way that a router may take, and keep what they said in each session. The tape has to say the
-same: of each router `up`, its octets and `lost`, again and again, at moments that don't fall. Its listing has to be that
-of a tape on which the routers say what they hold to have said. Other recorders are killed in a burst, write to a full
-disk, lack descriptors, have a clock that is set back, or can't begin.
+same: of each router `up`, its octets and `lost`, again and again, at moments that don't fall. Its listing has to be the
+one of a tape on which the routers say what they hold to have said. Other recorders are killed in a burst, write to a
+full disk, lack descriptors, have a clock that is set back, or can't begin.
 
 It judges what happens, and never how soon. The cases run side by side, for half a minute; the last line counts them.
 With --measure it tells what waiting, a rule, many rules and strangers take, for some ten minutes.
 """
 
+import contextlib
 import os
 import pathlib
 import resource
@@ -125,7 +126,7 @@ def ends_by(router, codes):
 
 
 def talks_on(router, over):
-    """Goes on behind the recorder's end, which lets the connection go after a while, and takes another one meanwhile."""
+    """Goes on behind the recorder's end, which lets the connection go after a while, and takes another meanwhile."""
     babbles_on = router.connect()
     babbles_on.sendall(GARBAGE)
     router.end = babbles_on
@@ -287,7 +288,7 @@ def floods(router):
 
 
 def judge_front(recorder, routers):
-    """The tape is a front of what the routers said: its records are whole, but for the last one, which readers take as cut."""
+    """The tape is a front of what the routers said. Its last record may be cut, which `rules` then says; whether it is."""
     lives, (_, is_cut) = recorder.lives(), recorder.items()
     for router in routers:
         for said, life in zip(router.lives, lives[router.peer.number]):
@@ -311,11 +312,17 @@ def case_killed(folder):
             judge_front(recorder, routers)
 
 
-def is_mounted(disk):
-    """A disk of 64 KiB, where one can be mounted."""
+@contextlib.contextmanager
+def small_disk(disk):
+    """A disk of 64 KiB, where one can be mounted; whether that is so."""
     disk.mkdir()
     words = ["mount", "-t", "tmpfs", "-o", "size=64k", "tmpfs", str(disk)]
-    return shutil.which("mount") and subprocess.run(words, capture_output=True).returncode == 0
+    is_mounted = bool(shutil.which("mount")) and subprocess.run(words, capture_output=True).returncode == 0
+    try:
+        yield is_mounted
+    finally:
+        if is_mounted:
+            subprocess.run(["umount", str(disk)], check=True)
 
 
 def limit_files():
@@ -326,21 +333,15 @@ def limit_files():
 
 def case_full(folder):
     """A disk that is full ends the recorder with 1; the tape is cut where it was full."""
-    disk = pathlib.Path(folder, "disk")
-    mounted = is_mounted(disk)
-    before = None if mounted else limit_files
-    with Recorder(folder, peers_of(1, 4), "127.0.4.254", output="disk/tape", before=before) as recorder:
-        try:
+    with small_disk(pathlib.Path(folder, "disk")) as is_small:
+        before = None if is_small else limit_files
+        with Recorder(folder, peers_of(1, 4), "127.0.4.254", output="disk/tape", before=before) as recorder:
             router, = recorder.routers()
             floods(router)
             if (status := recorder.process.wait(PATIENCE)) != 1:
                 raise Fault(f"a full disk has to end it with 1, and not with {status}")
             if not judge_front(recorder, [router]):
                 raise Fault("the tape isn't cut")
-        finally:
-            recorder.end(signal.SIGKILL)
-            if mounted:
-                subprocess.run(["umount", str(disk)], check=True)
 
 
 def status_of(folder, output, *words):
@@ -355,15 +356,16 @@ def case_refused(folder):
     (path / "wrong").write_text("local_as = 0\n")
     reader, writer = os.pipe()
     os.close(reader)
-    with socket.create_server(("127.0.5.254", 0)) as server, open("/dev/full", "wb") as full, open(writer, "wb") as closed:
-        none, used = subprocess.DEVNULL, f"127.0.5.254:{server.getsockname()[1]}"
+    server = socket.create_server(("127.0.5.254", 0))
+    none, used = subprocess.DEVNULL, f"127.0.5.254:{server.getsockname()[1]}"
+    with server, open("/dev/full", "wb") as full, open(writer, "wb") as closed:
         found = {
             "a configuration that isn't one": (status_of(folder, none, "wrong", used), 3),
             "no configuration": (status_of(folder, none, "nowhere", used), 1),
             "an address in use": (status_of(folder, none, "config", used), 1),
             "an address without a port": (status_of(folder, none, "config", "127.0.5.254"), 1),
             "a port that is none": (status_of(folder, none, "config", "127.0.5.254:65536"), 1),
-            "another machine's address": (status_of(folder, none, "config", "192.0.2.1:0"), 1),
+            "another machine's address": (status_of(folder, none, "config", "198.51.100.1:0"), 1),
             "a full disk": (status_of(folder, full, "config", "127.0.5.254:0"), 1),
             "an output that nobody reads": (status_of(folder, closed, "config", "127.0.5.254:0"), 1),
             "no address": (status_of(folder, none, "config"), 2),
@@ -418,7 +420,7 @@ int clock_gettime(clockid_t id, struct timespec *now) {
 
 
 def case_clock(folder):
-    """A clock that is set back: the tape's moment stands still until it is past it, and hold times go by another clock."""
+    """A clock that is set back: the tape's moments stand still until it is past them, and hold times go on."""
     path = pathlib.Path(folder)
     if not shutil.which("cc"):
         print("skipped, since cc is missing: a clock that is set back")
@@ -460,7 +462,7 @@ def beats(router, moments):
 
 
 def lives_on(router, count):
-    """A session of hold time 9 in which this router says KEEPALIVE only so many times, each 7.5 seconds; when it heard one."""
+    """A session of hold time 9 in which the router says so many KEEPALIVEs, each 7.5 seconds; when it heard one."""
     router.comes_up(hold_time=9)
     router.announces(1)
     moments = [time.monotonic()]
@@ -505,8 +507,16 @@ def case_keepalives(folder):
             raise Fault(f"the recorder's KEEPALIVEs come {max(gaps):.1f} seconds apart, where the hold time is 9")
 
 
-CASES = {"routers": case_routers, "replaced": case_replaced, "killed": case_killed, "full": case_full, "refused": case_refused,
-         "descriptors": case_few_descriptors, "clock": case_clock, "keepalives": case_keepalives}
+CASES = {
+    "routers": case_routers,
+    "replaced": case_replaced,
+    "killed": case_killed,
+    "full": case_full,
+    "refused": case_refused,
+    "descriptors": case_few_descriptors,
+    "clock": case_clock,
+    "keepalives": case_keepalives,
+}
 
 
 def tried(name, outcomes):

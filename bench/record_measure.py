@@ -1,7 +1,7 @@
 """What a recorder takes that waits, and that is told much: a part of `record.py`, which says what it is for.
 
-Times are by the clock, from a router's first octet to the last record in the file, but for those of the processor, which
-a busy machine changes less.
+Times are by the clock, from a router's first octet to the last record in the file, but for those of the processor: how
+long one worked for the recorder, and how long it was waited for because others had it.
 """
 
 import os
@@ -24,7 +24,8 @@ PATH = ORIGIN + attribute(2, struct.pack(">BBH", 2, 1, ASN), 0x40)
 
 
 def recorder_of(folder, count, hold_time=90):
-    return Recorder(folder, [Peer(number, f"127.1.1.{number}", ASN, 0) for number in range(1, count + 1)], "127.1.2.254", hold_time)
+    peers = [Peer(number, f"127.1.1.{number}", ASN, 0) for number in range(1, count + 1)]
+    return Recorder(folder, peers, "127.1.2.254", hold_time)
 
 
 def come_up(recorder):
@@ -71,7 +72,7 @@ def idle(folder):
             time.sleep(SECONDS)
             share = 100 * (spent(recorder)[0] - before) / SECONDS
             wakes = (told_of(recorder, "voluntary") - slept) / SECONDS
-            print(f"idle, {count} peers: {share:.2f} % of a processor, {wakes:.0f} wake-ups a second, {peak(recorder)} MB")
+            print(f"idle, {count} peers: {share:.2f} % of a processor, {wakes:.0f} wakes a second, {peak(recorder)} MB")
 
 
 def told_within(recorder, router, number):
@@ -96,8 +97,8 @@ def latency(folder):
                 time.sleep(random.uniform(0.02, 0.1))
                 taken.append(told_within(recorder, random.choice(routers), number))
         for name, told in zip(("its record in the file", "its record's moment"), map(sorted, zip(*taken))):
-            print(f"an UPDATE to {name}, {count} peers: p50 {told[TRIES // 2]:.1f}, p99 {told[TRIES * 99 // 100]:.1f}, most "
-                  f"{told[-1]:.1f} ms")
+            half, most = told[TRIES // 2], told[TRIES * 99 // 100]
+            print(f"an UPDATE to {name}, {count} peers: p50 {half:.1f}, p99 {most:.1f}, most {told[-1]:.1f} ms")
 
 
 def took(recorder, name, begun, before):
@@ -128,7 +129,8 @@ def one_tells(folder, name, octets):
 
 
 def rules(folder):
-    one_tells(folder, "100,000 rules", b"".join(announce(ASN, range(first, first + 200)) for first in range(0, 10**5, 200)))
+    updates = (announce(ASN, range(first, first + 200)) for first in range(0, 10**5, 200))
+    one_tells(folder, "100,000 rules", b"".join(updates))
 
 
 def routes(folder):
@@ -160,7 +162,7 @@ def strangers(folder):
                 end.sendall(b"hello")
         waits_for(lambda: recorder.descriptors() <= open_before, "no descriptor is left open")
         took(recorder, f"{STRANGERS} strangers", begun, before)
-        print(f"{recorder.descriptors()} descriptors behind them, {open_before} before; {len(recorder.items()[0])} records")
+        print(f"{open_before} descriptors before, {recorder.descriptors()} behind; {len(recorder.items()[0])} records")
 
 
 def mute(folder):
@@ -181,7 +183,15 @@ def mute(folder):
                 print(f"{words.pop(router)}: gone after {time.monotonic() - begun:.0f} s, by NOTIFICATION {ends}")
 
 
-WHAT = {"idle": idle, "latency": latency, "rules": rules, "routes": routes, "peers": peers, "strangers": strangers, "mute": mute}
+WHAT = {
+    "idle": idle,
+    "latency": latency,
+    "rules": rules,
+    "routes": routes,
+    "peers": peers,
+    "strangers": strangers,
+    "mute": mute,
+}
 
 
 def measure(chosen):

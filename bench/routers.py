@@ -101,7 +101,7 @@ class Router:
         return bool(came)
 
     def comes_up(self, hold_time=HOLD_TIME):
-        """A session that is established. As long as the recorder holds an earlier one it closes a further connection."""
+        """A session that is established. As long as the recorder holds an earlier one it closes further connections."""
         until = time.monotonic() + PATIENCE
         while time.monotonic() < until:
             self.begins()
@@ -193,7 +193,8 @@ class Recorder:
         (self.folder / "config").write_text(config_of(peers, hold_time))
         self.tape = self.folder / output
         self.before, self.environment = before, os.environ | (more or {})
-        waits_for(self.begins, "the recorder listens")
+        if not any(self.begins() for _ in range(10)):
+            raise Fault(f"the recorder doesn't listen, and ends with {self.process.returncode}")
 
     def __enter__(self):
         return self
@@ -252,7 +253,8 @@ class Recorder:
 
     def rules(self, tape):
         """What `rules` writes of a tape, and its status."""
-        run = subprocess.run([PROGRAM, "rules", "config", str(tape)], cwd=self.folder, capture_output=True, timeout=PATIENCE)
+        words = [PROGRAM, "rules", "config", str(tape)]
+        run = subprocess.run(words, cwd=self.folder, capture_output=True, timeout=PATIENCE)
         return run.stdout.decode(), run.returncode
 
     def descriptors(self):
@@ -271,25 +273,25 @@ def config_of(peers, hold_time):
 
 def judge_lives(router, lives, stays):
     """The sessions of a router on the tape are those that it had, and the last one goes on where it stays."""
-    name = f"peer {router.peer.number}"
-    if len(lives) != len(router.lives):
-        raise Fault(f"{name}: {len(lives)} sessions on the tape, and it had {len(router.lives)}")
+    name, last = f"peer {router.peer.number}", len(router.lives)
+    if len(lives) != last:
+        raise Fault(f"{name}: {len(lives)} sessions on the tape, and it had {last}")
     for number, (said, life) in enumerate(zip(router.lives, lives), 1):
         if life.octets != said:
-            raise Fault(f"{name}: in its session {number} it said {len(said)} octets, and the tape has {len(life.octets)} or others")
-        if life.is_lost == (stays and number == len(lives)):
-            raise Fault(f"{name}: its session {number} {'was' if life.is_lost else 'was not'} lost")
+            raise Fault(f"{name}, session {number}: {len(said)} octets were said, and {len(life.octets)} or others told")
+        if life.is_lost == (stays and number == last):
+            raise Fault(f"{name}, session {number}: it {'was' if life.is_lost else 'was not'} lost")
 
 
 def said_tape(routers, staying):
     """A tape on which the routers say what they hold to have said, one after the other."""
     tape = TAPE
     for router in routers:
-        number = router.peer.number
+        peer, lives = router.peer.number, []
         for said in router.lives:
-            tape += wire.record(UP, b"", number)
-            tape += b"".join(wire.says(said[at:at + 60000], number) for at in range(0, len(said), 60000))
-            tape += b"" if router in staying and said is router.lives[-1] else wire.record(LOST, b"", number)
+            parts = (wire.says(said[place:place + 60000], peer) for place in range(0, len(said), 60000))
+            lives.append(wire.record(UP, b"", peer) + b"".join(parts))
+        tape += wire.record(LOST, b"", peer).join(lives) + (b"" if router in staying else wire.record(LOST, b"", peer))
     return tape
 
 
@@ -306,7 +308,8 @@ def judge(recorder, routers, staying):
     said.write_bytes(said_tape(routers, staying))
     listed, wanted = recorder.rules(tape), recorder.rules(said)
     if listed != wanted:
-        pairs = zip(listed[0].splitlines() + [""], wanted[0].splitlines() + [""])
-        raise Fault(f"`rules` ends with {listed[1]}, and with {wanted[1]} of what was said: {next((a, b) for a, b in pairs if a != b)}")
+        pairs = zip(f"{listed[0]}{listed[1]}\n".splitlines(), f"{wanted[0]}{wanted[1]}\n".splitlines())
+        ours, theirs = next(pair for pair in pairs if pair[0] != pair[1])
+        raise Fault(f"`rules` says `{ours}`, and of what was said `{theirs}`")
     if listed[1] != 0 or listed[0].count("\n") <= len(routers) and staying:
         raise Fault(f"`rules` ends with {listed[1]}, and lists no rule")
