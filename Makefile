@@ -26,7 +26,7 @@ install:
 	install -m 755 tools/verdicts.py tools/nft.py $(SHARE)/tools
 	install -m 644 tools/captures.py $(SHARE)/tools
 	install -m 644 $(PACKAGE) $(SHARE)/tools/welgutan
-	install -m 644 tools/units/welgutan.service $(SHARE)/units
+	install -m 644 $(wildcard tools/units/*.service) $(SHARE)/units
 	install -m 644 tools/grafana/welgutan.json $(SHARE)/grafana
 	ln -sf ../share/welgutan/tools/verdicts.py $(BIN)/welgutan-verdicts
 	ln -sf ../share/welgutan/tools/nft.py $(BIN)/welgutan-nft

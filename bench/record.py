@@ -288,7 +288,7 @@ def floods(router):
 
 
 def judge_front(recorder, routers):
-    """The tape is a front of what the routers said. Its last record may be cut, which `rules` then says; whether it is."""
+    """The tape is a front of what the routers said. Its last record may be cut, as `rules` then says; whether so."""
     lives, (_, is_cut) = recorder.lives(), recorder.items()
     for router in routers:
         for said, life in zip(router.lives, lives[router.peer.number]):

@@ -536,7 +536,8 @@ def installed_names():
     docs += [f"docs/{path.name}" for path in (ROOT / "docs").iterdir() if path.suffix in (".md", ".svg")]
     return sorted([f"bin/{name}" for name in PAGES] + [f"share/man/man1/{name}.1" for name in PAGES]
                   + [f"share/welgutan/tools/{name}" for name in tools]
-                  + ["share/welgutan/units/welgutan.service", "share/welgutan/grafana/welgutan.json"]
+                  + [f"share/welgutan/units/{path.name}" for path in (ROOT / "tools" / "units").iterdir()]
+                  + ["share/welgutan/grafana/welgutan.json"]
                   + [f"share/doc/welgutan/{name}" for name in docs])
 
 
