@@ -23,12 +23,11 @@ import tempfile
 import threading
 import time
 
-import wire
 from draws import Peer
 from peer import CEASE, open_message, reset
 from plain_sessions import LOST, RECEIVED
-from routers import (HOLD_TIME, PATIENCE, PROGRAM, STRANGER, Fault, Recorder, announce, config_of, end_of, judge, note,
-                     waits_for, withdraw)
+from routers import (HOLD_TIME, PATIENCE, PROGRAM, STRANGER, Fault, Recorder, announce, config_of, end_of, judge,
+                     preloads, waits_for, withdraw)
 from wire import KEEPALIVE
 
 STRANGERS = 300
@@ -421,14 +420,11 @@ int clock_gettime(clockid_t id, struct timespec *now) {
 
 def case_clock(folder):
     """A clock that is set back: the tape's moments stand still until it is past them, and hold times go on."""
-    path = pathlib.Path(folder)
-    if not shutil.which("cc"):
+    more, back, used = preloads(folder, SET_BACK), pathlib.Path(folder, "back"), pathlib.Path(folder, "used")
+    if not more:
         print("skipped, since cc is missing: a clock that is set back")
         return
-    (path / "back.c").write_text(SET_BACK)
-    subprocess.run(["cc", "-shared", "-fPIC", "-o", "back.so", "back.c"], cwd=folder, check=True)
-    back, used = path / "back", path / "used"
-    more = {"LD_PRELOAD": str(path / "back.so"), "SET_BACK": str(back), "USED": str(used)}
+    more |= {"SET_BACK": str(back), "USED": str(used)}
     with Recorder(folder, peers_of(2, 7), "127.0.7.254", more=more) as recorder:
         router, silent = recorder.routers()
         router.comes_up()

@@ -15,17 +15,17 @@ import time
 from draws import Peer
 from load import dense_routes
 from peer import open_message
-from routers import STRANGER, Recorder, announce, end_of, judge, waits_for
-from wire import ORIGIN, attribute, message
+from routers import STRANGER, Recorder, announce, end_of, judge, preloads, waits_for
+from wire import KEEPALIVE, ORIGIN, attribute, message
 
 SECONDS, TRIES, STRANGERS = 20, 400, 3000
 ASN = 65001
 PATH = ORIGIN + attribute(2, struct.pack(">BBH", 2, 1, ASN), 0x40)
 
 
-def recorder_of(folder, count, hold_time=90):
+def recorder_of(folder, count, hold_time=90, more=None):
     peers = [Peer(number, f"127.1.1.{number}", ASN, 0) for number in range(1, count + 1)]
-    return Recorder(folder, peers, "127.1.2.254", hold_time)
+    return Recorder(folder, peers, "127.1.2.254", hold_time, more=more)
 
 
 def come_up(recorder):
@@ -183,6 +183,45 @@ def mute(folder):
                 print(f"{words.pop(router)}: gone after {time.monotonic() - begun:.0f} s, by NOTIFICATION {ends}")
 
 
+STOPPED = """
+#include <errno.h>
+#include <stdlib.h>
+#include <sys/syscall.h>
+#include <sys/types.h>
+#include <unistd.h>
+
+/* No connection takes anything where there is a file of the name STOPPED. */
+ssize_t send(int file, const void *octets, size_t count, int flags) {
+    if (access(getenv("STOPPED"), F_OK) == 0) {
+        errno = EAGAIN;
+        return -1;
+    }
+    return syscall(SYS_sendto, file, octets, count, flags, NULL, 0);
+}
+"""
+
+
+def stuck(folder):
+    """A connection that takes nothing any more: by a library, since of a router that doesn't read the system takes much."""
+    more, stopped = preloads(folder, STOPPED), pathlib.Path(folder, "stopped")
+    if not more:
+        print("skipped, since cc is missing: a connection that takes nothing")
+        return
+    with recorder_of(folder, 2, more=more | {"STOPPED": str(stopped)}) as recorder:
+        router, other = recorder.routers()
+        other.comes_up()
+        router.comes_up(hold_time=3)
+        stopped.touch()
+        begun = time.monotonic()
+        while not router.is_lost():
+            router.says(KEEPALIVE)
+            time.sleep(0.5)
+        print(f"a connection that takes nothing: gone after {time.monotonic() - begun:.0f} s")
+        stopped.unlink()
+        other.announces(1)
+        waits_for(other.is_recorded, "the other router goes on")
+
+
 WHAT = {
     "idle": idle,
     "latency": latency,
@@ -191,6 +230,7 @@ WHAT = {
     "peers": peers,
     "strangers": strangers,
     "mute": mute,
+    "stuck": stuck,
 }
 
 

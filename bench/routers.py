@@ -6,6 +6,7 @@ soon: a step may take PATIENCE.
 
 import os
 import pathlib
+import shutil
 import signal
 import socket
 import struct
@@ -261,6 +262,16 @@ class Recorder:
         return len(os.listdir(f"/proc/{self.process.pid}/fd"))
 
 
+def preloads(folder, source):
+    """What has the program take the functions of this C source for the system's; None where cc is missing."""
+    if not shutil.which("cc"):
+        return None
+    pathlib.Path(folder, "preloads.c").write_text(source)
+    library = pathlib.Path(folder, "preloads.so")
+    subprocess.run(["cc", "-shared", "-fPIC", "-o", library, "preloads.c"], cwd=folder, check=True)
+    return {"LD_PRELOAD": str(library)}
+
+
 def config_of(peers, hold_time):
     said = f"allow_no_destination = true\nhold_time = {hold_time}\n" + wire.HEAD
     for peer in peers:
@@ -278,7 +289,7 @@ def judge_lives(router, lives, stays):
         raise Fault(f"{name}: {len(lives)} sessions on the tape, and it had {last}")
     for number, (said, life) in enumerate(zip(router.lives, lives), 1):
         if life.octets != said:
-            raise Fault(f"{name}, session {number}: {len(said)} octets were said, and {len(life.octets)} or others told")
+            raise Fault(f"{name}, session {number}: {len(said)} octets were said, {len(life.octets)} or others told")
         if life.is_lost == (stays and number == last):
             raise Fault(f"{name}, session {number}: it {'was' if life.is_lost else 'was not'} lost")
 
