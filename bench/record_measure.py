@@ -202,7 +202,7 @@ ssize_t send(int file, const void *octets, size_t count, int flags) {
 
 
 def stuck(folder):
-    """A connection that takes nothing any more: by a library, since of a router that doesn't read the system takes much."""
+    """A connection that takes nothing any more: by a library, since the system takes much where nobody reads."""
     more, stopped = preloads(folder, STOPPED), pathlib.Path(folder, "stopped")
     if not more:
         print("skipped, since cc is missing: a connection that takes nothing")
