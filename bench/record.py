@@ -257,6 +257,7 @@ def case_routers(folder):
             router.announces(1000)
         waits_for(lambda: all(router.is_recorded() for router in stay), "all that was said is on the tape")
         waits_for(lambda: all(router.is_lost() for router in routers[len(STAYING):]), "all who went are lost")
+        waits_for(recorder.listens, "all strangers are turned away")
         waits_for(lambda: recorder.descriptors() <= before + len(stay), "no descriptor is left open")
         judge(recorder, routers, stay)
 
@@ -276,11 +277,29 @@ def case_replaced(folder):
         judge(recorder, [router], [router])
 
 
+def case_shared(folder):
+    """Two peers of one address: a connection is the first one's that has none, and a third is closed."""
+    first, second = peers_of(2, 9)
+    with Recorder(folder, [first, second._replace(address=first.address, asn=first.asn)], "127.0.9.254") as recorder:
+        routers = recorder.routers()
+        for number, router in enumerate(routers):
+            router.comes_up()
+            router.announces(number)
+        with recorder.connect(first.address) as third:
+            if third.recv(1):
+                raise Fault("a third connection is answered")
+        routers[0].goes()
+        routers[0].comes_up()
+        routers[0].announces(3)
+        waits_for(lambda: all(router.is_recorded() for router in routers), "all that was said is on the tape")
+        judge(recorder, routers, routers)
+
+
 def floods(router):
-    """Rules without an end, until the recorder goes."""
+    """Rules and rules, until the recorder goes."""
     try:
         router.comes_up()
-        for first in range(0, 10**7, 50):
+        for first in range(0, 2 * 10**5, 50):
             router.announces(*range(first, first + 50))
     except (Fault, OSError):
         pass
@@ -499,13 +518,14 @@ def case_keepalives(folder):
         recorder.end()
         joined([thread])
         gaps = [after - earlier for earlier, after in zip(moments, moments[1:])]
-        if not gaps or 9 < max(gaps):
-            raise Fault(f"the recorder's KEEPALIVEs come {max(gaps):.1f} seconds apart, where the hold time is 9")
+        if 9 < max(gaps) or len(gaps) <= 5:
+            raise Fault(f"{len(gaps) - 1} KEEPALIVEs come, up to {max(gaps):.1f} seconds apart; the hold time is 9")
 
 
 CASES = {
     "routers": case_routers,
     "replaced": case_replaced,
+    "shared": case_shared,
     "killed": case_killed,
     "full": case_full,
     "refused": case_refused,

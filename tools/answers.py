@@ -66,6 +66,12 @@ STATUSES = [
         "exactly where the dump has a fault; only of `convert`, whatever the files tell",
         "runs causes possible",
     ),
+    (
+        "1, 3, 6, 7 of `record`",
+        "1 only where the configuration isn't there, or a call on it, on the output or on the gate failed; 3 exactly where "
+        "it isn't accepted; 6 free; 7 where it is at the limit, or only behind it",
+        "possible causes",
+    ),
 ]
 
 # An answer of a layer, when it comes, and clauses: crate, call, names.
@@ -420,6 +426,12 @@ LEFT = [
         "any other",
         "the whole text that is defined for it",
         "runs",
+    ),
+    (
+        "1, 6, 7 of `record`",
+        "the tape of all events but the last, and a front of the last one's records; where the configuration isn't accepted "
+        "nothing, and the gate isn't used",
+        "records config_writes_nothing stopped_unused",
     ),
 ]
 

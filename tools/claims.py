@@ -429,18 +429,20 @@ def fields_of(crate, name):
 
 
 def promises():
-    """The fields of the record that a run of the program ensures."""
-    spec = read("crates", "fs_cli", "specs", "Program.antt").split("pub record Promises", 1)[1]
-    return set(re.findall(r"^  pub ([a-z_]+) :", spec, re.M))
+    """The fields of the records that a run of the program ensures, and a run of `record`."""
+    specs = (("Program.antt", "pub record Promises"), ("Live.antt", "pub record RecordPromises"))
+    found = (read("crates", "fs_cli", "specs", name).split(record, 1)[1] for name, record in specs)
+    return {field for spec in found for field in re.findall(r"^  pub ([a-z_]+) :", spec, re.M)}
 
 
 def of_promises(rows):
-    """Rows of a table: a status, what is said of it, and the fields of `Promises` that say so. Each has to be there."""
+    """Rows of a table: a status, what is said of it, and the fields of `Promises` and of `RecordPromises` that say so. Each
+    has to be there."""
     fields = promises()
     for status, said, names in rows:
         missing = set(names.split()) - fields
         if missing:
-            sys.exit(f"status {status}: no field {missing} of Promises")
+            sys.exit(f"status {status}: no field {missing} of Promises or RecordPromises")
         yield f"| {status} | {said} | {', '.join(f'`{name}`' for name in names.split())} |"
 
 
@@ -460,7 +462,7 @@ def of_clauses(rows, ensured):
 def answers(ensured):
     """The tables of answers, and of what stands after a refusal."""
     return [
-        "## Answers and their causes\n", "Of a run; the clauses are fields of `Promises`, which `PROMISES.md` tells:\n",
+        "## Answers and their causes\n", "Of a run; the clauses are fields of `Promises`, and of `record` of `RecordPromises`, which `PROMISES.md` tells:\n",
         "| status | comes | clauses |\n|---|---|---|", *of_promises(STATUSES), "",
         "Of the layers; `Memory` is free wherever it can be answered:\n",
         "| answer | comes | clauses |\n|---|---|---|", *of_clauses(ANSWERS, ensured), "",
