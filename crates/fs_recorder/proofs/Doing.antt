@@ -1,5 +1,5 @@
 -- Deeds, one after the other.
-use Rattle.fs_recorder.proofs.{Words.{ℕ, Bool, List, [], ◌∷◌, ◌++◌, Option, ◌≡◌, refl, ap, sym, subst, ◌∙◌, append-nil, append_assoc, AllByRecursion, Turn, said, shut, Grew, Grew-refl, Grew-trans, part_then, GrewPart, take, IsWritable, item_text, Item, timed, Two, expired_after, nobody, AgreesBut, Booked, Tells, TellsPart, BreaksOff, Deed, Did, Does, asked_in, items_of, leaves, says, sends, shuts, tells, text_at, told_at, Seat, was_lost, Result, Ok, Err, OnErr, OnOk, arith, length}, Telling.{told_on}}
+use Rattle.fs_recorder.proofs.{Words.{ℕ, Bool, List, [], ◌∷◌, ◌++◌, Option, ◌≡◌, refl, ap, sym, subst, ◌∙◌, append-nil, append_assoc, AllByRecursion, Turn, said, shut, Grew, Grew-refl, Grew-trans, part_more, part_then, GrewPart, take, IsWritable, item_text, Item, timed, Two, expired_after, nobody, AgreesBut, Booked, Tells, TellsPart, BreaksAt, Deed, Does, asked_in, items_of, leaves, says, sends, shuts, tells, text_at, told_at, Seat, was_lost, Result, Ok, Err, IfOk, OnErr, OnOk, arith, length}, Telling.{told_on}}
 
 pub items_both : (first later : List Deed) → items_of (first ++ later) ≡ items_of first ++ items_of later
 items_both [] later = refl
@@ -55,25 +55,45 @@ does_tell item old new turns before now told expired = record {
 
 -- a front of an item's record was written
 pub breaks_tell : (item : Item) (old : Booked) (turns : Option (List Turn)) (before now : Option (List ℕ)) → TellsPart item old before now
-    → BreaksOff old turns turns before now
+    → BreaksAt (tells item ∷ []) old turns turns before now
 breaks_tell item old turns before now part = record {
-  items = item ∷ [];
   writable = (part.writable, tt);
   part = (part.part.0, subst (λ text. Grew before now (take part.part.0 text)) (sym (append-nil (item_text Two (timed old.scribe.moment item)))) part.part.1);
   asked = [];
+  later = [];
+  front = refl;
   gate = Grew-refl turns;
 }
 
--- it was broken off before anything was written
-pub breaks_early : (old : Booked) (turns turns' : Option (List Turn)) (asked : List Turn) (written : Option (List ℕ)) → Grew turns turns' asked
-    → BreaksOff old turns turns' written written
-breaks_early old turns turns' asked written grew = record {
-  items = [];
-  writable = tt;
+-- it was broken off before anything was written or asked
+pub breaks_early : (deeds : List Deed) (old : Booked) (turns : Option (List Turn)) (written : Option (List ℕ))
+    → AllByRecursion (IsWritable old.desk.config) (items_of deeds) → BreaksAt deeds old turns turns written written
+breaks_early deeds old turns written writable = record {
+  writable = writable;
   part = (0, Grew-refl written);
-  asked = asked;
-  gate = grew;
+  asked = [];
+  later = asked_in deeds;
+  front = refl;
+  gate = Grew-refl turns;
 }
+
+-- what breaks off a step breaks off that step and another one
+pub breaks_more : (deeds more : List Deed) (old : Booked) (turns turns' : Option (List Turn)) (before now : Option (List ℕ))
+    → AllByRecursion (IsWritable old.desk.config) (items_of more) → BreaksAt deeds old turns turns' before now
+    → BreaksAt (deeds ++ more) old turns turns' before now
+breaks_more deeds more old turns turns' before now writable breaks =
+    let moment = old.scribe.moment in
+    let all : items_of (deeds ++ more) ≡ items_of deeds ++ items_of more = items_both deeds more in
+    record {
+      writable = subst (AllByRecursion (IsWritable old.desk.config)) (sym all)
+          (all_both (IsWritable old.desk.config) (items_of deeds) (items_of more) breaks.writable writable);
+      part = subst (GrewPart before now) (sym (ap (text_at moment) all ∙ text_both moment (items_of deeds) (items_of more)))
+          (part_more before now (text_at moment (items_of deeds)) (text_at moment (items_of more)) breaks.part);
+      asked = breaks.asked;
+      later = breaks.later ++ asked_in more;
+      front = sym (append_assoc breaks.asked breaks.later (asked_in more)) ∙ ap (λ turns. turns ++ asked_in more) breaks.front ∙ sym (asked_both deeds more);
+      gate = breaks.gate;
+    }
 
 module _ (expired expired1 : ℕ → Bool) (first : List Deed) (a b : Booked) (t t1 : Option (List Turn)) (w w1 : Option (List ℕ))
     (one : Does expired expired1 first a b t t1 w w1) where
@@ -101,17 +121,21 @@ module _ (expired expired1 : ℕ → Bool) (first : List Deed) (a b : Booked) (t
             (next.agrees config (told ++ told_at moment (items_of first)) (one.agrees config told agrees)));
       }
 
-  pub breaks_then : (t2 : Option (List Turn)) (w2 : Option (List ℕ)) → BreaksOff b t1 t2 w1 w2 → BreaksOff a t t2 w w2
-  breaks_then t2 w2 next =
+  pub breaks_then : (later : List Deed) (t2 : Option (List Turn)) (w2 : Option (List ℕ)) → BreaksAt later b t1 t2 w1 w2
+      → BreaksAt (first ++ later) a t t2 w w2
+  breaks_then later t2 w2 next =
       let moment = a.scribe.moment in
-      let part : GrewPart w1 w2 (text_at moment next.items) = subst (λ m. GrewPart w1 w2 (text_at m next.items)) one.moment_is next.part in
+      let all : items_of (first ++ later) ≡ items_of first ++ items_of later = items_both first later in
+      let part : GrewPart w1 w2 (text_at moment (items_of later)) = subst (λ m. GrewPart w1 w2 (text_at m (items_of later))) one.moment_is next.part in
       record {
-        items = items_of first ++ next.items;
-        writable = all_both (IsWritable a.desk.config) (items_of first) next.items one.writable
-            (subst (λ config. AllByRecursion (IsWritable config) next.items) one.config_is next.writable);
-        part = subst (GrewPart w w2) (sym (text_both moment (items_of first) next.items))
-            (part_then w w1 w2 (text_at moment (items_of first)) (text_at moment next.items) one.tape part);
+        writable = subst (AllByRecursion (IsWritable a.desk.config)) (sym all)
+            (all_both (IsWritable a.desk.config) (items_of first) (items_of later) one.writable
+            (subst (λ config. AllByRecursion (IsWritable config) (items_of later)) one.config_is next.writable));
+        part = subst (GrewPart w w2) (sym (ap (text_at moment) all ∙ text_both moment (items_of first) (items_of later)))
+            (part_then w w1 w2 (text_at moment (items_of first)) (text_at moment (items_of later)) one.tape part);
         asked = asked_in first ++ next.asked;
+        later = next.later;
+        front = append_assoc (asked_in first) next.asked next.later ∙ ap (λ turns. asked_in first ++ turns) next.front ∙ sym (asked_both first later);
         gate = Grew-trans t t1 t2 (asked_in first) next.asked one.gate next.gate;
       }
 
@@ -140,6 +164,24 @@ pub err_to : {T E : Type 0} {X Y : Type 0} (result : Result T E) → OnErr resul
 err_to (Ok value) x f = tt
 err_to (Err error) x f = f x
 
+pub ok_both : {T E : Type 0} {X Y Z : Type 0} (result : Result T E) → OnOk result X → OnOk result Y → (X → Y → Z) → OnOk result Z
+ok_both (Ok value) x y f = f x y
+ok_both (Err error) x y f = tt
+
+pub err_both : {T E : Type 0} {X Y Z : Type 0} (result : Result T E) → OnErr result X → OnErr result Y → (X → Y → Z) → OnErr result Z
+err_both (Ok value) x y f = tt
+err_both (Err error) x y f = f x y
+
+-- what three clauses say of a value
+pub ok_all : {T E : Type 0} {P Q R : T → Type 0} {X : Type 0} (result : Result T E) → IfOk result P → IfOk result Q → IfOk result R
+    → ((value : T) → P value → Q value → R value → X) → OnOk result X
+ok_all (Ok value) p q r f = f value p q r
+ok_all (Err error) p q r f = tt
+
+pub if_to : {T E : Type 0} {P Q : T → Type 0} (result : Result T E) → IfOk result P → ((value : T) → P value → Q value) → IfOk result Q
+if_to (Ok value) p f = f value p
+if_to (Err error) p f = tt
+
 -- a line is closed, and its peer lost
 module _ (seat : Seat) (old : Booked) (turns turns' : Option (List Turn)) (before now : Option (List ℕ)) (closed : Grew turns turns' (shut seat.line ∷ [])) where
   shutting : (expired : ℕ → Bool) → Does expired expired (shuts seat.line ∷ []) old old turns turns' before before
@@ -152,9 +194,9 @@ module _ (seat : Seat) (old : Booked) (turns turns' : Option (List Turn)) (befor
       (expired_after (was_lost seat.peer) expired) (tells (was_lost seat.peer) ∷ []) new turns' now
       (does_tell (was_lost seat.peer) old new turns' before now told expired)
 
-  pub breaks_leave : TellsPart (was_lost seat.peer) old before now → BreaksOff old turns turns' before now
+  pub breaks_leave : TellsPart (was_lost seat.peer) old before now → BreaksAt (leaves seat) old turns turns' before now
   breaks_leave part =
-      breaks_then nobody nobody (shuts seat.line ∷ []) old old turns turns' before before (shutting nobody) turns' now
+      breaks_then nobody nobody (shuts seat.line ∷ []) old old turns turns' before before (shutting nobody) (tells (was_lost seat.peer) ∷ []) turns' now
       (breaks_tell (was_lost seat.peer) old turns' before now part)
 
 -- a session's replies are sent, its line is closed, and its peer lost
@@ -171,11 +213,5 @@ module _ (seat : Seat) (replies : List ℕ) (old : Booked) (turns turns1 turns2 
       does_then expired expired (says seat.line replies) old old turns turns1 before before (saying expired)
       (expired_after (was_lost seat.peer) expired) (leaves seat) new turns2 now (left expired)
 
-  pub breaks_answer : BreaksOff old turns1 turns2 before now → BreaksOff old turns turns2 before now
-  breaks_answer breaks = breaks_then nobody nobody (says seat.line replies) old old turns turns1 before before (saying nobody) turns2 now breaks
-
--- one item was told, without the gate
-pub did_tell : (item : Item) (old new : Booked) (before now : Option (List ℕ)) → Tells item old new before now → (turns : Option (List Turn))
-    → Did old new turns turns before now
-did_tell item old new before now told turns =
-    record { deeds = tells item ∷ []; does = does_tell item old new turns before now told nobody }
+  pub breaks_answer : BreaksAt (leaves seat) old turns1 turns2 before now → BreaksAt (says seat.line replies ++ leaves seat) old turns turns2 before now
+  breaks_answer breaks = breaks_then nobody nobody (says seat.line replies) old old turns turns1 before before (saying nobody) (leaves seat) turns2 now breaks

@@ -1,5 +1,5 @@
 -- The clock at a session, and what is answered then.
-use Rattle.fs_recorder.proofs.{Words.{◌≡◌, ◌≢◌, ◌⊎◌, inl, inr, ℕ, ◌==◌, ◌&&◌, ◌||◌, not, Bool, true, false, List, [], ◌++◌, Option, Some, None, refl, ap, sym, subst, ◌∙◌, eqb-true, eq_itself, AllByRecursion, IsWritable, items_in, Turn, Config, Item, Timed, was_lost, Desked, PlayedBut, StaysPlayed, ExpiresPlayed, ExpiresSo, TicksPeer, expired_after, expired_with, session_at, standing_at_desk, nobody, StandsAs, peer_of, Agrees, AgreesBut, Booked, Deed, Did, Does, behind_answer, is_closed, items_of, told_at, Scribed}}
+use Rattle.fs_recorder.proofs.{Words.{◌≡◌, ◌≢◌, ◌⊎◌, inl, inr, ℕ, ◌==◌, ◌&&◌, ◌||◌, not, Bool, true, false, List, ◌++◌, Option, Some, None, refl, ap, sym, subst, ◌∙◌, eqb-true, eq_itself, AllByRecursion, IsWritable, items_in, Turn, Config, Item, Timed, was_lost, Desked, PlayedBut, StaysPlayed, ExpiresPlayed, ExpiresSo, TicksPeer, expired_after, expired_with, session_at, standing_at_desk, nobody, StandsAs, peer_of, Agrees, AgreesBut, Booked, Deed, Does, behind_answer, is_closed, items_of, told_at, Scribed}}
 use Rattle.std.proofs.Common.{if◌then◌else◌}
 use Rattle.fs_speaker.specs.{declared.{Closed.{Closed, TheVariants.{Fault}}, Standing.{Standing, TheVariants.{Ended, Live as LiveIn}}}, Session.{Live}, State.{standing_by}, Times.{at_moment, tick_at}}
 use Rattle.fs_session.specs.declared.times.Tick.{Tick, TheVariants.{Quiet, Keeps, Expires}}
@@ -56,7 +56,7 @@ tick_case peer time old new replies replies' ticks = by (session_at peer old.ses
         (subst (λ was. SameOrNot (standing_by (Some t.0)) (standing_by was)) (sym e) (of_session session t.0 session.closed refl t.1.0))
 
 -- behind the loss of the one peer whose session has expired, none has
-none_behind : (peer number : ℕ) → expired_after (was_lost peer) (expired_with peer nobody) number ≡ false
+pub none_behind : (peer number : ℕ) → expired_after (was_lost peer) (expired_with peer nobody) number ≡ false
 none_behind peer number = by (number == peer) refl
   where
     by : (b : Bool) → (number == peer) ≡ b → ((b || false) && not (peer == number)) ≡ false
@@ -64,7 +64,7 @@ none_behind peer number = by (number == peer) refl
     by false e = refl
 
 -- where the clock has closed no session
-expired_none : (expired : ℕ → Bool) (config : Config) (items : List Item) (desk : Desked) → PlayedBut expired config items desk
+pub expired_none : (expired : ℕ → Bool) (config : Config) (items : List Item) (desk : Desked) → PlayedBut expired config items desk
     → ((number : ℕ) → expired number ≡ false) → PlayedBut nobody config items desk
 expired_none expired config items desk p none = record {
   config_is = p.config_is;
@@ -148,13 +148,11 @@ module _ (peer time : ℕ) (lives : Bool) (deeds : List Deed) (old new : Booked)
       }
 
 -- so where tape and desk are seen as one
-pub woke : (peer time : ℕ) (lives : Bool) (deeds : List Deed) (old mid new : Booked) (replies replies' : List ℕ) (t t' : Option (List Turn)) (w w' : Option (List ℕ))
+pub does_woke : (peer time : ℕ) (lives : Bool) (deeds : List Deed) (old mid new : Booked) (replies replies' : List ℕ) (t t' : Option (List Turn)) (w w' : Option (List ℕ))
     → TicksPeer peer time old.desk mid.desk replies replies' → StaysPlayed peer old.desk mid.desk → ExpiresPlayed peer old.desk mid.desk
     → ExpiresSo peer old.desk mid.desk → mid.desk.config ≡ old.desk.config → mid.scribe ≡ old.scribe
     → is_closed (standing_at_desk mid.desk peer) ≡ not lives
-    → ((expired : ℕ → Bool) → Does expired (behind_answer lives peer expired) deeds mid new t t' w w') → Did old new t t' w w'
-woke peer time lives deeds old mid new replies replies' t t' w w' ticks stays expires so config_is scribe_is closes answers = record {
-  deeds = deeds;
-  does = does_wake peer time lives deeds old new mid.desk replies replies' t t' w w' ticks stays expires so config_is closes
-      (subst (λ (s : Scribed). (expired : ℕ → Bool) → Does expired (behind_answer lives peer expired) deeds (record { desk = mid.desk; scribe = s }) new t t' w w') scribe_is answers);
-}
+    → ((expired : ℕ → Bool) → Does expired (behind_answer lives peer expired) deeds mid new t t' w w') → Does nobody nobody deeds old new t t' w w'
+does_woke peer time lives deeds old mid new replies replies' t t' w w' ticks stays expires so config_is scribe_is closes answers =
+    does_wake peer time lives deeds old new mid.desk replies replies' t t' w w' ticks stays expires so config_is closes
+    (subst (λ (s : Scribed). (expired : ℕ → Bool) → Does expired (behind_answer lives peer expired) deeds (record { desk = mid.desk; scribe = s }) new t t' w w') scribe_is answers)

@@ -1,9 +1,9 @@
 -- What a recorder does: what it tells the tape, and what it asks of the gate.
 use Rattle.std.specs.{Prelude.{ℕ, List, [], ◌∷◌, ◌++◌, Bool, true, false, Option, IsSome, ◌≡◌, map, flat_map}, List.{AllByRecursion}}
-use Rattle.fs_base.specs.{Config.{peer_of}, Gate.{Turn, said, shut}, Sink.{Grew, GrewPart}, declared.config.Config.{Config}}
+use Rattle.fs_base.specs.{Config.{peer_of}, Gate.{Turn, said, shut}, Sink.{Grew}, declared.config.Config.{Config}}
 use Rattle.fs_tape.specs.{Laws.{IsWritable, item_text}, Tape.{Item, Timed, timed, was_lost}, declared.magic.Version.TheVariants.{Two}}
-use Rattle.fs_speaker.specs.declared.Standing.{Standing, TheVariants.{Ended}}
-use Rattle.fs_desk.specs.{Desk.{expired_after}, Leaves.{nobody}}
+use Rattle.fs_speaker.specs.declared.{Standing.{Standing, TheVariants.{Ended, Live}}, State.TheVariants.{Established}}
+use Rattle.fs_desk.specs.{Desk.{expired_after}}
 use Rattle.fs_recorder.specs.{Books.{AgreesBut, Booked}, Tapes.{passed}, declared.seats.Seat.{Seat}}
 
 -- An item is told, and written as a record at once; octets are sent through a line; a line is closed.
@@ -46,19 +46,6 @@ pub record Does (expired expired' : ℕ → Bool) (deeds : List Deed) (old new :
   pub agrees : (config : Config) (told : List Timed) → AgreesBut expired config told old
       → AgreesBut expired' config (told ++ told_at old.scribe.moment (items_of deeds)) new
 
--- some deeds, where the clock has left no closed session behind
-pub record Did (old new : Booked) (turns turns' : Option (List Turn)) (before now : Option (List ℕ)) : Type 0 where
-  pub deeds : List Deed
-  pub does : Does nobody nobody deeds old new turns turns' before now
-
--- It was broken off: a front of the records of some items was written, which fit the tape.
-pub record BreaksOff (old : Booked) (turns turns' : Option (List Turn)) (before now : Option (List ℕ)) : Type 0 where
-  pub items : List Item
-  pub writable : AllByRecursion (IsWritable old.desk.config) items
-  pub part : GrewPart before now (text_at old.scribe.moment items)
-  pub asked : List Turn
-  pub gate : Grew turns turns' asked
-
 -- a configured peer's
 abbrev pub IsKnown : Config → Seat → Type 0
 IsKnown config seat = IsSome (peer_of seat.peer config.peers)
@@ -80,10 +67,12 @@ abbrev pub answered : (lives : Bool) → Seat → List ℕ → List Deed
 answered true seat replies = says seat.line replies
 answered false seat replies = says seat.line replies ++ leaves seat
 
--- Tape and desk, the seats in the order in which they were taken, and what a session has just replied.
+-- Tape and desk, the seats in the order in which they were taken, when the clock was last heard of all, and what a session
+-- has just replied.
 pub record Recording : Type 0 where
   pub books : Booked
   pub seats : List Seat
+  pub swept : ℕ
   pub replies : List ℕ
 
 -- the clock on the wall says this moment
@@ -100,6 +89,10 @@ StayKnown old new = AreKnown old.books.desk.config old.seats → AreKnown new.bo
 abbrev pub is_closed : Standing → Bool
 is_closed (Ended why) = true
 is_closed _ = false
+
+abbrev pub stands_established : Standing → Bool
+stands_established (Live Established) = true
+stands_established _ = false
 
 -- who is expired behind an answer
 abbrev pub behind_answer : (lives : Bool) → ℕ → (ℕ → Bool) → ℕ → Bool

@@ -2,3 +2,6 @@ pub mod Tapes
 pub mod Books
 pub mod Seats
 pub mod Deeds
+pub mod Steps
+pub mod Works
+pub mod Laws

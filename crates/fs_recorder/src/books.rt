@@ -3,7 +3,8 @@
 ghost use Rattle.std.specs.{Prelude.{◌≡◌, ◌≤◌, [], IfOk, IsSome, OnOk, OnErr, drop, length}, Result.{IsErrOf}};
 ghost use Rattle.fs_base.specs.{Config.{peer_of}, Outside.{Rose}, Sink.{Grew, GrewPart}};
 ghost use Rattle.fs_tape.specs.{Magic.{magic_of}, Tape.{came_up, received, was_lost}, declared.magic.Version.TheVariants.{Two}};
-ghost use Rattle.fs_desk.specs.Desk.{ExpiresPlayed, ExpiresSo, RepliesBehind, StaysPlayed, TicksPeer, standing_at_desk};
+ghost use Rattle.fs_desk.specs.Desk.{ExpiresPlayed, ExpiresSo, HandsPeer, KeepsOthers, RepliesBehind, StaysPlayed, TicksPeer, session_at, standing_at_desk};
+ghost use Rattle.fs_speaker.specs.Session.{begins};
 ghost use Rattle.fs_recorder.specs.{Books.{Agrees, Tells, TellsPart}, Tapes.{begun, passed}};
 
 use crate::scribe::{HEAD_SIZE, Kind, Scribe};
@@ -86,6 +87,8 @@ impl<'a> Books<'a> {
         ensures failed { IsErrOf result Stop.Failed → Rose (S.faults sink.old) (S.faults sink.new) }
         ensures told { OnOk result
             (Tells (came_up peer) self.old self.new (S.written sink.old) (S.written sink.new)) }
+        ensures begun { OnOk result (session_at peer self.new.desk.sessions ≡ begins self.old.desk.config peer) }
+        ensures others { OnOk result (KeepsOthers peer self.old.desk self.new.desk) }
         ensures err { OnErr result
             (TellsPart (came_up peer) self.old (S.written sink.old) (S.written sink.new)) }
     {
@@ -106,6 +109,7 @@ impl<'a> Books<'a> {
         ensures failed { IsErrOf result Stop.Failed → Rose (S.faults sink.old) (S.faults sink.new) }
         ensures told { OnOk result
             (Tells (was_lost peer) self.old self.new (S.written sink.old) (S.written sink.new)) }
+        ensures others { OnOk result (KeepsOthers peer self.old.desk self.new.desk) }
         ensures err { OnErr result
             (TellsPart (was_lost peer) self.old (S.written sink.old) (S.written sink.new)) }
     {
@@ -136,6 +140,9 @@ impl<'a> Books<'a> {
             (Tells (received peer (drop 15 piece.old)) self.old self.new (S.written sink.old) (S.written sink.new)) }
         ensures err { OnErr result
             (TellsPart (received peer (drop 15 piece.old)) self.old (S.written sink.old) (S.written sink.new)) }
+        ensures handed { OnOk result (HandsPeer peer self.old.desk self.new.desk (drop 15 piece.old)
+            replies.old.items replies.new.items) }
+        ensures others { OnOk result (KeepsOthers peer self.old.desk self.new.desk) }
         ensures replied { OnOk result (RepliesBehind peer self.old.desk (drop 15 piece.old)
             replies.old.items replies.new.items) }
     {

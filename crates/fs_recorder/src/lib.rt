@@ -2,11 +2,13 @@
 #![tactic(auto)]
 
 mod books;
+mod laws;
 mod recorder;
 mod scribe;
 mod seats;
 mod stop;
 
+pub use laws::{alternates, reads_back_recorded, replays};
 pub use recorder::Recorder;
 pub use scribe::HEAD_SIZE;
 pub use stop::Stop;

@@ -1,10 +1,10 @@
 //! The sessions with all configured peers, each over a connection of its own, and the tape of what they say.
 
-ghost use Rattle.std.specs.{Prelude.{◌≡◌, ◌≤◌, ◌+◌, ℕ, Bool, List, Option, [], IfOk, IfSome, IsSome, OnOk, OnErr, drop, length, not}, Result.{IsErrOf}};
-ghost use Rattle.fs_base.specs.{Config.{peer_of}, Gate.{FitsIn, Turn}, Outside.{Rose}, Sink.{Grew, GrewPart}};
+ghost use Rattle.std.specs.{Prelude.{◌≡◌, ◌≤◌, ◌+◌, ℕ, Bool, true, false, [], IfOk, IfSome, IsSome, OnOk, OnErr, drop, length, not}, Result.{IsErrOf}};
+ghost use Rattle.fs_base.specs.{Config.{peer_of}, Gate.{FitsIn, what_from}, Outside.{Rose}, Sink.{Grew, GrewPart}};
 ghost use Rattle.fs_tape.specs.{Magic.{magic_of}, Tape.{was_lost}, declared.magic.Version.TheVariants.{Two}};
 ghost use Rattle.fs_desk.specs.Desk.{expired_after, standing_at_desk};
-ghost use Rattle.fs_recorder.specs.{Books.{Agrees, Tells, TellsPart}, Deeds.{AreKnown, BreaksOff, Did, Does, IsKnown, StayKnown, answered, asked_in, behind_answer, is_closed, leaves, passing, says}, Tapes.{begun}};
+ghost use Rattle.fs_recorder.specs.{Books.{Agrees, Tells, TellsPart}, Deeds.{AreKnown, Does, IsKnown, StayKnown, answered, asked_in, behind_answer, is_closed, leaves, passing, says, stands_established}, Steps.{checks, checks_peer, empty_station, ends, follows, hears, hears_octets, hurries_where_new, is_established, peer_for, peers_in, receives, replaces, seats_one, speaks, sweeps, sweeps_all, swept_after, takes, vacates, wakes}, Tapes.{begun}, Works.{BreaksAt, BreaksIn, BreaksQuietly, BreaksSo, DidAt, DidHear, DidQuietly, DidSeat, DidSo, Left, Settled, Stands, WakesSo}};
 
 use crate::books::Books;
 use crate::scribe::HEAD_SIZE;
@@ -41,7 +41,7 @@ impl<'a> Model for Recorder<'a> {
 
     ghost Value = { Recording };
 
-    ghost view = { λ r. record { books = r.books; seats = r.seats.items; replies = r.replies.items } };
+    ghost view = { λ r. record { books = r.books; seats = r.seats.items; swept = r.swept; replies = r.replies.items } };
 }
 
 impl<'a> Recorder<'a> {
@@ -62,6 +62,8 @@ impl<'a> Recorder<'a> {
         ensures begun { IfOk result (λ recorder. recorder.books.scribe ≡ begun limit) }
         ensures config { IfOk result (λ recorder. recorder.books.desk.config ≡ config.entry.now) }
         ensures empty { IfOk result (λ recorder. recorder.seats ≡ []) }
+        ensures stands { IfOk result (Stands empty_station) }
+        ensures swept { IfOk result (λ recorder. recorder.swept ≡ 0) }
         ensures written { OnOk result (Grew (S.written sink.old) (S.written sink.new) (magic_of Two)) }
         ensures err { OnErr result (GrewPart (S.written sink.old) (S.written sink.new) (magic_of Two)) }
     {
@@ -95,15 +97,22 @@ impl<'a> Recorder<'a> {
         ensures later { S.faults sink.old ≤ S.faults sink.new }
         ensures failed { IsErrOf result Stop.Failed → Rose (S.faults sink.old) (S.faults sink.new) }
         ensures size { length buffer.new ≡ length buffer.old }
-        ensures did { OnOk result (Did (passing event.moment self.old).books self.new.books
+        ensures did { OnOk result (DidHear (swept_after self.old.swept event.time)
+            (hears self.old.books.desk.config self.old.swept event.time (what_from event.came (drop 15 buffer.old)))
+            (passing event.moment self.old) self.new
             (G.turns gate.old) (G.turns gate.new) (S.written sink.old) (S.written sink.new)) }
         ensures stay { OnOk result (StayKnown (passing event.moment self.old) self.new) }
-        ensures breaks { OnErr result (BreaksOff (passing event.moment self.old).books
+        ensures breaks { OnErr result (BreaksSo (hears self.old.books.desk.config self.old.swept event.time (what_from event.came (drop 15 buffer.old)))
+            (passing event.moment self.old)
             (G.turns gate.old) (G.turns gate.new) (S.written sink.old) (S.written sink.new)) }
     {
         self.books.pass(event.moment);
         self.follow(event, buffer, gate, sink)?;
-        self.sweep_where_due(event.time, gate, sink)
+        if event.time.saturating_sub(self.swept) < SWEEP {
+            return Ok(());
+        }
+        self.swept = event.time;
+        self.sweep(event.time, gate, sink)
     }
 
     /// Does what an event calls for itself.
@@ -122,10 +131,10 @@ impl<'a> Recorder<'a> {
         ensures later { S.faults sink.old ≤ S.faults sink.new }
         ensures failed { IsErrOf result Stop.Failed → Rose (S.faults sink.old) (S.faults sink.new) }
         ensures size { length buffer.new ≡ length buffer.old }
-        ensures did { OnOk result (Did self.old.books self.new.books
+        ensures did { OnOk result (DidSo (follows self.old.books.desk.config event.time (what_from event.came (drop 15 buffer.old))) self.old self.new
             (G.turns gate.old) (G.turns gate.new) (S.written sink.old) (S.written sink.new)) }
         ensures stay { OnOk result (StayKnown self.old self.new) }
-        ensures breaks { OnErr result (BreaksOff self.old.books
+        ensures breaks { OnErr result (BreaksSo (follows self.old.books.desk.config event.time (what_from event.came (drop 15 buffer.old))) self.old
             (G.turns gate.old) (G.turns gate.new) (S.written sink.old) (S.written sink.new)) }
     {
         match event.came {
@@ -137,30 +146,6 @@ impl<'a> Recorder<'a> {
             Came::Ended { line } => self.end(line, sink),
             Came::Made { .. } | Came::Nothing => Ok(()),
         }
-    }
-
-    /// The clock of each session, where it wasn't heard for a while.
-    fn sweep_where_due<G: Gate, S: Sink>(
-        &mut self,
-        time: u64,
-        gate: &mut G,
-        sink: &mut S,
-    ) -> Result<(), Stop>
-        requires known { AreKnown self.old.books.desk.config self.old.seats }
-        ensures still { G.faults gate.new ≡ G.faults gate.old }
-        ensures later { S.faults sink.old ≤ S.faults sink.new }
-        ensures failed { IsErrOf result Stop.Failed → Rose (S.faults sink.old) (S.faults sink.new) }
-        ensures did { OnOk result (Did self.old.books self.new.books
-            (G.turns gate.old) (G.turns gate.new) (S.written sink.old) (S.written sink.new)) }
-        ensures stay { OnOk result (StayKnown self.old self.new) }
-        ensures breaks { OnErr result (BreaksOff self.old.books
-            (G.turns gate.old) (G.turns gate.new) (S.written sink.old) (S.written sink.new)) }
-    {
-        if time.saturating_sub(self.swept) < SWEEP {
-            return Ok(());
-        }
-        self.swept = time;
-        self.sweep(time, gate, sink)
     }
 
     /// A connection was taken: it speaks for the first configured peer of its address for which none speaks. Where there is
@@ -178,10 +163,10 @@ impl<'a> Recorder<'a> {
         ensures still { G.faults gate.new ≡ G.faults gate.old }
         ensures later { S.faults sink.old ≤ S.faults sink.new }
         ensures failed { IsErrOf result Stop.Failed → Rose (S.faults sink.old) (S.faults sink.new) }
-        ensures did { OnOk result (Did self.old.books self.new.books
+        ensures did { OnOk result (DidSo (takes self.old.books.desk.config line from time) self.old self.new
             (G.turns gate.old) (G.turns gate.new) (S.written sink.old) (S.written sink.new)) }
         ensures stay { OnOk result (StayKnown self.old self.new) }
-        ensures breaks { OnErr result (BreaksOff self.old.books
+        ensures breaks { OnErr result (BreaksSo (takes self.old.books.desk.config line from time) self.old
             (G.turns gate.old) (G.turns gate.new) (S.written sink.old) (S.written sink.new)) }
     {
         match self.peer_for(from) {
@@ -195,7 +180,8 @@ impl<'a> Recorder<'a> {
 
     /// The peer for which a connection from this address is to speak.
     fn peer_for(&self, from: Address) -> Option<u16>
-        ensures { IfSome result (λ peer. IsSome (peer_of peer self.now.books.desk.config.peers)) }
+        ensures found { result ≡ peer_for self.now.books.desk.config from self.now.seats }
+        ensures known { IfSome result (λ peer. IsSome (peer_of peer self.now.books.desk.config.peers)) }
     {
         let config = self.books.config();
         let peers = config.peers.as_slice();
@@ -222,10 +208,10 @@ impl<'a> Recorder<'a> {
         ensures still { G.faults gate.new ≡ G.faults gate.old }
         ensures later { S.faults sink.old ≤ S.faults sink.new }
         ensures failed { IsErrOf result Stop.Failed → Rose (S.faults sink.old) (S.faults sink.new) }
-        ensures did { OnOk result (Did self.old.books self.new.books
+        ensures did { OnOk result (DidSo (replaces line peer since) self.old self.new
             (G.turns gate.old) (G.turns gate.new) (S.written sink.old) (S.written sink.new)) }
         ensures stay { OnOk result (StayKnown self.old self.new) }
-        ensures breaks { OnErr result (BreaksOff self.old.books
+        ensures breaks { OnErr result (BreaksSo (replaces line peer since) self.old
             (G.turns gate.old) (G.turns gate.new) (S.written sink.old) (S.written sink.new)) }
     {
         self.vacate(peer, gate, sink)?;
@@ -243,10 +229,11 @@ impl<'a> Recorder<'a> {
         ensures still { G.faults gate.new ≡ G.faults gate.old }
         ensures later { S.faults sink.old ≤ S.faults sink.new }
         ensures failed { IsErrOf result Stop.Failed → Rose (S.faults sink.old) (S.faults sink.new) }
-        ensures did { OnOk result (Did self.old.books self.new.books
+        ensures did { OnOk result (DidSo (vacates peer) self.old self.new
             (G.turns gate.old) (G.turns gate.new) (S.written sink.old) (S.written sink.new)) }
+        ensures config { OnOk result (self.new.books.desk.config ≡ self.old.books.desk.config) }
         ensures stay { OnOk result (StayKnown self.old self.new) }
-        ensures breaks { OnErr result (BreaksOff self.old.books
+        ensures breaks { OnErr result (BreaksSo (vacates peer) self.old
             (G.turns gate.old) (G.turns gate.new) (S.written sink.old) (S.written sink.new)) }
     {
         match seat_for(&self.seats, peer) {
@@ -260,11 +247,9 @@ impl<'a> Recorder<'a> {
         requires { IsKnown self.old.books.desk.config seat }
         ensures later { S.faults sink.old ≤ S.faults sink.new }
         ensures failed { IsErrOf result Stop.Failed → Rose (S.faults sink.old) (S.faults sink.new) }
-        ensures did { OnOk result ((turns : Option (List Turn))
-            → Did self.old.books self.new.books turns turns (S.written sink.old) (S.written sink.new)) }
         ensures stay { OnOk result (StayKnown self.old self.new) }
-        ensures breaks { OnErr result ((turns : Option (List Turn))
-            → BreaksOff self.old.books turns turns (S.written sink.old) (S.written sink.new)) }
+        ensures did { OnOk result (DidSeat seat self.old self.new (S.written sink.old) (S.written sink.new)) }
+        ensures breaks { OnErr result (BreaksQuietly (seats_one seat) self.old (S.written sink.old) (S.written sink.new)) }
     {
         self.books.up(seat.peer, sink)?;
         add(&mut self.seats, seat)?;
@@ -286,7 +271,8 @@ impl<'a> Recorder<'a> {
             → Does expired (expired_after (was_lost seat.peer) expired) (leaves seat) self.old.books self.new.books
             (G.turns gate.old) (G.turns gate.new) (S.written sink.old) (S.written sink.new)) }
         ensures stay { OnOk result (StayKnown self.old self.new) }
-        ensures breaks { OnErr result (BreaksOff self.old.books
+        ensures left { OnOk result (Left seat self.old self.new) }
+        ensures breaks { OnErr result (BreaksAt (leaves seat) self.old.books
             (G.turns gate.old) (G.turns gate.new) (S.written sink.old) (S.written sink.new)) }
     {
         gate.close(seat.line);
@@ -303,6 +289,7 @@ impl<'a> Recorder<'a> {
         ensures stay { OnOk result (StayKnown self.old self.new) }
         ensures err { OnErr result
             (TellsPart (was_lost seat.peer) self.old.books (S.written sink.old) (S.written sink.new)) }
+        ensures left { OnOk result (Left seat self.old self.new) }
     {
         remove(&mut self.seats, seat.line);
         self.books.lost(seat.peer, sink)
@@ -313,11 +300,9 @@ impl<'a> Recorder<'a> {
         requires known { AreKnown self.old.books.desk.config self.old.seats }
         ensures later { S.faults sink.old ≤ S.faults sink.new }
         ensures failed { IsErrOf result Stop.Failed → Rose (S.faults sink.old) (S.faults sink.new) }
-        ensures did { OnOk result ((turns : Option (List Turn))
-            → Did self.old.books self.new.books turns turns (S.written sink.old) (S.written sink.new)) }
         ensures stay { OnOk result (StayKnown self.old self.new) }
-        ensures breaks { OnErr result ((turns : Option (List Turn))
-            → BreaksOff self.old.books turns turns (S.written sink.old) (S.written sink.new)) }
+        ensures did { OnOk result (DidQuietly (ends line) self.old self.new (S.written sink.old) (S.written sink.new)) }
+        ensures breaks { OnErr result (BreaksQuietly (ends line) self.old (S.written sink.old) (S.written sink.new)) }
     {
         match seat_of(&self.seats, line) {
             Some(seat) => self.lose(seat, sink),
@@ -340,10 +325,10 @@ impl<'a> Recorder<'a> {
         ensures still { G.faults gate.new ≡ G.faults gate.old }
         ensures later { S.faults sink.old ≤ S.faults sink.new }
         ensures failed { IsErrOf result Stop.Failed → Rose (S.faults sink.old) (S.faults sink.new) }
-        ensures did { OnOk result (Did self.old.books self.new.books
+        ensures did { OnOk result (DidSo (hears_octets self.old.books.desk.config line time (drop 15 piece.old)) self.old self.new
             (G.turns gate.old) (G.turns gate.new) (S.written sink.old) (S.written sink.new)) }
         ensures stay { OnOk result (StayKnown self.old self.new) }
-        ensures breaks { OnErr result (BreaksOff self.old.books
+        ensures breaks { OnErr result (BreaksSo (hears_octets self.old.books.desk.config line time (drop 15 piece.old)) self.old
             (G.turns gate.old) (G.turns gate.new) (S.written sink.old) (S.written sink.new)) }
     {
         match seat_of(&self.seats, line) {
@@ -367,10 +352,10 @@ impl<'a> Recorder<'a> {
         ensures still { G.faults gate.new ≡ G.faults gate.old }
         ensures later { S.faults sink.old ≤ S.faults sink.new }
         ensures failed { IsErrOf result Stop.Failed → Rose (S.faults sink.old) (S.faults sink.new) }
-        ensures did { OnOk result (Did self.old.books self.new.books
+        ensures did { OnOk result (DidAt seat (λ place. speaks self.old.books.desk.config time place (drop 15 piece.old)) self.old self.new
             (G.turns gate.old) (G.turns gate.new) (S.written sink.old) (S.written sink.new)) }
         ensures stay { OnOk result (StayKnown self.old self.new) }
-        ensures breaks { OnErr result (BreaksOff self.old.books
+        ensures breaks { OnErr result (BreaksIn seat (λ place. speaks self.old.books.desk.config time place (drop 15 piece.old)) self.old
             (G.turns gate.old) (G.turns gate.new) (S.written sink.old) (S.written sink.new)) }
     {
         let is_open = self.wake(seat, time, gate, sink)?;
@@ -394,10 +379,10 @@ impl<'a> Recorder<'a> {
         ensures still { G.faults gate.new ≡ G.faults gate.old }
         ensures later { S.faults sink.old ≤ S.faults sink.new }
         ensures failed { IsErrOf result Stop.Failed → Rose (S.faults sink.old) (S.faults sink.new) }
-        ensures did { OnOk result (Did self.old.books self.new.books
+        ensures did { OnOk result (DidAt seat (λ place. receives self.old.books.desk.config place (drop 15 piece.old)) self.old self.new
             (G.turns gate.old) (G.turns gate.new) (S.written sink.old) (S.written sink.new)) }
         ensures stay { OnOk result (StayKnown self.old self.new) }
-        ensures breaks { OnErr result (BreaksOff self.old.books
+        ensures breaks { OnErr result (BreaksIn seat (λ place. receives self.old.books.desk.config place (drop 15 piece.old)) self.old
             (G.turns gate.old) (G.turns gate.new) (S.written sink.old) (S.written sink.new)) }
     {
         self.replies.clear();
@@ -419,11 +404,13 @@ impl<'a> Recorder<'a> {
         ensures still { G.faults gate.new ≡ G.faults gate.old }
         ensures later { S.faults sink.old ≤ S.faults sink.new }
         ensures failed { IsErrOf result Stop.Failed → Rose (S.faults sink.old) (S.faults sink.new) }
-        ensures did { OnOk result (Did self.old.books self.new.books
+        ensures did { OnOk result (DidAt seat (wakes time) self.old self.new
             (G.turns gate.old) (G.turns gate.new) (S.written sink.old) (S.written sink.new)) }
         ensures stay { OnOk result (StayKnown self.old self.new) }
-        ensures breaks { OnErr result (BreaksOff self.old.books
+        ensures breaks { OnErr result (BreaksIn seat (wakes time) self.old
             (G.turns gate.old) (G.turns gate.new) (S.written sink.old) (S.written sink.new)) }
+        ensures lives { IfOk result (λ lives. WakesSo time seat self.old lives) }
+        ensures config { OnOk result (self.new.books.desk.config ≡ self.old.books.desk.config) }
     {
         self.replies.clear();
         self.books.tick(seat.peer, time, &mut self.replies)?;
@@ -447,7 +434,9 @@ impl<'a> Recorder<'a> {
             self.old.books self.new.books
             (G.turns gate.old) (G.turns gate.new) (S.written sink.old) (S.written sink.new)) }
         ensures stay { OnOk result (StayKnown self.old self.new) }
-        ensures breaks { OnErr result (BreaksOff self.old.books
+        ensures settled { IfOk result (λ lives. Settled lives seat self.old self.new) }
+        ensures shut { OnErr result (is_closed (standing_at_desk self.old.books.desk seat.peer) ≡ true) }
+        ensures breaks { OnErr result (BreaksAt (answered false seat self.old.replies) self.old.books
             (G.turns gate.old) (G.turns gate.new) (S.written sink.old) (S.written sink.new)) }
     {
         self.say(seat.line, gate);
@@ -476,10 +465,10 @@ impl<'a> Recorder<'a> {
         ensures still { G.faults gate.new ≡ G.faults gate.old }
         ensures later { S.faults sink.old ≤ S.faults sink.new }
         ensures failed { IsErrOf result Stop.Failed → Rose (S.faults sink.old) (S.faults sink.new) }
-        ensures did { OnOk result (Did self.old.books self.new.books
+        ensures did { OnOk result (DidSo (sweeps_all time) self.old self.new
             (G.turns gate.old) (G.turns gate.new) (S.written sink.old) (S.written sink.new)) }
         ensures stay { OnOk result (StayKnown self.old self.new) }
-        ensures breaks { OnErr result (BreaksOff self.old.books
+        ensures breaks { OnErr result (BreaksSo (sweeps_all time) self.old
             (G.turns gate.old) (G.turns gate.new) (S.written sink.old) (S.written sink.new)) }
     {
         let seats = self.seats.clone()?;
@@ -494,20 +483,44 @@ impl<'a> Recorder<'a> {
         gate: &mut G,
         sink: &mut S,
     ) -> Result<(), Stop>
-        requires { AreKnown self.old.books.desk.config seats.now }
+        requires known { AreKnown self.old.books.desk.config self.old.seats }
         ensures still { G.faults gate.new ≡ G.faults gate.old }
         ensures later { S.faults sink.old ≤ S.faults sink.new }
         ensures failed { IsErrOf result Stop.Failed → Rose (S.faults sink.old) (S.faults sink.new) }
-        ensures did { OnOk result (Did self.old.books self.new.books
+        ensures did { OnOk result (DidSo (sweeps time (peers_in seats.now)) self.old self.new
             (G.turns gate.old) (G.turns gate.new) (S.written sink.old) (S.written sink.new)) }
         ensures stay { OnOk result (StayKnown self.old self.new) }
-        ensures breaks { OnErr result (BreaksOff self.old.books
+        ensures breaks { OnErr result (BreaksSo (sweeps time (peers_in seats.now)) self.old
             (G.turns gate.old) (G.turns gate.new) (S.written sink.old) (S.written sink.new)) }
     {
         for seat in seats {
-            self.check(*seat, time, gate, sink)?;
+            self.check_peer(seat.peer, time, gate, sink)?;
         }
         Ok(())
+    }
+
+    /// The same of a peer, where a connection speaks for it.
+    fn check_peer<G: Gate, S: Sink>(
+        &mut self,
+        peer: u16,
+        time: u64,
+        gate: &mut G,
+        sink: &mut S,
+    ) -> Result<(), Stop>
+        requires known { AreKnown self.old.books.desk.config self.old.seats }
+        ensures still { G.faults gate.new ≡ G.faults gate.old }
+        ensures later { S.faults sink.old ≤ S.faults sink.new }
+        ensures failed { IsErrOf result Stop.Failed → Rose (S.faults sink.old) (S.faults sink.new) }
+        ensures did { OnOk result (DidSo (checks_peer time peer) self.old self.new
+            (G.turns gate.old) (G.turns gate.new) (S.written sink.old) (S.written sink.new)) }
+        ensures stay { OnOk result (StayKnown self.old self.new) }
+        ensures breaks { OnErr result (BreaksSo (checks_peer time peer) self.old
+            (G.turns gate.old) (G.turns gate.new) (S.written sink.old) (S.written sink.new)) }
+    {
+        match seat_for(&self.seats, peer) {
+            Some(seat) => self.check(seat, time, gate, sink),
+            None => Ok(()),
+        }
     }
 
     /// The clock of a seat's session, and the time that it has to be established.
@@ -522,14 +535,17 @@ impl<'a> Recorder<'a> {
         ensures still { G.faults gate.new ≡ G.faults gate.old }
         ensures later { S.faults sink.old ≤ S.faults sink.new }
         ensures failed { IsErrOf result Stop.Failed → Rose (S.faults sink.old) (S.faults sink.new) }
-        ensures did { OnOk result (Did self.old.books self.new.books
+        ensures did { OnOk result (DidAt seat (checks time) self.old self.new
             (G.turns gate.old) (G.turns gate.new) (S.written sink.old) (S.written sink.new)) }
         ensures stay { OnOk result (StayKnown self.old self.new) }
-        ensures breaks { OnErr result (BreaksOff self.old.books
+        ensures breaks { OnErr result (BreaksIn seat (checks time) self.old
             (G.turns gate.old) (G.turns gate.new) (S.written sink.old) (S.written sink.new)) }
     {
         let is_open = self.wake(seat, time, gate, sink)?;
-        if !is_open || time.saturating_sub(seat.since) < OPEN_TIME {
+        if !is_open {
+            return Ok(());
+        }
+        if time.saturating_sub(seat.since) < OPEN_TIME {
             return Ok(());
         }
         self.hurry(seat, gate, sink)
@@ -546,10 +562,10 @@ impl<'a> Recorder<'a> {
         ensures still { G.faults gate.new ≡ G.faults gate.old }
         ensures later { S.faults sink.old ≤ S.faults sink.new }
         ensures failed { IsErrOf result Stop.Failed → Rose (S.faults sink.old) (S.faults sink.new) }
-        ensures did { OnOk result (Did self.old.books self.new.books
+        ensures did { OnOk result (DidAt seat hurries_where_new self.old self.new
             (G.turns gate.old) (G.turns gate.new) (S.written sink.old) (S.written sink.new)) }
         ensures stay { OnOk result (StayKnown self.old self.new) }
-        ensures breaks { OnErr result (BreaksOff self.old.books
+        ensures breaks { OnErr result (BreaksIn seat hurries_where_new self.old
             (G.turns gate.old) (G.turns gate.new) (S.written sink.old) (S.written sink.new)) }
     {
         if is_established(self.books.standing(seat.peer)) {
@@ -571,7 +587,9 @@ fn is_closed(standing: Standing) -> bool
 }
 
 /// Whether a session is established.
-fn is_established(standing: Standing) -> bool {
+fn is_established(standing: Standing) -> bool
+    ensures { result ≡ stands_established standing }
+{
     match standing {
         Standing::Live(State::Established) => true,
         Standing::Live(_) | Standing::Ended(_) | Standing::Down => false,

@@ -8,3 +8,6 @@ returns-in_err-write-clause-err g c = on_err c.from_residual.result
 pub returns-clause-told : goal.returns-clause-told
 returns-clause-told g c = tells_as (was_lost c.args.peer) (record { desk = c.self.inside.desk; scribe = c.self.inside.scribe }) c.args.self.now _ _ _ c.self.view_is (c.ranges.peer.fits, c.requires) c.lost.ensures.played
     c.lost.ensures.config c.in_ok-write.ensures.longer c.in_ok-write.ensures.room c.in_ok-write.ensures.written
+
+pub returns-clause-others : goal.returns-clause-others
+returns-clause-others g c = rw (← c.self.view_is) c.lost.ensures.others

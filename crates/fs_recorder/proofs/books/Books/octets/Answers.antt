@@ -1,4 +1,4 @@
-use Rattle.fs_recorder.proofs.{Words.{ap, arith, drop, length, length-drop, on_err, part_whole, subst, ◌∙◌, ◌-◌, ◌≤◌, Plays, received, longer_by}, Telling.{part_as, payload_all, received_size, tells_as}}
+use Rattle.fs_recorder.proofs.{Words.{ap, arith, HandsPeer, RepliesBehind, drop, length, length-drop, on_err, part_whole, subst, ◌∙◌, ◌≤◌, Plays, received, longer_by}, Telling.{part_as, payload_all, received_size, tells_as}}
 use Rattle.fs_recorder.proofs.books.Books.octets.Goals as goal
 
 pub returns-in_err-write-clause-err : goal.returns-in_err-write-clause-err
@@ -19,3 +19,14 @@ returns-clause-told g c =
     tells_as (received c.args.peer (drop 15 c.args.piece.now)) (record { desk = c.self.inside.desk; scribe = c.self.inside.scribe }) c.args.self.now _ _ _ c.self.view_is ((c.ranges.peer.fits, c.requires.known), short) (subst (λ octets. Plays (received c.args.peer octets) c.self.inside.desk c.octets.new.self) (payload_all c.write.new.piece ∙ c.write.ensures.payload) c.in_ok-octets.ensures.played)
     c.octets.ensures.config (c.in_ok-write.ensures.longer
     ∙ ap (λ n. longer_by n c.self.inside.scribe) (received_size c.args.piece.now c.args.peer c.self.inside.scribe.moment c.requires.head)) c.in_ok-write.ensures.room c.in_ok-write.ensures.written
+
+pub returns-clause-handed : goal.returns-clause-handed
+returns-clause-handed g c = rw (← c.self.view_is)
+    (subst (λ octets. HandsPeer c.args.peer c.self.inside.desk c.octets.new.self octets c.args.replies.now.items c.octets.new.replies.items) (payload_all c.write.new.piece ∙ c.write.ensures.payload) c.in_ok-octets.ensures.handed)
+
+pub returns-clause-others : goal.returns-clause-others
+returns-clause-others g c = rw (← c.self.view_is) c.in_ok-octets.ensures.others
+
+pub returns-clause-replied : goal.returns-clause-replied
+returns-clause-replied g c = rw (← c.self.view_is)
+    (subst (λ octets. RepliesBehind c.args.peer c.self.inside.desk octets c.args.replies.now.items c.octets.new.replies.items) (payload_all c.write.new.piece ∙ c.write.ensures.payload) c.in_ok-octets.ensures.replied)

@@ -12,3 +12,6 @@ returns-in_err-up-clause-err g c = on_err c.from_residual-in_err-up.result
 pub returns-clause-told : goal.returns-clause-told
 returns-clause-told g c = tells_as (came_up c.args.peer) (record { desk = c.self.inside.desk; scribe = c.self.inside.scribe }) c.args.self.now _ _ _ c.self.view_is (c.ranges.peer.fits, c.requires) c.in_ok-up.ensures.played
     c.up.ensures.config c.in_ok-write.ensures.longer c.in_ok-write.ensures.room c.in_ok-write.ensures.written
+
+pub returns-clause-others : goal.returns-clause-others
+returns-clause-others g c = rw (← c.self.view_is) c.in_ok-up.ensures.others

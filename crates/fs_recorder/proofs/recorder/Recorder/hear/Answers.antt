@@ -1,14 +1,42 @@
-use Rattle.fs_recorder.proofs.{Words.{ap, subst, ◌∙◌, Booked, BreaksOff, Did, Recording, passing}, Doing.{err_to, ok_to}, Joining.{did_breaks, did_then}}
+use Rattle.fs_recorder.proofs.{Words.{drop, on_err, refl, subst, sym, true, ◌≡◌, AreKnown, Recording, passing}, Doing.{err_to, ok_to}, Sweeping.{breaks_due, breaks_follow, did_due, due_from, passed_as, short_what}}
+use Rattle.fs_base.specs.Gate.{what_from}
+use Rattle.fs_recorder.specs.{Steps.{follows, is_due, sweeps_all}, Works.{BreaksSo, DidSo}}
 use Rattle.fs_recorder.proofs.recorder.Recorder.hear.Goals as goal
 
+pub returns-in_err-follow-clause-breaks : goal.returns-in_err-follow-clause-breaks
+returns-in_err-follow-clause-breaks g c = on_err c.from_residual.result
+    (breaks_follow c.args.self.now.books.desk.config c.args.event.time (what_from c.args.event.came (drop 15 c.args.buffer.now)) (passing c.args.event.moment c.args.self.now) _ _ _ _ refl
+    (short_what c.args.event.came c.args.buffer.now c.requires.long)
+    (subst (λ (r : Recording). BreaksSo (follows r.books.desk.config c.args.event.time (what_from c.args.event.came (drop 15 c.args.buffer.now))) r (g.G.Gate.turns c.args.gate.now) (g.G.Gate.turns c.follow.new.gate) (g.S.Sink.written c.args.sink.now) (g.S.Sink.written c.follow.new.sink))
+    (passed_as c.args.event.moment _ c.args.self.now c.pass.new.self c.pass.ensures c.self.view_is)
+    c.in_err-follow.ensures.breaks))
+
 pub returns-clause-did : goal.returns-clause-did
-returns-clause-did g c = ok_to c.sweep_where_due.result c.sweep_where_due.ensures.did
-    (λ later. subst (λ (books : Booked). Did books c.sweep_where_due.new.self.books (g.G.Gate.turns c.args.gate.now) (g.G.Gate.turns c.sweep_where_due.new.gate) (g.S.Sink.written c.args.sink.now) (g.S.Sink.written c.sweep_where_due.new.sink))
-    (c.pass.ensures ∙ ap (λ (r : Recording). (passing c.args.event.moment r).books) c.self.view_is)
-    (did_then _ _ _ _ _ _ _ _ _ c.in_ok-follow.ensures.did later))
+returns-clause-did g c = ok_to c.sweep.result c.sweep.ensures.did
+    (λ later. did_due c.args.self.now.books.desk.config c.args.event.time (what_from c.args.event.came (drop 15 c.args.buffer.now)) (passing c.args.event.moment c.args.self.now) c.follow.new.self _ _ _ _ _ _ c.sweep.new.self
+    (subst (λ (r : Recording). is_due r.swept c.args.event.time ≡ true) c.self-2.view_is
+    (due_from c.self-2.inside.swept c.args.event.time c.saturating_sub.result c.saturating_sub.ensures c.if-saturating_sub-lt-SWEEP.false))
+    (subst (λ (r : Recording). DidSo (follows r.books.desk.config c.args.event.time (what_from c.args.event.came (drop 15 c.args.buffer.now))) r c.follow.new.self (g.G.Gate.turns c.args.gate.now) (g.G.Gate.turns c.follow.new.gate) (g.S.Sink.written c.args.sink.now) (g.S.Sink.written c.follow.new.sink))
+    (passed_as c.args.event.moment _ c.args.self.now c.pass.new.self c.pass.ensures c.self.view_is)
+    c.in_ok-follow.ensures.did)
+    (subst (λ (r : Recording). DidSo (sweeps_all c.args.event.time) (record r { swept = c.args.event.time }) c.sweep.new.self (g.G.Gate.turns c.follow.new.gate) (g.G.Gate.turns c.sweep.new.gate) (g.S.Sink.written c.follow.new.sink) (g.S.Sink.written c.sweep.new.sink))
+    c.self-2.view_is later))
+
+pub returns-clause-stay : goal.returns-clause-stay
+returns-clause-stay g c = ok_to c.sweep.result c.sweep.ensures.stay
+    (λ stay. λ known. stay
+    (subst (λ (r : Recording). AreKnown r.books.desk.config r.seats) (sym c.self-2.view_is)
+    (c.in_ok-follow.ensures.stay
+    (subst (λ (r : Recording). AreKnown r.books.desk.config r.seats)
+    (sym (passed_as c.args.event.moment _ c.args.self.now c.pass.new.self c.pass.ensures c.self.view_is)) known))))
 
 pub returns-clause-breaks : goal.returns-clause-breaks
-returns-clause-breaks g c = err_to c.sweep_where_due.result c.sweep_where_due.ensures.breaks
-    (λ breaks. subst (λ (books : Booked). BreaksOff books (g.G.Gate.turns c.args.gate.now) (g.G.Gate.turns c.sweep_where_due.new.gate) (g.S.Sink.written c.args.sink.now) (g.S.Sink.written c.sweep_where_due.new.sink))
-    (c.pass.ensures ∙ ap (λ (r : Recording). (passing c.args.event.moment r).books) c.self.view_is)
-    (did_breaks _ _ _ _ _ _ _ _ c.in_ok-follow.ensures.did breaks))
+returns-clause-breaks g c = err_to c.sweep.result c.sweep.ensures.breaks
+    (λ later. breaks_due c.args.self.now.books.desk.config c.args.event.time (what_from c.args.event.came (drop 15 c.args.buffer.now)) (passing c.args.event.moment c.args.self.now) c.follow.new.self _ _ _ _ _ _
+    (subst (λ (r : Recording). is_due r.swept c.args.event.time ≡ true) c.self-2.view_is
+    (due_from c.self-2.inside.swept c.args.event.time c.saturating_sub.result c.saturating_sub.ensures c.if-saturating_sub-lt-SWEEP.false))
+    (subst (λ (r : Recording). DidSo (follows r.books.desk.config c.args.event.time (what_from c.args.event.came (drop 15 c.args.buffer.now))) r c.follow.new.self (g.G.Gate.turns c.args.gate.now) (g.G.Gate.turns c.follow.new.gate) (g.S.Sink.written c.args.sink.now) (g.S.Sink.written c.follow.new.sink))
+    (passed_as c.args.event.moment _ c.args.self.now c.pass.new.self c.pass.ensures c.self.view_is)
+    c.in_ok-follow.ensures.did)
+    (subst (λ (r : Recording). BreaksSo (sweeps_all c.args.event.time) (record r { swept = c.args.event.time }) (g.G.Gate.turns c.follow.new.gate) (g.G.Gate.turns c.sweep.new.gate) (g.S.Sink.written c.follow.new.sink) (g.S.Sink.written c.sweep.new.sink))
+    c.self-2.view_is later))

@@ -1,4 +1,4 @@
-use Rattle.fs_recorder.proofs.{Words.{ap, subst, ◌∙◌, Recording, Tells, TellsPart, was_lost, without}, Doing.{err_to, ok_to}, Seating.{known_left}}
+use Rattle.fs_recorder.proofs.{Words.{◌≡◌, ap, subst, KeepsOthers, Plays, Booked, ◌∙◌, Recording, Tells, TellsPart, was_lost, without}, Doing.{err_to, ok_both, ok_to}, Seating.{known_left}}
 use Rattle.fs_recorder.proofs.recorder.Recorder.lose.Goals as goal
 
 pub returns-clause-told : goal.returns-clause-told
@@ -15,3 +15,14 @@ returns-clause-stay g c = ok_to c.lost.result c.lost.ensures.told
 pub returns-clause-err : goal.returns-clause-err
 returns-clause-err g c = err_to c.lost.result c.lost.ensures.err
     (λ part. subst (λ books. TellsPart (was_lost c.args.seat.peer) books (g.S.Sink.written c.args.sink.now) (g.S.Sink.written c.lost.new.sink)) (ap (λ (r : Recording). r.books) c.self.view_is) part)
+
+pub returns-clause-left : goal.returns-clause-left
+returns-clause-left g c =
+    let books : c.self.inside.books ≡ c.args.self.now.books = ap (λ (r : Recording). r.books) c.self.view_is in
+    ok_both c.lost.result c.lost.ensures.told c.lost.ensures.others
+    (λ told others. record {
+      plays = subst (λ (b : Booked). Plays (was_lost c.args.seat.peer) b.desk c.lost.new.self.desk) books told.plays;
+      seats_are = c.remove.ensures ∙ ap (λ (r : Recording). without c.args.seat.line r.seats) c.self.view_is;
+      others = subst (λ (b : Booked). KeepsOthers c.args.seat.peer b.desk c.lost.new.self.desk) books others;
+      swept_is = ap (λ (r : Recording). r.swept) c.self.view_is;
+    })

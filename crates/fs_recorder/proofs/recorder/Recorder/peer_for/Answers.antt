@@ -1,14 +1,14 @@
 use Rattle.fs_recorder.proofs.{Words.{ap, subst, sym, ◌∙◌, Config, IsSome, Recording, peer_of}, Seating.{found_peer}}
 use Rattle.fs_recorder.proofs.recorder.Recorder.peer_for.Goals as goal
 
-pub returns-in-Some : goal.returns-in-Some
-returns-in-Some c =
+pub returns-in-Some-clause-known : goal.returns-in-Some-clause-known
+returns-in-Some-clause-known c =
     subst (λ peers. IsSome (peer_of c.in-Some.peer.number peers))
     (c.as_slice-peers.ensures ∙ ap (λ (k : Config). k.peers) c.config-config.ensures ∙ ap (λ (r : Recording). r.books.desk.config.peers) c.self.view_is)
     (found_peer _ c.as_slice-peers.result.now c.in-Some.peer (sym c.free_peer.ensures ∙ c.in-Some.is))
 
-pub returns-in-Some-first_peer : goal.returns-in-Some-first_peer
-returns-in-Some-first_peer c =
+pub returns-in-Some-first_peer-clause-known : goal.returns-in-Some-first_peer-clause-known
+returns-in-Some-first_peer-clause-known c =
     subst (λ peers. IsSome (peer_of c.in-Some-first_peer.peer.number peers))
     (c.as_slice-peers.ensures ∙ ap (λ (k : Config). k.peers) c.config-config.ensures ∙ ap (λ (r : Recording). r.books.desk.config.peers) c.self.view_is)
     (found_peer _ c.as_slice-peers.result.now c.in-Some-first_peer.peer (sym c.first_peer.ensures ∙ c.in-Some-first_peer.is))

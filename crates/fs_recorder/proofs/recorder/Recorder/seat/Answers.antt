@@ -1,21 +1,26 @@
-use Rattle.fs_recorder.proofs.{Words.{ap, came_up, on_err, subst, ◌∙◌, ◌++◌, ◌∷◌, [], BreaksOff, Did, Recording, part_whole}, Doing.{breaks_tell, did_tell}, Seating.{known_added}}
+use Rattle.fs_recorder.proofs.{Words.{ap, on_err, subst, sym, ◌∙◌, ◌++◌, ◌∷◌, [], refl, part_whole, IsKnown, Recording}, Seating.{known_added}, Connecting.{breaks_seat, did_seat}}
+use Rattle.fs_recorder.specs.{Steps.{seats_one}, Works.{BreaksQuietly, DidSeat}}
 use Rattle.fs_recorder.proofs.recorder.Recorder.seat.Goals as goal
 
 pub returns-in_err-up-clause-breaks : goal.returns-in_err-up-clause-breaks
 returns-in_err-up-clause-breaks g c = on_err c.from_residual.result
-    (λ turns. subst (λ books. BreaksOff books turns turns (g.S.Sink.written c.args.sink.now) (g.S.Sink.written c.up.new.sink)) (ap (λ (r : Recording). r.books) c.self.view_is)
-    (breaks_tell _ _ turns _ _ c.in_err-up.ensures.err))
+    (subst (λ (r : Recording). BreaksQuietly (seats_one c.args.seat) r (g.S.Sink.written c.args.sink.now) (g.S.Sink.written c.up.new.sink)) c.self.view_is
+    (breaks_seat c.args.seat _ _ _ c.in_err-up.ensures.err))
 
 pub returns-in_err-add-clause-breaks : goal.returns-in_err-add-clause-breaks
 returns-in_err-add-clause-breaks g c = on_err c.from_residual-in_err-add.result
-    (λ turns. subst (λ books. BreaksOff books turns turns (g.S.Sink.written c.args.sink.now) (g.S.Sink.written c.up.new.sink)) (ap (λ (r : Recording). r.books) c.self.view_is)
-    (breaks_tell (came_up c.args.seat.peer) c.self.inside.books turns (g.S.Sink.written c.args.sink.now) (g.S.Sink.written c.up.new.sink)
+    (subst (λ (r : Recording). BreaksQuietly (seats_one c.args.seat) r (g.S.Sink.written c.args.sink.now) (g.S.Sink.written c.up.new.sink)) c.self.view_is
+    (breaks_seat c.args.seat _ _ _
     (record { writable = c.in_ok-up.ensures.told.writable; part = part_whole _ _ _ c.in_ok-up.ensures.told.grew })))
 
 pub returns-clause-did : goal.returns-clause-did
-returns-clause-did g c = λ turns.
-    subst (λ books. Did books c.up.new.self turns turns (g.S.Sink.written c.args.sink.now) (g.S.Sink.written c.up.new.sink)) (ap (λ (r : Recording). r.books) c.self.view_is)
-    (did_tell _ _ _ _ _ c.in_ok-up.ensures.told turns)
+returns-clause-did g c =
+    subst (λ (r : Recording). DidSeat c.args.seat r
+    (record { books = c.up.new.self; seats = c.add.new.seats.items; swept = c.self.inside.swept; replies = c.self.inside.replies.items })
+    (g.S.Sink.written c.args.sink.now) (g.S.Sink.written c.up.new.sink))
+    c.self.view_is
+    (did_seat c.args.seat _ _ _ _ c.in_ok-up.ensures.told c.in_ok-up.ensures.begun c.in_ok-up.ensures.others
+    (subst (λ (r : Recording). IsKnown r.books.desk.config c.args.seat) (sym c.self.view_is) c.requires) c.in_ok-add.ensures refl)
 
 pub returns-clause-stay : goal.returns-clause-stay
 returns-clause-stay g c = λ known.

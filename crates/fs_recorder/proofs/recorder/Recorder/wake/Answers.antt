@@ -1,19 +1,18 @@
-use Rattle.fs_recorder.proofs.{Words.{ap, on_err, subst, sym, [], AreKnown, BreaksOff, Did, Grew-refl, OnErr, OnOk, Recording}, Doing.{breaks_early, err_to, ok_to}, Joining.{both_to, breaks_before}, Waking.{woke}}
+use Rattle.fs_recorder.proofs.{Words.{ap, nobody, ◌∙◌, on_err, subst, sym, refl, AreKnown, Recording}, Doing.{err_both, if_to, ok_all, ok_to}, Stepping.{breaks_unwoken, breaks_woken, did_wake, wakes_so, woke_as}}
 use Rattle.fs_recorder.proofs.recorder.Recorder.wake.Goals as goal
 
 pub returns-in_err-tick-clause-breaks : goal.returns-in_err-tick-clause-breaks
 returns-in_err-tick-clause-breaks g c = on_err c.from_residual.result
-    (breaks_early c.args.self.now.books (g.G.Gate.turns c.args.gate.now) (g.G.Gate.turns c.args.gate.now) [] (g.S.Sink.written c.args.sink.now) (Grew-refl (g.G.Gate.turns c.args.gate.now)))
+    (breaks_unwoken c.args.time c.args.seat c.args.self.now (g.G.Gate.turns c.args.gate.now) (g.S.Sink.written c.args.sink.now))
 
 pub returns-clause-did : goal.returns-clause-did
 returns-clause-did g c =
-    subst (λ books. OnOk c.answer.result (Did books c.answer.new.self.books (g.G.Gate.turns c.args.gate.now) (g.G.Gate.turns c.answer.new.gate) (g.S.Sink.written c.args.sink.now) (g.S.Sink.written c.answer.new.sink)))
-    (ap (λ (r : Recording). r.books) c.self.view_is)
-    (both_to c.answer.result c.answer.ensures.closes c.answer.ensures.answers
-    (λ lives closes answers.
-    woke c.args.seat.peer c.args.time lives _ c.self.inside.books c.tick.new.self c.answer.new.self.books _ _ _ _ _ _
-    c.in_ok-tick.ensures.ticked c.in_ok-tick.ensures.played c.in_ok-tick.ensures.others c.in_ok-tick.ensures.expired
-    c.tick.ensures.config c.tick.ensures.scribe closes answers))
+    let mid : Recording = record { books = c.tick.new.self; seats = c.self.inside.seats.items; swept = c.self.inside.swept; replies = c.tick.new.replies.items } in
+    let woke = woke_as c.args.time c.args.seat.peer (record { books = c.self.inside.books; seats = c.self.inside.seats.items; swept = c.self.inside.swept; replies = c.self.inside.replies.items }) c.args.self.now mid c.clear.new.self.items c.self.view_is c.clear.ensures.items
+    c.in_ok-tick.ensures.ticked c.in_ok-tick.ensures.played c.in_ok-tick.ensures.others c.in_ok-tick.ensures.expired c.tick.ensures.config c.tick.ensures.scribe refl refl in
+    ok_all c.answer.result c.answer.ensures.closes c.answer.ensures.answers c.answer.ensures.settled
+    (λ lives closes answers settled. did_wake c.args.time c.args.seat lives c.args.self.now mid _ _ _ _ _ woke
+    (record { closes = closes; answers = answers; settled = settled }))
 
 pub returns-clause-stay : goal.returns-clause-stay
 returns-clause-stay g c = ok_to c.answer.result c.answer.ensures.stay
@@ -23,7 +22,21 @@ returns-clause-stay g c = ok_to c.answer.result c.answer.ensures.stay
 
 pub returns-clause-breaks : goal.returns-clause-breaks
 returns-clause-breaks g c =
-    subst (λ books. OnErr c.answer.result (BreaksOff books (g.G.Gate.turns c.args.gate.now) (g.G.Gate.turns c.answer.new.gate) (g.S.Sink.written c.args.sink.now) (g.S.Sink.written c.answer.new.sink)))
-    (ap (λ (r : Recording). r.books) c.self.view_is)
-    (err_to c.answer.result c.answer.ensures.breaks
-    (λ breaks. breaks_before c.self.inside.books c.tick.new.self _ _ _ _ c.tick.ensures.scribe c.tick.ensures.config breaks))
+    let mid : Recording = record { books = c.tick.new.self; seats = c.self.inside.seats.items; swept = c.self.inside.swept; replies = c.tick.new.replies.items } in
+    let woke = woke_as c.args.time c.args.seat.peer (record { books = c.self.inside.books; seats = c.self.inside.seats.items; swept = c.self.inside.swept; replies = c.self.inside.replies.items }) c.args.self.now mid c.clear.new.self.items c.self.view_is c.clear.ensures.items
+    c.in_ok-tick.ensures.ticked c.in_ok-tick.ensures.played c.in_ok-tick.ensures.others c.in_ok-tick.ensures.expired c.tick.ensures.config c.tick.ensures.scribe refl refl in
+    err_both c.answer.result c.answer.ensures.shut c.answer.ensures.breaks
+    (λ shut breaks. breaks_woken c.args.time c.args.seat c.args.self.now mid _ _ _ _ woke shut breaks)
+
+pub returns-clause-lives : goal.returns-clause-lives
+returns-clause-lives g c =
+    let mid : Recording = record { books = c.tick.new.self; seats = c.self.inside.seats.items; swept = c.self.inside.swept; replies = c.tick.new.replies.items } in
+    let woke = woke_as c.args.time c.args.seat.peer (record { books = c.self.inside.books; seats = c.self.inside.seats.items; swept = c.self.inside.swept; replies = c.self.inside.replies.items }) c.args.self.now mid c.clear.new.self.items c.self.view_is c.clear.ensures.items
+    c.in_ok-tick.ensures.ticked c.in_ok-tick.ensures.played c.in_ok-tick.ensures.others c.in_ok-tick.ensures.expired c.tick.ensures.config c.tick.ensures.scribe refl refl in
+    if_to c.answer.result c.answer.ensures.closes
+    (λ lives closes. wakes_so c.args.time c.args.seat lives c.args.self.now mid woke closes)
+
+pub returns-clause-config : goal.returns-clause-config
+returns-clause-config g c = ok_all c.answer.result c.answer.ensures.closes c.answer.ensures.answers c.answer.ensures.settled
+    (λ lives closes answers settled.
+    (answers nobody).config_is ∙ c.tick.ensures.config ∙ ap (λ (r : Recording). r.books.desk.config) c.self.view_is)

@@ -1,0 +1,239 @@
+-- One step behind another, and what stands behind a seat that was taken or left.
+use Rattle.fs_recorder.proofs.{PlaceWords.{List, None, Option, Some, [], ap, append-nil, map-append, refl, subst, sym, ℕ, ◌++◌, ◌==◌, ◌∙◌, ◌∷◌, ◌≡◌, AllByRecursion, IsSome, Err, Ok, OnOk, Result, option_map, Grew, peer_of, Turn, shut, Address, Config, Peer, IsNumbered, IsWritable, came_up, was_lost, begins, fresh, live, Desked, KeepsOthers, Played, nobody, session_at, Booked, Tells, TellsPart, Does, Recording, leaves, shuts, tells, seat_for, seat_of, Place, Station, Step, checks, checks_peer, doing, ends, peer_for, peers_at, place_for, place_of, places_without, replaces, resting, seat_at, seats_one, taken_by, takes, vacates, BreaksAt, BreaksIn, BreaksQuietly, BreaksSo, DidAt, DidQuietly, DidSeat, DidSo, DoesStep, IsOpenAt, Left, Stands, Seat}, Doing.{breaks_more, breaks_tell, does_ask, does_tell}, Places.{FoundAt, found_at, found_none, open_left, others_left, place_found, place_is}, Placing.{apart_more, more_are, none_of_others, others_of_none, peers_more}, Settling.{stands_gone}, Stepping.{breaks_both, does_both, does_rest}}
+
+-- what two clauses say of a success
+pub ok_both : {T E : Type 0} {X Y Z : Type 0} (result : Result T E) → OnOk result X → OnOk result Y → (X → Y → Z) → OnOk result Z
+ok_both (Ok value) x y f = f x y
+ok_both (Err error) x y f = tt
+
+-- the same station, where nothing is told
+pub stands_quiet : (station : Station) (old : Recording) → Stands station old
+    → Stands (record { told = station.told ++ []; places = station.places }) old
+stands_quiet station old stands =
+    subst (λ told. Stands (record { told = told; places = station.places }) old) (sym (append-nil station.told)) stands
+
+-- a session that has just begun is open
+fresh_open : (config : Config) (desk : Desked) (seat : Seat) (found : Option Peer) → IsSome found
+    → session_at seat.peer desk.sessions ≡ option_map (λ peer. live config peer fresh) found → IsOpenAt desk (taken_by seat)
+fresh_open config desk seat None known e = absurd cc
+fresh_open config desk seat (Some peer) known e =
+    record { session = live config peer fresh; session_is = e; alive = refl; point_is = refl }
+
+-- a peer takes a seat
+pub did_seat : (seat : Seat) (old new : Recording) (before now : Option (List ℕ)) → Tells (came_up seat.peer) old.books new.books before now
+    → session_at seat.peer new.books.desk.sessions ≡ begins old.books.desk.config seat.peer
+    → KeepsOthers seat.peer old.books.desk new.books.desk → IsSome (peer_of seat.peer old.books.desk.config.peers)
+    → new.seats ≡ old.seats ++ seat ∷ [] → new.swept ≡ old.swept → DidSeat seat old new before now
+did_seat seat old new before now told begun others known seats swept turns station stands none = record {
+  does = does_tell (came_up seat.peer) old.books new.books turns before now told nobody;
+  stands = record {
+    played = subst (λ config. Played config (station.told ++ came_up seat.peer ∷ []) new.books.desk) (sym told.config_is)
+        (told.plays nobody old.books.desk.config station.told stands.played);
+    seats_are = seats ∙ ap (λ s. s ++ seat ∷ []) stands.seats_are ∙ sym (map-append seat_at station.places (taken_by seat ∷ []));
+    live = more_are (IsOpenAt new.books.desk) station.places (taken_by seat)
+        (open_left seat.peer old.books.desk new.books.desk (others nobody old.books.desk.config station.told stands.played) station.places
+        (others_of_none seat.peer station.places none) stands.live)
+        (fresh_open old.books.desk.config new.books.desk seat (peer_of seat.peer old.books.desk.config.peers) known begun);
+    apart = apart_more station.places (taken_by seat) stands.apart (others_of_none seat.peer station.places none);
+    known = subst (λ config. AllByRecursion (IsNumbered config) (peers_at (station.places ++ taken_by seat ∷ []))) (sym told.config_is)
+        (peers_more (IsNumbered old.books.desk.config) station.places (taken_by seat) stands.known told.writable);
+  };
+  swept_is = swept;
+}
+
+-- so where it was broken off
+pub breaks_seat : (seat : Seat) (old : Recording) (before now : Option (List ℕ)) → TellsPart (came_up seat.peer) old.books before now
+    → BreaksQuietly (seats_one seat) old before now
+breaks_seat seat old before now part turns station stands = breaks_tell (came_up seat.peer) old.books turns before now part
+
+-- a place that is found by its peer is that of its own peer
+own_place : (peer : ℕ) (places : List Place) (place : Place) → place_for peer places ≡ Some place → place_for place.peer places ≡ Some place
+own_place peer places place found = subst (λ n. place_for n places ≡ Some place) (sym (place_is peer places place found)) found
+
+-- The seat of a peer is that of its place, and so is that of a line.
+module _ (old : Recording) (station : Station) (stands : Stands station old) where
+  no_place : (peer : ℕ) → seat_for peer old.seats ≡ None → place_for peer station.places ≡ None
+  no_place peer e = found_none (λ (s : Seat). s.peer == peer) station.places (ap (seat_for peer) (sym stands.seats_are) ∙ e)
+
+  place_has : (peer : ℕ) (seat : Seat) → seat_for peer old.seats ≡ Some seat → FoundAt (λ (p : Place). p.peer == peer) station.places seat
+  place_has peer seat e = found_at (λ (s : Seat). s.peer == peer) station.places seat (ap (seat_for peer) (sym stands.seats_are) ∙ e)
+
+  no_line : (line : ℕ) → seat_of line old.seats ≡ None → place_of line station.places ≡ None
+  no_line line e = found_none (λ (s : Seat). s.line == line) station.places (ap (seat_of line) (sym stands.seats_are) ∙ e)
+
+  line_has : (line : ℕ) (seat : Seat) → seat_of line old.seats ≡ Some seat → FoundAt (λ (p : Place). p.line == line) station.places seat
+  line_has line seat e = found_at (λ (s : Seat). s.line == line) station.places seat (ap (seat_of line) (sym stands.seats_are) ∙ e)
+
+-- what a step does where a place was found
+abbrev pub at_place : (Place → Station → Step) → Station → Option Place → Step
+at_place step station found = elim found [ None ↦ resting station | Some place ↦ step place station ]
+
+abbrev leaving : Place → Station → Step
+leaving place station = doing (leaves (seat_at place)) (places_without place.line station.places) station
+
+abbrev losing : Place → Station → Step
+losing place station = doing (tells (was_lost place.peer) ∷ []) (places_without place.line station.places) station
+
+-- it was found
+pub did_found : (step : Place → Station → Step) (station : Station) (found : Option Place) (place : Place) (swept : ℕ) (old new : Recording)
+    (t t1 : Option (List Turn)) (w w1 : Option (List ℕ)) → found ≡ Some place → DoesStep swept (step place station) old new t t1 w w1
+    → DoesStep swept (at_place step station found) old new t t1 w w1
+did_found step station found place swept old new t t1 w w1 e does =
+    subst (λ f. DoesStep swept (at_place step station f) old new t t1 w w1) (sym e) does
+
+pub breaks_found : (step : Place → Station → Step) (station : Station) (found : Option Place) (place : Place) (old : Booked)
+    (t t1 : Option (List Turn)) (w w1 : Option (List ℕ)) → found ≡ Some place → BreaksAt (step place station).deeds old t t1 w w1
+    → BreaksAt (at_place step station found).deeds old t t1 w w1
+breaks_found step station found place old t t1 w w1 e breaks =
+    subst (λ f. BreaksAt (at_place step station f).deeds old t t1 w w1) (sym e) breaks
+
+-- it wasn't
+pub did_not_find : (step : Place → Station → Step) (station : Station) (found : Option Place) (old : Recording) (t : Option (List Turn))
+    (w : Option (List ℕ)) → found ≡ None → Stands station old → DoesStep old.swept (at_place step station found) old old t t w w
+did_not_find step station found old t w e stands =
+    subst (λ f. DoesStep old.swept (at_place step station f) old old t t w w) (sym e) (does_rest station old t w stands)
+
+-- the connection that speaks for a peer was closed
+
+pub did_vacate : (peer : ℕ) (seat : Seat) (old new : Recording) (t t1 : Option (List Turn)) (w w1 : Option (List ℕ))
+    → seat_for peer old.seats ≡ Some seat → Does nobody nobody (leaves seat) old.books new.books t t1 w w1 → Left seat old new
+    → DidSo (vacates peer) old new t t1 w w1
+did_vacate peer seat old new t t1 w w1 found does left station stands =
+    let has = place_has old station stands peer seat found in
+    did_found leaving
+    station (place_for peer station.places) has.place old.swept old new t t1 w w1 has.found
+    (record {
+      does = subst (λ s. Does nobody nobody (leaves s) old.books new.books t t1 w w1) (sym has.seated) does;
+      stands = stands_gone has.place station old new stands (own_place peer station.places has.place has.found)
+          (subst (λ s. Left s old new) (sym has.seated) left) does.config_is;
+      swept_is = left.swept_is;
+    })
+
+pub breaks_vacate : (peer : ℕ) (seat : Seat) (old : Recording) (t t1 : Option (List Turn)) (w w1 : Option (List ℕ))
+    → seat_for peer old.seats ≡ Some seat → BreaksAt (leaves seat) old.books t t1 w w1 → BreaksSo (vacates peer) old t t1 w w1
+breaks_vacate peer seat old t t1 w w1 found breaks station stands =
+    let has = place_has old station stands peer seat found in
+    subst (λ f. BreaksAt (at_place leaving station f).deeds old.books t t1 w w1)
+    (sym has.found) (subst (λ s. BreaksAt (leaves s) old.books t t1 w w1) (sym has.seated) breaks)
+
+pub did_vacate_none : (peer : ℕ) (old : Recording) (t : Option (List Turn)) (w : Option (List ℕ)) → seat_for peer old.seats ≡ None
+    → DidSo (vacates peer) old old t t w w
+did_vacate_none peer old t w none station stands =
+    did_not_find leaving
+    station (place_for peer station.places) old t w (no_place old station stands peer none) stands
+
+-- behind it none speaks for the peer
+pub vacated : (peer : ℕ) (old : Recording) (station : Station) → Stands station old
+    → place_for peer (vacates peer station).station.places ≡ None
+vacated peer old station stands = by (place_for peer station.places) refl
+  where
+    by : (found : Option Place) → place_for peer station.places ≡ found
+        → place_for peer (at_place leaving station found).station.places ≡ None
+    by None e = e
+    by (Some place) e =
+        none_of_others peer (places_without place.line station.places) (others_left peer station.places place stands.apart e)
+
+-- a connection has ended
+
+pub did_end : (line : ℕ) (seat : Seat) (old new : Recording) (w w1 : Option (List ℕ)) → seat_of line old.seats ≡ Some seat
+    → Tells (was_lost seat.peer) old.books new.books w w1 → Left seat old new → DidQuietly (ends line) old new w w1
+did_end line seat old new w w1 found told left turns station stands =
+    let has = line_has old station stands line seat found in
+    did_found losing
+    station (place_of line station.places) has.place old.swept old new turns turns w w1 has.found
+    (record {
+      does = subst (λ (s : Seat). Does nobody nobody (tells (was_lost s.peer) ∷ []) old.books new.books turns turns w w1) (sym has.seated)
+          (does_tell (was_lost seat.peer) old.books new.books turns w w1 told nobody);
+      stands = stands_gone has.place station old new stands (place_found line station.places has.place stands.apart has.found)
+          (subst (λ s. Left s old new) (sym has.seated) left) told.config_is;
+      swept_is = left.swept_is;
+    })
+
+pub breaks_end : (line : ℕ) (seat : Seat) (old : Recording) (w w1 : Option (List ℕ)) → seat_of line old.seats ≡ Some seat
+    → TellsPart (was_lost seat.peer) old.books w w1 → BreaksQuietly (ends line) old w w1
+breaks_end line seat old w w1 found part turns station stands =
+    let has = line_has old station stands line seat found in
+    subst (λ f. BreaksAt (at_place losing station f).deeds old.books turns turns w w1)
+    (sym has.found)
+    (subst (λ (s : Seat). BreaksAt (tells (was_lost s.peer) ∷ []) old.books turns turns w w1) (sym has.seated)
+    (breaks_tell (was_lost seat.peer) old.books turns w w1 part))
+
+pub did_end_none : (line : ℕ) (old : Recording) (w : Option (List ℕ)) → seat_of line old.seats ≡ None → DidQuietly (ends line) old old w w
+did_end_none line old w none turns station stands =
+    did_not_find losing
+    station (place_of line station.places) old turns w (no_line old station stands line none) stands
+
+-- a peer's connection is replaced
+
+pub did_replace : (line peer time : ℕ) (old mid new : Recording) (t t1 : Option (List Turn)) (w w1 w2 : Option (List ℕ))
+    → DidSo (vacates peer) old mid t t1 w w1 → DidSeat (record { line = line; peer = peer; since = time }) mid new w1 w2
+    → DidSo (replaces line peer time) old new t t1 w w2
+did_replace line peer time old mid new t t1 w w1 w2 did later station stands =
+    let one = did station stands in
+    let next = later t1 (vacates peer station).station one.stands (vacated peer old station stands) in
+    does_both (vacates peer station) (seats_one (record { line = line; peer = peer; since = time })) old mid new t t1 t1 w w1 w2 one next
+
+pub breaks_replace : (line peer time : ℕ) (old mid : Recording) (t t1 : Option (List Turn)) (w w1 w2 : Option (List ℕ))
+    → DidSo (vacates peer) old mid t t1 w w1 → BreaksQuietly (seats_one (record { line = line; peer = peer; since = time })) mid w1 w2
+    → BreaksSo (replaces line peer time) old t t1 w w2
+breaks_replace line peer time old mid t t1 w w1 w2 did later station stands =
+    let one = did station stands in
+    breaks_both (vacates peer station) (seats_one (record { line = line; peer = peer; since = time })) old mid t t1 t1 w w1 w2 one
+    (later t1 (vacates peer station).station one.stands)
+
+pub breaks_replace_early : (line peer time : ℕ) (old : Recording) (t t1 : Option (List Turn)) (w w1 : Option (List ℕ))
+    → IsWritable old.books.desk.config (came_up peer) → BreaksSo (vacates peer) old t t1 w w1 → BreaksSo (replaces line peer time) old t t1 w w1
+breaks_replace_early line peer time old t t1 w w1 writable breaks station stands =
+    breaks_more (vacates peer station).deeds (tells (came_up peer) ∷ []) old.books t t1 w w1 (writable, tt) (breaks station stands)
+
+-- a connection was taken
+module _ (config : Config) (line : ℕ) (from : Address) (time : ℕ) (old : Recording) (t t1 : Option (List Turn)) (w w1 : Option (List ℕ)) where
+  abbrev takes_for : Station → Option ℕ → Step
+  takes_for station found =
+      elim found [ None ↦ doing (shuts line ∷ []) station.places station | Some peer ↦ replaces line peer time station ]
+
+  pub did_take : (peer : ℕ) (new : Recording) → peer_for config from old.seats ≡ Some peer → DidSo (replaces line peer time) old new t t1 w w1
+      → DidSo (takes config line from time) old new t t1 w w1
+  did_take peer new e did station stands =
+      subst (λ found. DoesStep old.swept (takes_for station found) old new t t1 w w1)
+      (sym (ap (peer_for config from) (sym stands.seats_are) ∙ e)) (did station stands)
+
+  pub breaks_take : (peer : ℕ) → peer_for config from old.seats ≡ Some peer → BreaksSo (replaces line peer time) old t t1 w w1
+      → BreaksSo (takes config line from time) old t t1 w w1
+  breaks_take peer e breaks station stands =
+      subst (λ found. BreaksAt (takes_for station found).deeds old.books t t1 w w1)
+      (sym (ap (peer_for config from) (sym stands.seats_are) ∙ e)) (breaks station stands)
+
+  pub did_take_none : peer_for config from old.seats ≡ None → Grew t t1 (shut line ∷ [])
+      → DidSo (takes config line from time) old old t t1 w w
+  did_take_none e closed station stands =
+      subst (λ found. DoesStep old.swept (takes_for station found) old old t t1 w w)
+      (sym (ap (peer_for config from) (sym stands.seats_are) ∙ e))
+      (record {
+        does = does_ask nobody (shuts line ∷ []) old.books t t1 w refl closed;
+        stands = stands_quiet station old stands;
+        swept_is = refl;
+      })
+
+-- the clock of a peer
+
+pub did_check_peer : (peer time : ℕ) (seat : Seat) (old new : Recording) (t t1 : Option (List Turn)) (w w1 : Option (List ℕ))
+    → seat_for peer old.seats ≡ Some seat → DidAt seat (checks time) old new t t1 w w1 → DidSo (checks_peer time peer) old new t t1 w w1
+did_check_peer peer time seat old new t t1 w w1 found did station stands =
+    let has = place_has old station stands peer seat found in
+    did_found (checks time) station (place_for peer station.places) has.place old.swept old new t t1 w w1 has.found
+    (did station stands has.place
+    (subst (λ (s : Seat). place_for s.peer station.places ≡ Some has.place) has.seated (own_place peer station.places has.place has.found)) has.seated)
+
+pub breaks_check_peer : (peer time : ℕ) (seat : Seat) (old : Recording) (t t1 : Option (List Turn)) (w w1 : Option (List ℕ))
+    → seat_for peer old.seats ≡ Some seat → BreaksIn seat (checks time) old t t1 w w1 → BreaksSo (checks_peer time peer) old t t1 w w1
+breaks_check_peer peer time seat old t t1 w w1 found breaks station stands =
+    let has = place_has old station stands peer seat found in
+    breaks_found (checks time) station (place_for peer station.places) has.place old.books t t1 w w1 has.found
+    (breaks station stands has.place
+    (subst (λ (s : Seat). place_for s.peer station.places ≡ Some has.place) has.seated (own_place peer station.places has.place has.found)) has.seated)
+
+pub did_check_none : (peer time : ℕ) (old : Recording) (t : Option (List Turn)) (w : Option (List ℕ)) → seat_for peer old.seats ≡ None
+    → DidSo (checks_peer time peer) old old t t w w
+did_check_none peer time old t w none station stands =
+    did_not_find (checks time) station (place_for peer station.places) old t w (no_place old station stands peer none) stands

@@ -1,0 +1,7 @@
+-- The words that lemmas on places and steps speak of.
+pub use Rattle.std.{proofs.{Common.{Bool, Err, List, None, Ok, Option, Result, Some, eqb-true, [], ap, append_assoc, arith, false, length, not, refl, subst, sym, true, ℕ, ◌++◌, ◌<◌, ◌≤◌, ◌==◌, ◌∙◌, ◌∷◌, ◌≡◌}, lemmas.{List.{append-nil, map-append}}}, specs.{List.{AllByRecursion}, Prelude.{IsSome, OnOk, filter, find, if◌then◌else◌, map, option_map}}}
+pub use Rattle.fs_base.{proofs.NumberTests.{eq_itself}, specs.{Config.{peer_of}, Gate.{Turn, What, ended, gave, made, nothing, shut, taken}, Sink.{Grew}, declared.config.{Address.{Address}, Config.{Config}, Peer.{Peer}}}}
+pub use Rattle.fs_tape.specs.{Header.{longest_payload}, Laws.{IsNumbered, IsWritable}, Tape.{Item, came_up, received, was_lost}}
+pub use Rattle.fs_speaker.specs.{Handed.{Point}, Line.{fresh}, Session.{begins, live}}
+pub use Rattle.fs_desk.specs.{Desk.{Desked, KeepsOthers, Played, PlayedBut, session_at, standing_of}, Leaves.{nobody}}
+pub use Rattle.fs_recorder.specs.{Books.{Booked, Tells, TellsPart}, Deeds.{Deed, Does, Recording, is_closed, items_of, leaves, says, shuts, tells}, Seats.{seat_for, seat_of}, Steps.{Place, Station, Step, checks, checks_peer, doing, ends, expires, follows, handed_point, hears, hears_octets, hurries, hurries_where_late, hurries_where_new, is_due, is_early, is_established, moved, peer_for, peers_at, peers_in, place_for, place_of, places_without, receives, replaces, replies_to, resting, seat_at, seats_one, settles, speaks, swept_after, sweeps, sweeps_all, sweeps_where_due, taken_by, takes, then_do, vacates, wakes, woken}, Works.{AreApart, BreaksAt, BreaksIn, BreaksQuietly, BreaksSo, DidAt, DidHear, DidQuietly, DidSeat, DidSo, DoesStep, IsOpenAt, Left, Stands}, declared.seats.Seat.{Seat}}

@@ -1,0 +1,166 @@
+-- The clock of each session in turn, and all that is done at an event.
+use Rattle.fs_recorder.proofs.{PlaceWords.{Bool, List, Option, [], ap, append_assoc, false, not, refl, subst, sym, true, ℕ, ◌++◌, ◌∙◌, ◌∷◌, ◌≡◌, AllByRecursion, if◌then◌else◌, Turn, Config, IsWritable, nobody, Recording, items_of, What, Station, Step, checks_peer, follows, hears, is_due, peers_at, peers_in, resting, swept_after, sweeps, sweeps_all, sweeps_where_due, then_do, BreaksAt, BreaksSo, DidHear, DidSo, DoesStep, Stands}, Doing.{breaks_early, breaks_more, breaks_then, does_then}, Knowing.{Known, known_checks_peer, known_follows, known_sweeps, known_where_due, new_told}, Stepping.{breaks_both, does_both, does_rest}}
+use Rattle.fs_recorder.specs.{Books.{Booked}, Deeds.{passing}, Laws.{IsShort}, Steps.{seat_at, Place}}
+use Rattle.fs_recorder.specs.declared.seats.Seat.{Seat}
+use Rattle.fs_base.specs.{Gate.{what_from}, declared.Came.{Came, TheVariants.{Ended, Made, Nothing, Octets, Taken}}}
+use Rattle.std.{proofs.{Common.{arith, drop, get_or, length, take, ◌+◌, ◌<◌, ◌≤◌}, lemmas.{Bool.Decides.{nat_tests}, List.{drop_more, length-drop, length-take, map-append, take-append-drop, take_more}}}, specs.Prelude.{map, nat_lt, ◌-◌}}
+
+-- some peers, and then others
+pub sweeps_both : (time : ℕ) (front later : List ℕ) (station : Station)
+    → sweeps time (front ++ later) station ≡ then_do (sweeps time front station) (sweeps time later)
+sweeps_both time [] later station = refl
+sweeps_both time (peer ∷ front) later station =
+    let first = checks_peer time peer station in
+    let mid = sweeps time front first.station in
+    let last = sweeps time later mid.station in
+    ap (λ (step : Step). record { deeds = first.deeds ++ step.deeds; station = step.station }) (sweeps_both time front later first.station)
+    ∙ ap (λ deeds. record { deeds = deeds; station = last.station }) (sym (append_assoc first.deeds mid.deeds last.deeds))
+
+module _ (time : ℕ) (front : List ℕ) (peer : ℕ) (a b : Recording) (t t1 t2 : Option (List Turn)) (w w1 w2 : Option (List ℕ)) where
+  pub did_more : (c : Recording) → DidSo (sweeps time front) a b t t1 w w1 → DidSo (checks_peer time peer) b c t1 t2 w1 w2
+      → DidSo (sweeps time (front ++ peer ∷ [])) a c t t2 w w2
+  did_more c did later station stands =
+      let one = did station stands in
+      let next = later (sweeps time front station).station one.stands in
+      let single = does_both (checks_peer time peer (sweeps time front station).station) (sweeps time []) b c c t1 t2 t2 w1 w2 w2 next
+      (does_rest (checks_peer time peer (sweeps time front station).station).station c t2 w2 next.stands) in
+      subst (λ step. DoesStep a.swept step a c t t2 w w2) (sym (sweeps_both time front (peer ∷ []) station))
+      (does_both (sweeps time front station) (sweeps time (peer ∷ [])) a b c t t1 t2 w w1 w2 one single)
+
+  -- it was broken off at a peer
+  pub breaks_more_peers : (later : List ℕ) → DidSo (sweeps time front) a b t t1 w w1 → BreaksSo (checks_peer time peer) b t1 t2 w1 w2
+      → BreaksSo (sweeps time (front ++ peer ∷ later)) a t t2 w w2
+  breaks_more_peers later did breaks station stands =
+      let one = did station stands in
+      let mid = (sweeps time front station).station in
+      let known = known_checks_peer b.books.desk.config time peer mid one.stands.known in
+      subst (λ (step : Step). BreaksAt step.deeds a.books t t2 w w2) (sym (sweeps_both time front (peer ∷ later) station))
+      (breaks_both (sweeps time front station) (sweeps time (peer ∷ later)) a b t t1 t2 w w1 w2 one
+      (breaks_more (checks_peer time peer mid).deeds (sweeps time later (checks_peer time peer mid).station).deeds b.books t1 t2 w1 w2
+      (known_sweeps b.books.desk.config time later (checks_peer time peer mid).station known.known).writable (breaks mid one.stands)))
+
+-- the peers of seats are those of their places
+peers_same : (places : List Place) → peers_in (map seat_at places) ≡ peers_at places
+peers_same [] = refl
+peers_same (place ∷ places) = ap (λ peers. place.peer ∷ peers) (peers_same places)
+
+pub peers_are : (old : Recording) (station : Station) → Stands station old → peers_in old.seats ≡ peers_at station.places
+peers_are old station stands = ap peers_in stands.seats_are ∙ peers_same station.places
+
+module _ (time : ℕ) (old : Recording) (t t1 : Option (List Turn)) (w w1 : Option (List ℕ)) where
+  pub did_sweep : (seats : List Seat) (new : Recording) → seats ≡ old.seats → DidSo (sweeps time (peers_in seats)) old new t t1 w w1
+      → DidSo (sweeps_all time) old new t t1 w w1
+  did_sweep seats new same did station stands =
+      subst (λ peers. DoesStep old.swept (sweeps time peers station) old new t t1 w w1) (ap peers_in same ∙ peers_are old station stands) (did station stands)
+
+  pub breaks_sweep : (seats : List Seat) → seats ≡ old.seats → BreaksSo (sweeps time (peers_in seats)) old t t1 w w1
+      → BreaksSo (sweeps_all time) old t t1 w w1
+  breaks_sweep seats same breaks station stands =
+      subst (λ peers. BreaksAt (sweeps time peers station).deeds old.books t t1 w w1) (ap peers_in same ∙ peers_are old station stands) (breaks station stands)
+
+-- it was broken off before it began
+pub breaks_sweep_early : (time : ℕ) (old : Recording) (t : Option (List Turn)) (w : Option (List ℕ)) → BreaksSo (sweeps_all time) old t t w w
+breaks_sweep_early time old t w station stands =
+    breaks_early (sweeps_all time station).deeds old.books t w
+    (known_sweeps old.books.desk.config time (peers_at station.places) station stands.known).writable
+
+-- the clock was heard of all at another time
+pub stands_swept : (station : Station) (old : Recording) (time : ℕ) → Stands station old → Stands station (record old { swept = time })
+stands_swept station old time stands = record {
+  played = stands.played;
+  seats_are = stands.seats_are;
+  live = stands.live;
+  apart = stands.apart;
+  known = stands.known;
+}
+
+-- An event.
+module _ (config : Config) (time : ℕ) (what : What) (old mid : Recording) (t t1 t2 : Option (List Turn)) (w w1 w2 : Option (List ℕ)) where
+  abbrev pub hears_by : Bool → Station → Step
+  hears_by b station = then_do (follows config time what station) (λ at. if b then sweeps_all time at else resting at)
+
+  -- no clock is due
+  pub did_early : is_due mid.swept time ≡ false → DidSo (follows config time what) old mid t t1 w w1
+      → DidHear (swept_after old.swept time) (hears config old.swept time what) old mid t t1 w w1
+  did_early e did station stands =
+      let one = did station stands in
+      let all = does_both (follows config time what station) resting old mid mid t t1 t1 w w1 w1 one
+      (does_rest (follows config time what station).station mid t1 w1 one.stands) in
+      subst (λ (b : Bool). DoesStep (if b then time else old.swept) (hears_by b station) old mid t t1 w w1) (sym (ap (λ s. is_due s time) (sym one.swept_is) ∙ e))
+      (record { does = all.does; stands = all.stands; swept_is = one.swept_is })
+
+  -- the clock is due
+  pub did_due : (new : Recording) → is_due mid.swept time ≡ true → DidSo (follows config time what) old mid t t1 w w1
+      → DidSo (sweeps_all time) (record mid { swept = time }) new t1 t2 w1 w2
+      → DidHear (swept_after old.swept time) (hears config old.swept time what) old new t t2 w w2
+  did_due new e did later station stands =
+      let one = did station stands in
+      let next = later (follows config time what station).station (stands_swept (follows config time what station).station mid time one.stands) in
+      subst (λ (b : Bool). DoesStep (if b then time else old.swept) (hears_by b station) old new t t2 w w2) (sym (ap (λ s. is_due s time) (sym one.swept_is) ∙ e))
+      (record {
+        does = does_then nobody nobody (follows config time what station).deeds old.books mid.books t t1 w w1 one.does nobody
+            (sweeps_all time (follows config time what station).station).deeds new.books t2 w2 next.does;
+        stands = next.stands;
+        swept_is = next.swept_is;
+      })
+
+  -- it was broken off at the clock
+  pub breaks_due : is_due mid.swept time ≡ true → DidSo (follows config time what) old mid t t1 w w1
+      → BreaksSo (sweeps_all time) (record mid { swept = time }) t1 t2 w1 w2
+      → BreaksSo (hears config old.swept time what) old t t2 w w2
+  breaks_due e did later station stands =
+      let one = did station stands in
+      subst (λ (b : Bool). BreaksAt (hears_by b station).deeds old.books t t2 w w2) (sym (ap (λ s. is_due s time) (sym one.swept_is) ∙ e))
+      (breaks_then nobody nobody (follows config time what station).deeds old.books mid.books t t1 w w1 one.does
+      (sweeps_all time (follows config time what station).station).deeds t2 w2
+      (later (follows config time what station).station (stands_swept (follows config time what station).station mid time one.stands)))
+
+-- it was broken off at the event itself
+pub breaks_follow : (config : Config) (time : ℕ) (what : What) (old : Recording) (t t1 : Option (List Turn)) (w w1 : Option (List ℕ))
+    → config ≡ old.books.desk.config → IsShort what → BreaksSo (follows config time what) old t t1 w w1
+    → BreaksSo (hears config old.swept time what) old t t1 w w1
+breaks_follow config time what old t t1 w w1 same short breaks station stands =
+    let broken = breaks station stands in
+    let known : Known config station = subst (λ c. Known c station) (sym same) stands.known in
+    let writable : AllByRecursion (IsWritable config) (items_of (follows config time what station).deeds) =
+    subst (λ c. AllByRecursion (IsWritable c) (items_of (follows config time what station).deeds)) (sym same) broken.writable in
+    let step = known_follows config time what station known short (new_told config time what station writable) in
+    breaks_more (follows config time what station).deeds (sweeps_where_due old.swept time (follows config time what station).station).deeds
+    old.books t t1 w w1
+    (subst (λ c. AllByRecursion (IsWritable c) (items_of (sweeps_where_due old.swept time (follows config time what station).station).deeds)) same
+    (known_where_due config time old.swept (follows config time what station).station step.known).writable)
+    broken
+
+-- the peers of the seats up to one, and of those behind it
+
+pub peers_next : (seats : List Seat) (i : ℕ) (d : Seat) → i < length seats
+    → peers_in (take (i + 1) seats) ≡ peers_in (take i seats) ++ (get_or seats i d).peer ∷ []
+peers_next seats i d lt =
+    ap peers_in (take_more seats i d lt) ∙ map-append (λ (s : Seat). s.peer) (take i seats) (get_or seats i d ∷ [])
+
+pub peers_split : (seats : List Seat) (i : ℕ) (d : Seat) → i < length seats
+    → peers_in (take i seats) ++ (get_or seats i d).peer ∷ peers_in (drop (i + 1) seats) ≡ peers_in seats
+peers_split seats i d lt =
+    sym (ap (λ (rest : List Seat). peers_in (take i seats) ++ peers_in rest) (drop_more seats i d lt))
+    ∙ sym (map-append (λ (s : Seat). s.peer) (take i seats) (drop i seats)) ∙ ap peers_in (take-append-drop i seats)
+
+-- a record has room for a piece that stands in the buffer
+pub short_what : (came : Came) (buffer : List ℕ) → length buffer ≤ 65551 → IsShort (what_from came (drop 15 buffer))
+short_what (Taken line from) buffer long = tt
+short_what (Octets line count) buffer long = omega (arith, long, length-take count (drop 15 buffer), length-drop 15 buffer)
+short_what (Ended line) buffer long = tt
+short_what (Made line) buffer long = tt
+short_what Nothing buffer long = tt
+
+-- the clock on the wall was heard
+pub passed_as : (moment : ℕ) (inside old : Recording) (books : Booked) → books ≡ (passing moment inside).books → inside ≡ old
+    → ◌≡◌ {A = Recording} (record inside { books = books }) (passing moment old)
+passed_as moment inside old books b e =
+    ap (λ (x : Booked). let now : Recording = record inside { books = x } in now) b ∙ ap (passing moment) e
+
+lt_false : (a b : ℕ) → b ≤ a → nat_lt a b ≡ false
+lt_false a b h = let s = h in grind (arith, nat_tests)
+
+-- so many milliseconds have passed
+pub due_from : (swept time past : ℕ) → past ≡ time - swept → 500 ≤ past → is_due swept time ≡ true
+due_from swept time past e long = ap not (lt_false (time - swept) 500 (subst (λ n. 500 ≤ n) e long))

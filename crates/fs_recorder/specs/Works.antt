@@ -1,0 +1,102 @@
+-- That a recorder takes a step: its tape, its desk, its gate and its seats.
+use Rattle.std.specs.{Prelude.{ℕ, List, [], ◌∷◌, ◌++◌, Bool, true, Option, Some, None, ◌==◌, ◌≡◌, false, map, not, ⊤}, List.{AllByRecursion}}
+use Rattle.fs_base.specs.{Gate.{Turn}, Sink.{Grew, GrewPart}}
+use Rattle.fs_tape.specs.{Laws.{IsNumbered, IsWritable}, Tape.{was_lost}}
+use Rattle.fs_speaker.specs.Session.{Live}
+use Rattle.fs_desk.specs.{Desk.{Desked, KeepsOthers, Played, Plays, session_at}, Leaves.{nobody}, Receive.{point_of}}
+use Rattle.fs_recorder.specs.{Books.{Booked}, Deeds.{Deed, Does, Recording, asked_in, items_of, text_at}, Steps.{Place, expires, Station, Step, peers_at, place_for, seat_at, seats_one}, Seats.{without}, declared.seats.Seat.{Seat}}
+
+-- The session through a place is open, and stands at the place's point.
+pub record IsOpenAt (desk : Desked) (place : Place) : Type 0 where
+  pub session : Live
+  pub session_is : session_at place.peer desk.sessions ≡ Some session
+  pub alive : session.closed ≡ None
+  pub point_is : point_of session ≡ place.point
+
+-- no two are the same
+abbrev pub AreApart : List ℕ → Type 0
+AreApart [] = ⊤
+AreApart (peer ∷ peers) = AllByRecursion (λ (other : ℕ). (peer == other) ≡ false) peers × AreApart peers
+
+-- The desk has played what was told, the seats are the places', each of a configured peer of its own and with an open
+-- session.
+pub record Stands (station : Station) (recording : Recording) : Type 0 where
+  pub played : Played recording.books.desk.config station.told recording.books.desk
+  pub seats_are : recording.seats ≡ map seat_at station.places
+  pub live : AllByRecursion (IsOpenAt recording.books.desk) station.places
+  pub apart : AreApart (peers_at station.places)
+  pub known : AllByRecursion (IsNumbered recording.books.desk.config) (peers_at station.places)
+
+-- The deeds of a step were done, and no others, it stands as the step leaves it, and the clock was last heard of all then.
+pub record DoesStep (swept : ℕ) (step : Step) (old new : Recording) (turns turns' : Option (List Turn)) (before now : Option (List ℕ))
+    : Type 0 where
+  pub does : Does nobody nobody step.deeds old.books new.books turns turns' before now
+  pub stands : Stands step.station new
+  pub swept_is : new.swept ≡ swept
+
+-- from wherever it stood
+abbrev pub DidSo : (Station → Step) → (old new : Recording) → (turns turns' : Option (List Turn)) → (before now : Option (List ℕ)) → Type 0
+DidSo step old new turns turns' before now =
+    (station : Station) → Stands station old → DoesStep old.swept (step station) old new turns turns' before now
+
+-- so where a seat is a place's
+abbrev pub DidAt : Seat → (Place → Station → Step) → (old new : Recording) → (turns turns' : Option (List Turn)) → (before now : Option (List ℕ)) → Type 0
+DidAt seat step old new turns turns' before now =
+    (station : Station) → Stands station old
+    → (place : Place) → place_for seat.peer station.places ≡ Some place → seat_at place ≡ seat
+    → DoesStep old.swept (step place station) old new turns turns' before now
+
+-- so where a peer takes a seat for which none spoke
+abbrev pub DidSeat : Seat → (old new : Recording) → (before now : Option (List ℕ)) → Type 0
+DidSeat seat old new before now =
+    (turns : Option (List Turn)) (station : Station) → Stands station old → place_for seat.peer station.places ≡ None
+    → DoesStep old.swept (seats_one seat station) old new turns turns before now
+
+-- so where the gate is asked nothing
+abbrev pub DidQuietly : (Station → Step) → (old new : Recording) → (before now : Option (List ℕ)) → Type 0
+DidQuietly step old new before now = (turns : Option (List Turn)) → DidSo step old new turns turns before now
+
+-- so at an event, behind which the clock was last heard of all at a time
+abbrev pub DidHear : (swept : ℕ) → (Station → Step) → (old new : Recording) → (turns turns' : Option (List Turn)) → (before now : Option (List ℕ)) → Type 0
+DidHear swept step old new turns turns' before now =
+    (station : Station) → Stands station old → DoesStep swept (step station) old new turns turns' before now
+
+-- A seat went: its peer was lost, and the sessions of other peers stay as they are.
+pub record Left (seat : Seat) (old new : Recording) : Type 0 where
+  pub plays : Plays (was_lost seat.peer) old.books.desk new.books.desk
+  pub seats_are : new.seats ≡ without seat.line old.seats
+  pub others : KeepsOthers seat.peer old.books.desk new.books.desk
+  pub swept_is : new.swept ≡ old.swept
+
+-- A seat stays, and nothing changes; or it went.
+abbrev pub Settled : (lives : Bool) → Seat → (old new : Recording) → Type 0
+Settled true seat old new = (new.books ≡ old.books) × ((new.seats ≡ old.seats) × (new.swept ≡ old.swept))
+Settled false seat old new = Left seat old new
+
+-- behind the clock the session is open still, or has expired
+abbrev pub WakesSo : (time : ℕ) → Seat → Recording → (lives : Bool) → Type 0
+WakesSo time seat old lives =
+    (station : Station) → Stands station old
+    → (place : Place) → place_for seat.peer station.places ≡ Some place → lives ≡ not (expires time place)
+
+-- It was broken off: a front of the records was written, and a front of what the gate was to be asked was.
+pub record BreaksAt (deeds : List Deed) (old : Booked) (turns turns' : Option (List Turn)) (before now : Option (List ℕ)) : Type 0 where
+  pub writable : AllByRecursion (IsWritable old.desk.config) (items_of deeds)
+  pub part : GrewPart before now (text_at old.scribe.moment (items_of deeds))
+  pub asked : List Turn
+  pub later : List Turn
+  pub front : asked ++ later ≡ asked_in deeds
+  pub gate : Grew turns turns' asked
+
+abbrev pub BreaksSo : (Station → Step) → (old : Recording) → (turns turns' : Option (List Turn)) → (before now : Option (List ℕ)) → Type 0
+BreaksSo step old turns turns' before now =
+    (station : Station) → Stands station old → BreaksAt (step station).deeds old.books turns turns' before now
+
+abbrev pub BreaksQuietly : (Station → Step) → (old : Recording) → (before now : Option (List ℕ)) → Type 0
+BreaksQuietly step old before now = (turns : Option (List Turn)) → BreaksSo step old turns turns before now
+
+abbrev pub BreaksIn : Seat → (Place → Station → Step) → (old : Recording) → (turns turns' : Option (List Turn)) → (before now : Option (List ℕ)) → Type 0
+BreaksIn seat step old turns turns' before now =
+    (station : Station) → Stands station old
+    → (place : Place) → place_for seat.peer station.places ≡ Some place → seat_at place ≡ seat
+    → BreaksAt (step place station).deeds old.books turns turns' before now
