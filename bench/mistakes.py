@@ -3,8 +3,8 @@
 
     bench/mistakes.py PROGRAM
 
-A row is a file with one mistake, and the line and the status with which `check config` answers it, or of a tape `rules`:
-whoever reads the line can mend the file. Files that only look wrong are here too, and are accepted. Ends with 0 where
+A row is a file with one mistake, and the lines and the status with which `check` answers it, or of a tape `rules`:
+whoever reads them can mend the file. Files that only look wrong are here too, and are accepted. Ends with 0 where
 each is answered so.
 """
 
@@ -21,6 +21,11 @@ SECOND = PEER.replace("number = 1", "number = 2")
 TAPE = b"FSTAPE1\n" + bytes.fromhex("01000100000000")
 DUMP = bytes.fromhex("6553f10000100005 00000018 0000fde9 0000fde8 0000 0001 c6336401 c6336402 0005 0006")
 CAPTURE = bytes.fromhex("a1b2c3d4 0002 0004 00000000 00000000 00040000 00000065")
+PACKET = bytes.fromhex("00000007 0000000b 00000001 00000001 45")
+EARLIER = PACKET.replace(b"\0\0\0\7", b"\0\0\0\6")
+SECTION = bytes.fromhex("0a0d0d0a 0000001c 1a2b3c4d 0001 0000 ffffffffffffffff 0000001c")
+INTERFACES = bytes.fromhex("00000001 00000014 0001 0000 00000000 00000014 00000001 00000014 0093 0000 00000000 00000014")
+BLOCK = bytes.fromhex("00000006 00000024 00000000 00000000 0000000b 00000001 00000001 45000000 00000024")
 
 
 def changed(old, new):
@@ -88,6 +93,26 @@ TAPES = [
 ]
 
 
+CAPTURES = [
+    ("nothing wrong", CAPTURE + PACKET * 2, 0, "capture pcap link 101 packets 2 moments 7000011000 7000011000"),
+    ("a capture without packets", CAPTURE, 0, "capture pcap link 101 packets 0 moments - -"),
+    ("times that fall", CAPTURE + PACKET + EARLIER, 0,
+     "capture pcap link 101 packets 2 moments 7000011000 7000011000\ncapture times fall at packet 2"),
+    ("an empty file for a capture", b"", 5, "capture Cut at 0"),
+    ("a tape for a capture", TAPE, 5, "capture Magic at 0"),
+    ("a dump for a capture", DUMP, 5, "capture Magic at 0"),
+    ("a capture compressed by gzip", gzip.compress(CAPTURE, mtime=0), 5, "capture Magic at 0"),
+    ("a capture that was written in hexadecimal", CAPTURE.hex(), 5, "capture Magic at 0"),
+    ("a capture of an interface that isn't read", CAPTURE[:-1] + b"\x93", 5, "capture Link at 20"),
+    ("a capture that was copied while it was written", CAPTURE + PACKET + PACKET[:-1], 5, "capture Cut at 57"),
+    ("a capture that went through a change of line ends", CAPTURE + PACKET[:7] + b"\r\n" + PACKET[8:], 5,
+     "capture RecordTooLong at 32"),
+    ("a pcapng capture of two interfaces", SECTION + INTERFACES + BLOCK + BLOCK[:11] + b"\1" + BLOCK[12:], 0,
+     "capture pcapng packets 2 moments 11000 11000\nlink 1 packets 1\nlink - packets 1"),
+    ("a pcapng capture without its interfaces", SECTION + BLOCK, 5, "capture Interface at 36"),
+]
+
+
 def written(folder, name, content):
     path = folder / name
     path.write_bytes(content if isinstance(content, bytes) else content.encode())
@@ -106,6 +131,9 @@ def answers(program, folder):
     config = written(folder, "config", CONFIG)
     for mistake, content, status, line in TAPES:
         yield mistake, (status, line + "\n"), answer_of(program, ["rules", config, written(folder, "tape", content)])
+    for mistake, content, status, lines in CAPTURES:
+        capture = written(folder, "capture", content)
+        yield mistake, (status, lines + "\n"), answer_of(program, ["check", "capture", capture])
 
 
 def main():

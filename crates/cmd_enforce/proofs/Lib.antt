@@ -3,3 +3,4 @@ pub mod Opened
 pub mod AtMoments
 pub mod Enforcing
 pub mod Walking
+pub mod Surveying

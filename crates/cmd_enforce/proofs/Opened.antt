@@ -4,7 +4,7 @@ use Rattle.fs_base.specs.Filling.{Fills}
 use Rattle.fs_input.{specs.{declared.fault.Fault.{Fault}, Opening.{Begins}}, proofs.Records.{head_filled}}
 
 -- what was filled and put back is what was left
-put_back_whole : (limit taken : ℕ) (left left' into : List ℕ) (count : ℕ) → Fills (window limit taken left) left left' into count
+pub put_back_whole : (limit taken : ℕ) (left left' into : List ℕ) (count : ℕ) → Fills (window limit taken left) left left' into count
     → take count into ++ left' ≡ left
 put_back_whole limit taken left left' into count f =
     let size : length (window limit taken left) ≤ limit - taken = omega (arith, length-take (limit - taken) left) in

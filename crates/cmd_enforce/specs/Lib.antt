@@ -5,3 +5,5 @@ pub mod Judge
 pub mod Matcher
 pub mod Moments
 pub mod Command
+pub mod Survey
+pub mod Stamps

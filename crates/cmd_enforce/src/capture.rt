@@ -101,7 +101,7 @@ impl Capture {
 }
 
 /// Whether the first octets of a capture, up to four, are the type of a section header.
-fn is_section(front: &[u8]) -> bool
+pub(crate) fn is_section(front: &[u8]) -> bool
     ensures { result ≡ is_section front.now }
 {
     front.len() == 4 && BigEndian::read_u32(front) == SECTION_HEADER

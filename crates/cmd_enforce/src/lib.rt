@@ -13,6 +13,10 @@ mod laws;
 mod lines;
 mod packets;
 mod reader;
+mod stamps;
+mod survey;
+mod survey_text;
+mod tally;
 mod walk;
 
 pub use capture::Capture;
@@ -20,4 +24,5 @@ pub use caught::Caught;
 pub use command::{InputNames, enforce};
 pub use fault::{CaptureFault, CaptureReason};
 pub use laws::same_lines;
+pub use survey::{CaptureSaid, survey_capture};
 pub use walk::drops;

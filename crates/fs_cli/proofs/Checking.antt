@@ -1,7 +1,11 @@
 -- How the answer of `check` of a file follows from what is said of it.
-use Rattle.fs_cli.proofs.Words.{inl, inr, ℕ, List, [], Option, ap, Grew-refl, Names, Answers, verdict_with, status_of, Refusal, Verdict, said_whole}
+use Rattle.fs_cli.proofs.Words.{◌≡◌, ◌≢◌, ◌≤◌, ◌⊎◌, ◌∙◌, ◌∷◌, inl, inr, ℕ, List, [], Option, Result, Ok, Err, refl, sym, subst, arith, rules, Grew, Opened, Openings, OpensFront, IsOneOf, answered, Outside, Rejected, Tape, Capture, Dump, Memory, Limit, Session, ap, Grew-refl, Names, Answers, verdict_with, status_of, Refusal, Verdict, said_whole}
 use Rattle.cmd_stages.proofs.Stages.{answers_for}
-use Rattle.fs_cli.specs.FileCheck.{ChecksFileSo, FileForm, IsDue, Unsaid}
+use Rattle.std.specs.Prelude.{IfOk, MatchResult}
+use Rattle.fs_base.specs.Files.{one_opening}
+use Rattle.cmd_stages.specs.Refusal.{IsOfFile}
+use Rattle.cmd_enforce.specs.{Judge.{IsOfCapture}, Stamps.{IsUnsaid}, Survey.{capture_verdict}, declared.survey.CaptureSaid.{CaptureSaid}}
+use Rattle.fs_cli.specs.{FileCheck.{ChecksFileSo, FileForm, IsDue, OfCapture, OfConfig, Unsaid, file_openings, file_statuses}, declared.file_check.Said.{Said}}
 
 -- nothing was said
 pub file_unsaid : (limit : ℕ) (holds : Names) (form : FileForm) (failed other : Type 0) (a : Option (List ℕ)) (refusal : Refusal)
@@ -14,3 +18,93 @@ file_unsaid limit holds form failed other a refusal (inr (inr h)) f = inl (inr (
 pub file_said : (limit : ℕ) (holds : Names) (form : FileForm) (failed other : Type 0) (before now : Option (List ℕ)) (verdict : Verdict) (answer : ℕ)
     → IsDue limit holds form verdict → Answers verdict failed before now answer → (failed → other) → ChecksFileSo limit holds form other before now answer
 file_said limit holds form failed other before now verdict answer due answers f = inr (verdict, due, answers_for verdict failed other before now answer answers f)
+
+-- the statuses that a form of `check` of a file may answer
+
+pub config_possible : (result : Result Said Refusal) → IsOfFile (answered result) × (answered result ≢ 3)
+    → IfOk result (λ said. (said.status ≡ 0) ⊎ (said.status ≡ 9))
+    → MatchResult result (λ said. IsOneOf (0 ∷ 1 ∷ 6 ∷ 7 ∷ 9 ∷ []) said.status) (λ refusal. IsOneOf (0 ∷ 1 ∷ 6 ∷ 7 ∷ 9 ∷ []) (status_of refusal))
+config_possible (Ok said) p (inl h) = inl h
+config_possible (Ok said) p (inr h) = inr (inr (inr (inr (inl h))))
+config_possible (Err Outside) p a = inr (inl refl)
+config_possible (Err Rejected) p a = absurd (p.1 refl)
+config_possible (Err (Tape reason place)) p a = absurd (p.0.0 refl)
+config_possible (Err Capture) p a = absurd (p.0.1 refl)
+config_possible (Err Dump) p a = absurd (p.0.3 refl)
+config_possible (Err Memory) p a = inr (inr (inl refl))
+config_possible (Err Limit) p a = inr (inr (inr (inl refl)))
+config_possible (Err Session) p a = absurd (p.0.2 refl)
+
+pub capture_possible : (result : Result CaptureSaid Refusal) → IsOfCapture (answered result) × (answered result ≢ 5)
+    → IfOk result (λ said. (said.status ≡ 0) ⊎ (said.status ≡ 5))
+    → MatchResult result (λ said. IsOneOf (0 ∷ 1 ∷ 5 ∷ 6 ∷ 7 ∷ []) said.status) (λ refusal. IsOneOf (0 ∷ 1 ∷ 5 ∷ 6 ∷ 7 ∷ []) (status_of refusal))
+capture_possible (Ok said) p (inl h) = inl h
+capture_possible (Ok said) p (inr h) = inr (inr (inl h))
+capture_possible (Err Outside) p a = inr (inl refl)
+capture_possible (Err Rejected) p a = absurd (p.0.0 refl)
+capture_possible (Err (Tape reason place)) p a = absurd (p.0.1 refl)
+capture_possible (Err Capture) p a = absurd (p.1 refl)
+capture_possible (Err Dump) p a = absurd (p.0.3 refl)
+capture_possible (Err Memory) p a = inr (inr (inr (inl refl)))
+capture_possible (Err Limit) p a = inr (inr (inr (inr (inl refl))))
+capture_possible (Err Session) p a = absurd (p.0.2 refl)
+
+-- a call on the outside may fail in each
+outside_possible : (form : FileForm) (answer : ℕ) → answer ≡ 1 → IsOneOf (file_statuses form) answer
+outside_possible (OfConfig config) answer h = inr (inl h)
+outside_possible (OfCapture capture) answer h = inr (inl h)
+
+-- what is said is written, or a call on the outside failed
+pub said_possible : (form : FileForm) (status answer : ℕ) → IsOneOf (file_statuses form) status → (answer ≡ status) ⊎ (answer ≡ 1) → IsOneOf (file_statuses form) answer
+said_possible form status answer p (inl h) = subst (IsOneOf (file_statuses form)) (sym h) p
+said_possible form status answer p (inr h) = outside_possible form answer h
+
+none_else : (statuses : List ℕ) (answer other : ℕ) → IsOneOf statuses answer → answer ≡ other → IsOneOf statuses other
+none_else statuses answer other p h = subst (IsOneOf statuses) h p
+
+-- words that ask for no command, and the tape, have statuses of their own
+pub never_other : (form : FileForm) (answer : ℕ) → IsOneOf (file_statuses form) answer → (answer ≢ 2) × (answer ≢ 4)
+never_other form answer p = (λ h. two form (none_else (file_statuses form) answer 2 p h), λ h. four form (none_else (file_statuses form) answer 4 p h))
+  where
+    two : (form : FileForm) → IsOneOf (file_statuses form) 2 → ⊥
+    two (OfConfig config) p = search (rules, p)
+    two (OfCapture capture) p = search (rules, p)
+
+    four : (form : FileForm) → IsOneOf (file_statuses form) 4 → ⊥
+    four (OfConfig config) p = search (rules, p)
+    four (OfCapture capture) p = search (rules, p)
+
+-- what was opened where something is said, and it is written or a call on the outside failed
+pub opens_said : (openings : Openings) (before now : Option (List Opened)) (status answer : ℕ) → OpensFront openings before now 0
+    → status ≢ 3 → (answer ≡ status) ⊎ (answer ≡ 1) → OpensFront openings before now answer
+opens_said openings before now status answer p other is = record {
+  count = p.count;
+  front = p.front;
+  some = p.some;
+  few = λ three. by three is;
+  all = λ zero. p.all refl;
+}
+  where
+    by : answer ≡ 3 → (answer ≡ status) ⊎ (answer ≡ 1) → p.count ≤ openings.judged
+    by three (inl h) = absurd (other (sym h ∙ three))
+    by three (inr h) = let wrong : 1 ≡ 3 = sym h ∙ three in absurd cc
+
+-- a capture was opened
+pub capture_opens : (capture : List ℕ) (before now : Option (List Opened)) (answer : ℕ) → Grew before now (one_opening 2 capture)
+    → OpensFront (file_openings (OfCapture capture)) before now answer
+capture_opens capture before now answer grew =
+    record { count = 1; front = grew; some = omega arith; few = λ three. omega arith; all = λ zero. omega arith }
+
+-- nothing is said of a capture
+pub capture_unsaid : (limit : ℕ) (holds : Names) (capture : List ℕ) (failed : Type 0) (refusal : Refusal)
+    → IsUnsaid (capture_verdict limit holds capture) failed refusal → Unsaid (IsDue limit holds (OfCapture capture)) failed refusal
+capture_unsaid limit holds capture failed refusal (inl h) = inl h
+capture_unsaid limit holds capture failed refusal (inr (inl h)) = inr (inl h)
+capture_unsaid limit holds capture failed refusal (inr (inr h)) = inr (inr h)
+
+-- what is said has no status at which nothing is written
+pub never_quiet : {A : Type 0} (status answer : ℕ) → (status ≢ 3) × (status ≢ 6) → (answer ≡ status) ⊎ (answer ≡ 1) → (answer ≡ 3) ⊎ (answer ≡ 6) → A
+never_quiet status answer other (inl h) (inl three) = absurd (other.0 (sym h ∙ three))
+never_quiet status answer other (inl h) (inr six) = absurd (other.1 (sym h ∙ six))
+never_quiet status answer other (inr h) (inl three) = let wrong : 1 ≡ 3 = sym h ∙ three in absurd cc
+never_quiet status answer other (inr h) (inr six) = let wrong : 1 ≡ 6 = sym h ∙ six in absurd cc

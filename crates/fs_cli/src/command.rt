@@ -1,7 +1,7 @@
 //! What the words of the command line ask for.
 
 ghost use Rattle.std.specs.{Prelude.{◌≡◌, ◌∷◌, [], decimal, map, option_map, string_bytes}, Str.{bytes_eq}};
-ghost use Rattle.fs_cli.specs.Command.{check_form, count_of, form_of, is_name, form_shown, subject_of, survey_of};
+ghost use Rattle.fs_cli.specs.{FileCheck.{file_shown}, Command.{check_form, count_of, file_of, form_of, is_name, form_shown, subject_of, survey_of}};
 
 use crate::file_check::CheckedFile;
 use crate::survey::Survey;
@@ -159,12 +159,23 @@ fn parse_check<'w>(subject: &str, word: &'w str) -> Option<Command<'w>>
     if !is_name(word) {
         return None;
     }
-    if subject == "config" {
-        return Some(Command::CheckFile(CheckedFile::Config(word)));
+    if let Some(file) = file_of(subject, word) {
+        return Some(Command::CheckFile(file));
     }
     match subject_of(subject) {
         Some(subject) => Some(Command::Check(subject, word)),
         None => None,
+    }
+}
+
+/// The file that is to be checked, by its kind.
+fn file_of<'w>(kind: &str, word: &'w str) -> Option<CheckedFile<'w>>
+    ensures { option_map file_shown result ≡ file_of kind.now word.entry.now }
+{
+    match kind {
+        "config" => Some(CheckedFile::Config(word)),
+        "capture" => Some(CheckedFile::Capture(word)),
+        _ => None,
     }
 }
 

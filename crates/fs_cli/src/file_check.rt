@@ -2,9 +2,10 @@
 
 ghost use Rattle.std.specs.Prelude.{◌≡◌, ◌≢◌, ◌≤◌, ◌⊎◌, IfOk, IsTrue, MatchResult};
 ghost use Rattle.fs_base.specs.{Happened.{happened}, Outside.{Rose}};
-ghost use Rattle.cmd_stages.specs.{Load.{OpensFront}, Refusal.{Answers, IsOfFile, answered}};
+ghost use Rattle.cmd_stages.specs.{Load.{OpensFront}, Refusal.{Answers, IsOfFile, answered, status_of}};
 ghost use Rattle.fs_cli.specs.{FileCheck.{ChecksFile, IsDue, JudgesConfig, OfConfig, Unsaid, file_openings, file_shown, file_statuses, said_shown}, Program.{IsOneOf}};
 
+use crate::capture_check::say_of_capture;
 use cmd_stages::{CONFIG_SLOT, Refusal, load_file, status};
 use fs_base::{Failed, Files, Memory, Sink, write_all};
 use fs_conf::{ConfigFault, judge_config, names_the_fault};
@@ -15,13 +16,15 @@ use std::alloc::Global;
 pub enum CheckedFile<'w> {
     /// A configuration.
     Config(&'w str),
+    /// A capture.
+    Capture(&'w str),
 }
 
-/// What is said of a file, and the status: 0, or 9.
+/// What is said of a file, and the status: 0, or that of a fault.
 #[derive(Drop)]
 pub(crate) struct Said {
-    status: u8,
-    text: String,
+    pub(crate) status: u8,
+    pub(crate) text: String,
 }
 
 /// Says whether the file is accepted, or where its first fault is, and answers the status.
@@ -68,8 +71,10 @@ fn say_of_file<F: Files>(
     limit: u64,
 ) -> Result<Said, Refusal>
     ensures later { F.faults files.old ≤ F.faults files.new }
-    ensures possible { IsOfFile (answered result) × (answered result ≢ 3) }
-    ensures accepted { IfOk result (λ said. (said.status ≡ 0) ⊎ (said.status ≡ 9)) }
+    ensures possible { MatchResult result
+        (λ said. IsOneOf (file_statuses (file_shown checked.entry)) said.status)
+        (λ refusal. IsOneOf (file_statuses (file_shown checked.entry)) (status_of refusal)) }
+    ensures accepted { IfOk result (λ said. (said.status ≢ 3) × (said.status ≢ 6)) }
 
     ensures said { IsTrue F.tells
         → MatchResult result
@@ -81,6 +86,7 @@ fn say_of_file<F: Files>(
 {
     match checked {
         CheckedFile::Config(config) => say_of_config(alloc, files, config, limit),
+        CheckedFile::Capture(capture) => say_of_capture(alloc, files, capture, limit),
     }
 }
 

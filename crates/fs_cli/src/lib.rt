@@ -1,6 +1,7 @@
 //! The commands of the program.
 #![tactic(auto)]
 
+mod capture_check;
 mod changes;
 mod command;
 mod file_check;

@@ -3,3 +3,4 @@ pub mod Header
 pub mod Head
 pub mod Capture
 pub mod Laws
+pub mod Fault

@@ -7,6 +7,7 @@ ghost use Rattle.fs_pcap.specs.{Head.{longest_record}, Capture.{Grows, Times, he
 use crate::fault::{CaptureFault, CaptureReason};
 use crate::head::{Context, HEAD_SIZE};
 use crate::header::{HEADER_SIZE, Heading, read_header};
+use crate::order::Unit;
 use fs_base::{Counted, Files, Link, fill};
 use fs_input::{Ended, next_record, opened};
 use std::marker::Model;
@@ -110,6 +111,13 @@ impl Capture {
         ensures { result ≡ self.now.heading.link }
     {
         self.heading.link
+    }
+
+    /// The unit in which fractions of a second are counted.
+    pub fn unit(&self) -> Unit
+        ensures { result ≡ self.now.heading.unit }
+    {
+        self.heading.unit
     }
 
     /// Whether `next` answers without a call to the outside: the next record stands whole in what the slot gives at

@@ -1,6 +1,7 @@
 //! What is wrong with a capture.
 
 use fs_input::Fault;
+use std::fmt;
 
 /// What is wrong with a capture.
 #[derive(Clone, Copy, Debug, PartialEq, Eq, Drop)]
@@ -15,6 +16,23 @@ pub enum CaptureReason {
     RecordTooLong,
     /// The capture ends within its header or a record.
     Cut,
+}
+
+impl fmt::Display for CaptureReason {
+    ghost use Rattle.std.specs.Prelude.{Some};
+    ghost use Rattle.fs_pcap.specs.Fault.{reason_name};
+
+    ghost output = { λ reason. Some (reason_name reason) };
+
+    fn fmt<W: fmt::Write>(&self, f: &mut fmt::Formatter<W>) -> fmt::Result {
+        match self {
+            CaptureReason::Magic => f.write_str("Magic"),
+            CaptureReason::Version => f.write_str("Version"),
+            CaptureReason::Link => f.write_str("Link"),
+            CaptureReason::RecordTooLong => f.write_str("RecordTooLong"),
+            CaptureReason::Cut => f.write_str("Cut"),
+        }
+    }
 }
 
 /// Why a capture gives no further record. The place of a wrong field is that of its first octet in the capture, from

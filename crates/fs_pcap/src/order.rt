@@ -48,7 +48,7 @@ pub enum Unit {
 impl Unit {
     /// The time of a record, in nanoseconds since the start of 1970. A fraction of a second and more is taken as it
     /// stands.
-    pub(crate) fn time(self, seconds: u32, fraction: u32) -> u64
+    pub fn time(self, seconds: u32, fraction: u32) -> u64
         ensures { result ≡ time_of self seconds fraction }
     {
         let fraction = fraction as u64;

@@ -150,7 +150,11 @@ impl Ng {
 }
 
 /// Reads the first block of a capture.
-fn take_opening<F: Files>(section: &mut Section, counted: &mut Counted, files: &mut F) -> Got<()>
+pub(crate) fn take_opening<F: Files>(
+    section: &mut Section,
+    counted: &mut Counted,
+    files: &mut F,
+) -> Got<()>
     requires nothing { section.old ≡ nothing }
     requires start { counted.old.taken ≡ 0 }
     requires few { length counted.old.back ≤ 4 }

@@ -1,6 +1,7 @@
 //! What is wrong with a capture.
 
 use fs_input::Fault;
+use std::fmt;
 
 /// What is wrong with a capture.
 #[derive(Clone, Copy, Debug, PartialEq, Eq, Drop)]
@@ -20,6 +21,25 @@ pub enum NgReason {
     TooMany,
     /// The capture ends within a block.
     Cut,
+}
+
+impl fmt::Display for NgReason {
+    ghost use Rattle.std.specs.Prelude.{Some};
+    ghost use Rattle.fs_pcapng.specs.Fault.{reason_name};
+
+    ghost output = { λ reason. Some (reason_name reason) };
+
+    fn fmt<W: fmt::Write>(&self, f: &mut fmt::Formatter<W>) -> fmt::Result {
+        match self {
+            NgReason::Magic => f.write_str("Magic"),
+            NgReason::Version => f.write_str("Version"),
+            NgReason::Length => f.write_str("Length"),
+            NgReason::Interface => f.write_str("Interface"),
+            NgReason::RecordTooLong => f.write_str("RecordTooLong"),
+            NgReason::TooMany => f.write_str("TooMany"),
+            NgReason::Cut => f.write_str("Cut"),
+        }
+    }
 }
 
 /// Why a capture gives no further packet. The place of a wrong field is that of its first octet in the capture, from
