@@ -160,7 +160,7 @@ def strangers(folder):
         for _ in range(STRANGERS):
             with recorder.connect(STRANGER) as end:
                 end.sendall(b"hello")
-        waits_for(lambda: recorder.descriptors() <= open_before, "no descriptor is left open")
+        waits_for(recorder.listens, "all strangers are turned away")
         took(recorder, f"{STRANGERS} strangers", begun, before)
         print(f"{open_before} descriptors before, {recorder.descriptors()} behind; {len(recorder.items()[0])} records")
 

@@ -212,15 +212,20 @@ class Recorder:
             words = [PROGRAM, "record", "config", f"{host}:{self.port}"]
             self.process = subprocess.Popen(words, cwd=self.folder, stdin=subprocess.DEVNULL, stdout=tape,
                                             env=self.environment, preexec_fn=self.before)
-        waits_for(lambda: self.listens() or self.process.poll() is not None, "it listens, or ends")
+        try:
+            waits_for(lambda: self.listens() or self.process.poll() is not None, "it listens, or ends")
+        except OSError:
+            self.end(signal.SIGKILL)
+            raise
         return self.process.poll() is None
 
     def listens(self):
+        """Whether it takes a stranger's connection, and closes it, as it has all that were made before."""
         try:
-            self.connect(STRANGER).close()
+            with self.connect(STRANGER) as end:
+                return not end.recv(1)
         except ConnectionError:
             return False
-        return True
 
     def connect(self, address):
         """A connection from this address."""

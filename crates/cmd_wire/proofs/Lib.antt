@@ -11,3 +11,6 @@ pub mod Carrying
 pub mod Arrivable
 pub mod Accepted
 pub mod Named
+mod Folding
+mod Recorded
+mod RecordingEnds

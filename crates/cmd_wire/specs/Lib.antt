@@ -7,3 +7,4 @@ pub mod Listening
 pub mod Pairing
 pub mod Promised
 pub mod Laws
+pub mod Recording

@@ -5,3 +5,4 @@ pub mod Surveying
 pub mod Following
 pub mod Telling
 pub mod Running
+mod Living

@@ -12,3 +12,4 @@ pub mod Command
 pub mod FileCheck
 pub mod Program
 pub mod Survey
+pub mod Live

@@ -222,7 +222,7 @@ fn subject_of(word: &str) -> Option<Subject>
 }
 
 /// Whether a word can name a file or an end of a connection: it isn't empty, and isn't an option.
-fn is_name(word: &str) -> bool
+pub(crate) fn is_name(word: &str) -> bool
     ensures { result ≡ is_name word.now }
 {
     !word.is_empty() && !word.starts_with('-')

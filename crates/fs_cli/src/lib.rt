@@ -6,6 +6,7 @@ mod changes;
 mod command;
 mod file_check;
 mod laws;
+mod live;
 mod program;
 mod survey;
 
@@ -15,4 +16,5 @@ pub use fs_changes::{follows, leads, says_nothing};
 pub use fs_desk::{Desk, same_routes};
 pub use fs_speaker::Standing;
 pub use laws::same_changes;
+pub use live::{run_live, run_live_within};
 pub use program::{run, run_within};

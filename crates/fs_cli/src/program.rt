@@ -21,7 +21,7 @@ use fs_reports::{Report, report_on, report_on_text};
 use std::alloc::Global;
 
 /// The most octets that an input may have.
-const LIMIT: u64 = 1 << 40;
+pub(crate) const LIMIT: u64 = 1 << 40;
 
 /// Runs the command that the words ask for, over inputs of fewer than 2^40 octets, and answers the status with which
 /// the process is to end (see `status`). `words` are those after the program's name.
@@ -175,7 +175,7 @@ fn perform<F: Files, S: Sink, W: Wire, C: Clock>(
 }
 
 /// The status of a command that is done or was refused.
-fn answer_of(done: Result<(), Refusal>) -> u8
+pub(crate) fn answer_of(done: Result<(), Refusal>) -> u8
     ensures answered { result ≡ answered done }
     ensures known { result ≢ 2 }
 {

@@ -1,15 +1,17 @@
 //! Runs of the whole program, as case files name them: what a run must write and its status stand there, and are compared
-//! with what came. Its files, output, wire and clock lie in memory, or are those of the system. Each argument is the name
+//! with what came. Its files, output, wire, clock and gate lie in memory, or are those of the system. Each argument is the name
 //! of a case file; the head of the first one says how such a file is written.
 #![tactic(auto)]
 
 mod answered_wire;
 mod case_files;
+mod cues;
 mod fault;
 mod fields;
 mod making;
 mod message;
 mod named;
+mod noted_gate;
 mod noted_wire;
 mod octets;
 mod outcome;

@@ -4,13 +4,15 @@ use crate::answered_wire::{AnsweredWire, Peer};
 use crate::fault::Fault;
 use crate::fields::size;
 use crate::named::NamedFiles;
+use crate::noted_gate::NotedGate;
 use crate::noted_wire::NotedWire;
 use crate::octets::Octets;
 use crate::terms::Terms;
 use crate::turning_files::TurningFiles;
 use fs_base::{
-    MemClock, MemFiles, MemSink, MemWire, RealClock, RealFiles, RealOut, RealWire, Wire,
+    CalmGate, MemClock, MemFiles, MemSink, MemWire, RealClock, RealFiles, RealOut, RealWire, Wire,
 };
+use fs_cli::{run_live, run_live_within};
 use std::alloc::Global;
 use std::fs;
 
@@ -20,7 +22,8 @@ const ROOM: usize = 1 << 20;
 /// The file that a run over the real outside writes.
 const WRITTEN: &str = "written";
 
-/// How a run ended: its status, what it wrote, what it wrote through each end of the wire, and its calls on the wire.
+/// How a run ended: its status, what it wrote, what it wrote through each end of the wire, its calls on the wire, and what
+/// it asked of the gate.
 #[derive(Drop)]
 pub struct Outcome {
     pub status: u8,
@@ -28,6 +31,7 @@ pub struct Outcome {
     pub first: Octets,
     pub second: Octets,
     pub called: Octets,
+    pub asked: Octets,
 }
 
 /// Adds the files that the words name.
@@ -59,7 +63,7 @@ fn add_file(
     }
 }
 
-/// Runs the words over the files that they name, with output, a wire and a clock in memory.
+/// Runs the words over the files that they name, with output, a wire, a clock and a gate in memory.
 pub fn run_in_memory(
     alloc: Global,
     named: &NamedFiles,
@@ -125,10 +129,16 @@ fn run_over_wire(
 ) -> Result<Outcome, Fault> {
     let mut clock = MemClock::new(Vec::from_slice(alloc, &terms.moments)?);
     let limit = terms.limit.max(1);
-    let status = fs_cli::run_within(alloc, words, limit, files, sink, noted, &mut clock);
-    noted.calls.check()?;
+    let failing = Vec::from_slice(alloc, &terms.failing.gate)?;
+    let mut gate = NotedGate::new(alloc, terms.cues.gate(alloc, failing)?);
+    let status = run_live_within(
+        alloc, words, limit, files, sink, noted, &mut clock, &mut gate,
+    );
     let mut outcome = Outcome::new(alloc, status);
     outcome.note(sink.text(), noted);
+    outcome.asked.append(gate.asked.as_slice());
+    noted.calls.check()?;
+    gate.asked.check()?;
     Ok(outcome)
 }
 
@@ -141,6 +151,7 @@ impl Outcome {
             first: Octets::new(alloc),
             second: Octets::new(alloc),
             called: Octets::new(alloc),
+            asked: Octets::new(alloc),
         }
     }
 
@@ -163,12 +174,22 @@ fn write_files(rt: &HostRuntime, named: &NamedFiles, words: &[String]) -> Result
     Ok(())
 }
 
-/// Runs the words over the files of the system, into a file, with the clock of the system and over this wire.
+/// Runs the words over the files of the system, into a file, with the clock of the system and over this wire, beside a gate
+/// at which nothing comes.
 fn run_for_real<W: Wire>(rt: &HostRuntime, words: &[String], wire: &mut W) -> Result<u8, Fault> {
     let mut out = RealOut::new(fs::create(rt, WRITTEN)?);
     let mut files = RealFiles::new(rt.alloc(), rt);
     let mut clock = RealClock::new(rt);
-    Ok(fs_cli::run(rt.alloc(), words, &mut files, &mut out, wire, &mut clock))
+    let (files, out, clock) = (&mut files, &mut out, &mut clock);
+    Ok(run_live(
+        rt.alloc(),
+        words,
+        files,
+        out,
+        wire,
+        clock,
+        &mut CalmGate::new(),
+    ))
 }
 
 /// The same in a folder in which the files that the words name stand. Of what goes through a connection what a peer in the

@@ -105,6 +105,8 @@ impl Runner {
             "gives" => self.give(rest),
             "said" => self.expect_said(rest),
             "called" => self.expect_calls(rest),
+            "cue" => self.terms.cues.add(&self.named, rest),
+            "asks" => self.expect_asked(rest),
             _ => self.fill(word, rest),
         }
     }
@@ -207,6 +209,16 @@ impl Runner {
         called.check()
     }
 
+    /// What is asked of the gate.
+    fn expect_asked(&mut self, text: &str) -> Result<(), Fault> {
+        let asked = self.terms.asked.open();
+        if !text.is_empty() {
+            self.named.append_words(text, asked);
+            asked.word(", ");
+        }
+        asked.check()
+    }
+
     /// A file, in one line: its name and its octets.
     fn define(&mut self, rest: &str) -> Result<(), Fault> {
         let (name, field) = word_of(rest)?;
@@ -267,13 +279,15 @@ impl Runner {
         self.compare_wire(rt, outcome)
     }
 
-    /// Compares what was written through the ends of the wire, and the calls on it, where that is said.
+    /// Compares what was written through the ends of the wire, the calls on it, and what was asked of the gate, where that is
+    /// said.
     fn compare_wire(&mut self, rt: &HostRuntime, outcome: &Outcome) -> Result<(), Fault> {
         let (case, tally, terms) = (self.case.as_str(), &mut self.tally, &self.terms);
         let first = compare_due(rt, tally, case, &terms.first.said, &outcome.first);
         let second = compare_due(rt, tally, case, &terms.second.said, &outcome.second);
         let called = compare_due(rt, tally, case, &terms.called, &outcome.called);
-        first.and(second).and(called)
+        let asked = compare_due(rt, tally, case, &terms.asked, &outcome.asked);
+        first.and(second).and(called).and(asked)
     }
 
     /// The next run has the same words, and the rest as at first.

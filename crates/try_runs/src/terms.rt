@@ -1,5 +1,6 @@
 //! What a run is given beside its words and files, and what it must answer.
 
+use crate::cues::Cues;
 use crate::fault::Fault;
 use crate::fields::number;
 use crate::octets::Octets;
@@ -17,6 +18,7 @@ pub struct Failing {
     pub files: Vec<u64>,
     pub output: Vec<u64>,
     pub wire: Vec<u64>,
+    pub gate: Vec<u64>,
 }
 
 /// A file of another content: from its second opening on the file of this name is that of the other.
@@ -49,8 +51,8 @@ pub struct End {
 }
 
 /// What a run is given: the limit, the room of its output, the calls that fail, the most octets of a call, what the clock
-/// answers, a file of another content and the ends of the wire. And what it must write, the calls that it must make on the
-/// wire, and the status that is due where calls fail in turn.
+/// answers, a file of another content, the ends of the wire and what comes at the gate. And what it must write, the calls
+/// that it must make on the wire, what it must ask of the gate, and the status that is due where calls fail in turn.
 #[derive(Drop)]
 pub struct Terms {
     pub limit: u64,
@@ -63,6 +65,8 @@ pub struct Terms {
     pub first: End,
     pub second: End,
     pub called: Due,
+    pub cues: Cues,
+    pub asked: Due,
     pub written: Octets,
 }
 
@@ -73,6 +77,7 @@ impl Failing {
             files: Vec::new(alloc),
             output: Vec::new(alloc),
             wire: Vec::new(alloc),
+            gate: Vec::new(alloc),
         }
     }
 }
@@ -125,6 +130,8 @@ impl Terms {
             first: End::new(alloc),
             second: End::new(alloc),
             called: Due::new(alloc),
+            cues: Cues::new(alloc),
+            asked: Due::new(alloc),
             written: Octets::new(alloc),
         }
     }
@@ -159,6 +166,7 @@ impl Terms {
             "fail_file" => Some(&mut self.failing.files),
             "fail_write" => Some(&mut self.failing.output),
             "fail_wire" => Some(&mut self.failing.wire),
+            "fail_gate" => Some(&mut self.failing.gate),
             "moment" => Some(&mut self.moments),
             _ => None,
         }

@@ -1,8 +1,8 @@
 //! Welgutan: a controller and packet enforcer for BGP Flow Specification.
 #![tactic(auto)]
 
-use fs_base::{RealClock, RealFiles, RealOut, RealWire};
-use fs_cli::status;
+use fs_base::{RealClock, RealFiles, RealGate, RealOut, RealWire};
+use fs_cli::{run_live, status};
 use std::env;
 use std::io::ErrorKind;
 use std::process::ExitCode;
@@ -23,5 +23,8 @@ fn main(rt: HostRuntime) -> ExitCode {
     let mut out = RealOut::new(rt.stdout());
     let mut wire = RealWire::new(&rt);
     let mut clock = RealClock::new(&rt);
-    ExitCode::from(fs_cli::run(alloc, &words, &mut files, &mut out, &mut wire, &mut clock))
+    let mut gate = RealGate::new(alloc, &rt);
+    ExitCode::from(run_live(
+        alloc, &words, &mut files, &mut out, &mut wire, &mut clock, &mut gate,
+    ))
 }

@@ -1,0 +1,193 @@
+-- What a recorder did, event by event.
+use Rattle.cmd_wire.proofs.{Words.{◌≡◌, ◌∙◌, ◌≤◌, ◌<◌, ℕ, List, [], ◌∷◌, ◌++◌, Option, Some, None, Result, Ok, Err, length, append-nil, append_assoc, arith, ap, refl, sym, subst, inl, inr, Grew, Grew-trans, Config}, Folding.{recorded_more, stands_more, timed_at, turns_at, turns_more}}
+use Rattle.std.{specs.Prelude.{OnErr, OnOk, flat_map, max, take, ◌^◌}, proofs.{lemmas.Grind.{flat_map-append}, Math.Seq.{take-append_seam}}}
+use Rattle.fs_base.{specs.{Gate.{Turn, What, came}, Sink.{GrewPart}}, proofs.Grew.{Grew-refl}}
+use Rattle.fs_base.specs.Language.{IsOctets}
+use Rattle.fs_input.specs.Parts.{AllFrom}
+use Rattle.fs_tape.proofs.ReadsBack.{reads_back}
+use Rattle.fs_tape.specs.{Laws.{Fits, after, item_text, tape_text}, Magic.{magic_of}, Tape.{Timed, stands}, declared.magic.Version.TheVariants.{Two}}
+use Rattle.fs_recorder.specs.{Books.{Agrees, Booked}, Deeds.{AreKnown, Recording, StayKnown, asked_in, items_of, passing, text_at, told_at}, Steps.{Between, Happening, at_first, behind, empty_station, hears, recorded, stands_from, step_at, swept_after, turns_from}, Tapes.{Scribed, begun}, Works.{BreaksAt, BreaksSo, DidHear, DoesStep, Stands}}
+use Rattle.cmd_wire.specs.Recording.{Breaks, BreaksOne, Continues, Hears, HearsOne, IsUnbegun, Records, RecordsAll, StandsAt, TellsAll, begun_text, begun_turns}
+
+-- the clock on the wall says another moment
+agrees_passed : (config : Config) (told : List Timed) (moment : ℕ) → moment < 2 ^ 64 → (old : Recording) → Agrees config told old.books
+    → Agrees config told (passing moment old).books
+agrees_passed config told moment small old a = record {
+  played = a.played;
+  fit = a.fit;
+  risen = omega (arith, a.risen);
+  room = omega (arith, a.room, small);
+  long = a.long;
+  below = a.below;
+}
+
+-- one event, by what its turn tells and what it calls for
+module _ (old new : Recording) (moment time : ℕ) (what : What) (small : moment < 2 ^ 64) (t t1 t2 : Option (List Turn)) (w w' : Option (List ℕ))
+    (tells : Grew t t1 (came moment time what ∷ [])) where
+  abbrev event : Happening
+  event = record { moment = moment; time = time; what = what }
+
+  passed_stands : (between : Between) → Stands between.station old → Stands between.station (passing moment old)
+  passed_stands between s = record {
+    played = s.played;
+    seats_are = s.seats_are;
+    live = s.live;
+    apart = s.apart;
+    known = s.known;
+  }
+
+  pub hears_of : DidHear (swept_after old.swept time) (hears old.books.desk.config old.swept time what) (passing moment old) new t1 t2 w w'
+      → StayKnown (passing moment old) new → HearsOne old new t t2 w w'
+  hears_of did stay config between s =
+      let d : DoesStep (swept_after old.swept time) (hears old.books.desk.config old.swept time what between.station) (passing moment old) new t1 t2 w w' =
+      did between.station (passed_stands between s.stands) in
+      let d : DoesStep (swept_after old.swept time) (hears config old.swept time what between.station) (passing moment old) new t1 t2 w w' =
+      subst (λ (c : Config). DoesStep (swept_after old.swept time) (hears c old.swept time what between.station) (passing moment old) new t1 t2 w w') s.config_is d in
+      let d : DoesStep (swept_after between.swept time) (step_at config between event) (passing moment old) new t1 t2 w w' =
+      subst (λ (n : ℕ). DoesStep (swept_after n time) (hears config n time what between.station) (passing moment old) new t1 t2 w w') s.swept_is d in
+      let at : max old.books.scribe.moment moment ≡ max between.moment moment = ap (λ (n : ℕ). max n moment) s.moment_is in (
+        event,
+        record {
+          stands = record {
+            config_is = d.does.config_is ∙ s.config_is;
+            stands = d.stands;
+            swept_is = d.swept_is;
+            moment_is = d.does.moment_is ∙ at;
+            known = subst (λ (c : Config). AreKnown c new.seats) (d.does.config_is ∙ s.config_is)
+                (stay (subst (λ (c : Config). AreKnown c old.seats) (sym s.config_is) s.known));
+          };
+          gate = Grew-trans t t1 t2 (came moment time what ∷ []) (asked_in (step_at config between event).deeds) tells d.does.gate;
+          tape = subst (λ (n : ℕ). Grew w w' (text_at n (items_of (step_at config between event).deeds))) at d.does.tape;
+          agrees = λ told a.
+              subst (λ (n : ℕ). Agrees config (told ++ told_at n (items_of (step_at config between event).deeds)) new.books) at
+              (d.does.agrees config told (agrees_passed config told moment small old a));
+        },
+      )
+
+  pub breaks_of : BreaksSo (hears old.books.desk.config old.swept time what) (passing moment old) t1 t2 w w' → BreaksOne old t t2 w w'
+  breaks_of broke config between s =
+      let b : BreaksAt (hears old.books.desk.config old.swept time what between.station).deeds (passing moment old).books t1 t2 w w' =
+      broke between.station (passed_stands between s.stands) in
+      let b : BreaksAt (hears config old.swept time what between.station).deeds (passing moment old).books t1 t2 w w' =
+      subst (λ (c : Config). BreaksAt (hears c old.swept time what between.station).deeds (passing moment old).books t1 t2 w w') s.config_is b in
+      let b : BreaksAt (step_at config between event).deeds (passing moment old).books t1 t2 w w' =
+      subst (λ (n : ℕ). BreaksAt (hears config n time what between.station).deeds (passing moment old).books t1 t2 w w') s.swept_is b in
+      let at : max old.books.scribe.moment moment ≡ max between.moment moment = ap (λ (n : ℕ). max n moment) s.moment_is in
+      let front : b.asked ≡ take (length b.asked) (asked_in (step_at config between event).deeds) =
+      sym (take-append_seam b.asked b.later) ∙ ap (take (length b.asked)) b.front in
+      record {
+        last = Some event;
+        asked = length b.asked;
+        gate = subst (λ (asked : List Turn). Grew t t2 (came moment time what ∷ asked)) front
+            (Grew-trans t t1 t2 (came moment time what ∷ []) b.asked tells b.gate);
+        told = b.part.0;
+        tape = subst (λ (n : ℕ). Grew w w' (take b.part.0 (text_at n (items_of (step_at config between event).deeds)))) at b.part.1;
+      }
+
+-- no event came
+pub breaks_before : (old : Recording) (t t' : Option (List Turn)) (w : Option (List ℕ)) → Grew t t' [] → BreaksOne old t t' w w
+breaks_before old t t' w none config between s = record { last = None; asked = 0; gate = none; told = 0; tape = Grew-refl w }
+
+-- Behind so many events since the first.
+pub record Heard (config : Config) (recording : Recording) (turns turns' : Option (List Turn)) (before now : Option (List ℕ)) : Type 0 where
+  pub events : List Happening
+  pub stands : StandsAt config (stands_from config at_first events) recording
+  pub agrees : Agrees config (recorded config events) recording.books
+  pub gate : Grew turns turns' (turns_from config at_first events)
+  pub tape : Grew before now (flat_map (item_text Two) (recorded config events))
+
+pub heard_none : (config : Config) (recording : Recording) (turns : Option (List Turn)) (written : Option (List ℕ)) → StandsAt config at_first recording
+    → Agrees config [] recording.books → Heard config recording turns turns written written
+heard_none config recording turns written s a = record { events = []; stands = s; agrees = a; gate = Grew-refl turns; tape = Grew-refl written }
+
+pub heard_more : (config : Config) (old new : Recording) (t t1 t2 : Option (List Turn)) (w w1 w2 : Option (List ℕ))
+    → Heard config old t t1 w w1 → HearsOne old new t1 t2 w1 w2 → Heard config new t t2 w w2
+heard_more config old new t t1 t2 w w1 w2 h one =
+    let now : Between = stands_from config at_first h.events in
+    let o : (event : Happening) × Hears config now event old new t1 t2 w1 w2 = one config now h.stands in
+    record {
+      events = h.events ++ o.0 ∷ [];
+      stands = subst (λ (between : Between). StandsAt config between new) (sym (stands_more config at_first h.events o.0)) o.1.stands;
+      agrees = subst (λ (told : List Timed). Agrees config told new.books) (sym (recorded_more config at_first h.events o.0))
+          (o.1.agrees (recorded config h.events) h.agrees);
+      gate = subst (Grew t t2) (sym (turns_more config at_first h.events o.0))
+          (Grew-trans t t1 t2 (turns_from config at_first h.events) (turns_at config now o.0) h.gate o.1.gate);
+      tape = subst (λ (told : List Timed). Grew w w2 (flat_map (item_text Two) told)) (sym (recorded_more config at_first h.events o.0))
+          (subst (Grew w w2) (sym (flat_map-append (item_text Two) (recorded config h.events) (timed_at config now o.0)))
+          (Grew-trans w w1 w2 (flat_map (item_text Two) (recorded config h.events)) (flat_map (item_text Two) (timed_at config now o.0)) h.tape o.1.tape));
+    }
+
+pub broken_behind : (config : Config) (old : Recording) (t t1 t2 : Option (List Turn)) (w w1 w2 : Option (List ℕ))
+    → Heard config old t t1 w w1 → BreaksOne old t1 t2 w1 w2 → Continues config t t2 w w2
+broken_behind config old t t1 t2 w w1 w2 h broke =
+    let now : Between = stands_from config at_first h.events in
+    let b : Breaks config now t1 t2 w1 w2 = broke config now h.stands in
+    record {
+      earlier = h.events;
+      last = b.last;
+      asked = b.asked;
+      gate = Grew-trans t t1 t2 (turns_from config at_first h.events) (begun_turns config now b.last b.asked) h.gate b.gate;
+      fit = h.agrees.fit;
+      told = b.told;
+      tape = Grew-trans w w1 w2 (flat_map (item_text Two) (recorded config h.events)) (begun_text config now b.last b.told) h.tape b.tape;
+    }
+
+pub ended_behind : (config : Config) (recording : Recording) (t t1 : Option (List Turn)) (w w1 : Option (List ℕ)) → Heard config recording t t1 w w1 → Continues config t t1 w w1
+ended_behind config recording t t1 w w1 h =
+    broken_behind config recording t t1 t1 w w1 w1 h (breaks_before recording t1 t1 w1 (Grew-refl t1))
+
+told_all : (config : Config) (items : List Timed) → AllFrom Fits after (stands config Two 0) items → (limit : ℕ) → IsOctets (tape_text Two items)
+    → TellsAll config limit items
+told_all config items fit limit are =
+    let law = reads_back config limit (tape_text Two items) items are in (
+      λ given. (law.0 given).1.below,
+      λ below. law.1 (Two, record { spelled = refl; fit = fit; below = below }),
+    )
+
+-- behind the magic
+pub records_of : (config : Config) (t t' : Option (List Turn)) (w w1 w2 : Option (List ℕ)) → Grew w w1 (magic_of Two) → Continues config t t' w1 w2
+    → Records config t t' w w2
+records_of config t t' w w1 w2 magic c =
+    let now : Between = stands_from config at_first c.earlier in
+    record {
+      earlier = c.earlier;
+      last = c.last;
+      asked = c.asked;
+      gate = c.gate;
+      read_back = told_all config (recorded config c.earlier) c.fit;
+      told = c.told;
+      tape = subst (Grew w w2)
+          (sym (append_assoc (magic_of Two) (flat_map (item_text Two) (recorded config c.earlier)) (begun_text config now c.last c.told)))
+          (Grew-trans w w1 w2 (magic_of Two) (flat_map (item_text Two) (recorded config c.earlier) ++ begun_text config now c.last c.told) magic c.tape);
+    }
+
+-- of an answer
+
+pub both_ok : {T E X Y Z : Type 0} (result : Result T E) → OnOk result X → OnOk result Y → (X → Y → Z) → OnOk result Z
+both_ok (Ok t) x y f = f x y
+both_ok (Err e) x y f = tt
+
+pub ok_to : {T E X Y : Type 0} (result : Result T E) → OnOk result X → (X → Y) → OnOk result Y
+ok_to (Ok t) x f = f x
+ok_to (Err e) x f = tt
+
+pub err_to : {T E X Y : Type 0} (result : Result T E) → OnErr result X → (X → Y) → OnErr result Y
+err_to (Ok t) x f = tt
+err_to (Err e) x f = f x
+
+-- A recorder that has just begun.
+pub begins_at : (config : Config) (recording : Recording) (limit : ℕ) → recording.books.desk.config ≡ config → recording.books.scribe ≡ begun limit
+    → recording.seats ≡ [] → Stands empty_station recording → recording.swept ≡ 0 → StandsAt recording.books.desk.config at_first recording
+begins_at config recording limit config_is scribe_is seats_are stands swept_is = record {
+  config_is = refl;
+  stands = stands;
+  swept_is = swept_is;
+  moment_is = ap (λ (s : Scribed). s.moment) scribe_is;
+  known = subst (AreKnown recording.books.desk.config) (sym seats_are) tt;
+}
+
+-- what follows the magic, of the configuration with which it began
+pub recorded_behind : (config : Config) (recording : Recording) (t t' : Option (List Turn)) (w w1 w2 : Option (List ℕ)) → recording.books.desk.config ≡ config
+    → Grew w w1 (magic_of Two) → Continues recording.books.desk.config t t' w1 w2 → RecordsAll config t t' w w2
+recorded_behind config recording t t' w w1 w2 is magic c =
+    inr (records_of config t t' w w1 w2 magic (subst (λ (c : Config). Continues c t t' w1 w2) is c))

@@ -1,0 +1,88 @@
+-- Why `record` ends, and what it did until then.
+use Rattle.cmd_wire.proofs.{Words.{◌≡◌, ◌≢◌, ◌⊎◌, ◌≤◌, ◌∙◌, ℕ, List, [], Option, refl, sym, ap, subst, inl, inr, Grew, Grew-trans, Rose, rose_earlier, Happened, Config, Names, Found, HasReason, Stage, Stopped, config_stage, status_of, Result, IsErrAnd, answered, answered_err, Refusal, Capture, Dump, Limit, Memory, Outside, Rejected, Session, Tape}, Statuses.{not_stopped, same_found}}
+use Rattle.fs_base.{specs.{Gate.{Turn}, Happened.{FilesFailed}, Sink.{GrewPart}}, proofs.Grew.{Grew-refl, part_none}}
+use Rattle.fs_tape.specs.{Magic.{magic_of}, declared.magic.Version.TheVariants.{Two}}
+use Rattle.fs_recorder.specs.declared.stop.Stop.{Stop, TheVariants.{Failed, Memory as NoMemory, Limit as TooLong}}
+use Rattle.cmd_stages.specs.Refusal.{IsOfFile}
+use Rattle.cmd_wire.specs.Recording.{AtGate, Continues, EndsRecording, IsOfRecording, IsUnbegun, Records, RecordsAll, RecordsSo, SomeFailed, refusal_by}
+
+-- the statuses
+
+pub config_status : (refusal : Refusal) → IsOfFile (status_of refusal) → IsOfRecording (status_of refusal)
+config_status Outside h = inl refl
+config_status Rejected h = inr (inl refl)
+config_status (Tape reason place) h = absurd (h.0 refl)
+config_status Capture h = absurd (h.1 refl)
+config_status Dump h = absurd (h.3 refl)
+config_status Memory h = inr (inr (inl refl))
+config_status Limit h = inr (inr (inr refl))
+config_status Session h = absurd (h.2 refl)
+
+pub stop_status : (stop : Stop) → IsOfRecording (status_of (refusal_by stop))
+stop_status Failed = inl refl
+stop_status NoMemory = inr (inr (inl refl))
+stop_status TooLong = inr (inr (inr refl))
+
+pub never_three : (stop : Stop) → status_of (refusal_by stop) ≢ 3
+never_three Failed e = absurd cc
+never_three NoMemory e = absurd cc
+never_three TooLong e = absurd cc
+
+-- why it ended
+
+pub ends_config : (limit : ℕ) (holds : Names) (config : List ℕ) (call : Happened) (gate : AtGate) (failed : Type 0) (refusal : Refusal)
+    → HasReason (config_stage limit holds config) failed refusal → (failed → FilesFailed call) → EndsRecording limit holds config call gate (status_of refusal)
+ends_config limit holds config call gate failed refusal (inl h) f = inl (refusal, h, refl)
+ends_config limit holds config call gate failed refusal (inr (inl h)) f = inr (inl (ap status_of h))
+ends_config limit holds config call gate failed refusal (inr (inr h)) f = inr (inr (inl (ap status_of h.0, inl (f h.1))))
+
+pub ends_stop : (limit : ℕ) (holds : Names) (config : List ℕ) (call : Happened) (gate : AtGate) (accepted : Config) (stop : Stop)
+    → config_stage limit holds config ≡ Found accepted → (stop ≡ Failed → SomeFailed call gate) → EndsRecording limit holds config call gate (status_of (refusal_by stop))
+ends_stop limit holds config call gate accepted Failed found f = inr (inr (inl (refl, f refl)))
+ends_stop limit holds config call gate accepted NoMemory found f = inr (inl refl)
+ends_stop limit holds config call gate accepted TooLong found f = inr (inr (inr (accepted, found, refl)))
+
+-- a gate that was opened in between
+pub some_failed : (s s' g g1 g2 : ℕ) (files : Type 0) → g ≤ g1 → Rose s s' ⊎ Rose g1 g2 → files ⊎ (Rose s s' ⊎ Rose g g2)
+some_failed s s' g g1 g2 files later (inl r) = inr (inl r)
+some_failed s s' g g1 g2 files later (inr r) = inr (inr (rose_earlier g g1 g2 later r))
+
+-- what it did
+
+pub unbegun : (config : Config) (t t' : Option (List Turn)) (w : Option (List ℕ)) → Grew t t' [] → RecordsAll config t t' w w
+unbegun config t t' w grew = inl (record { gate = grew; tape = part_none w w (magic_of Two) (Grew-refl w) })
+
+pub magic_broken : (config : Config) (t : Option (List Turn)) (w w' : Option (List ℕ)) → GrewPart w w' (magic_of Two) → RecordsAll config t t w w'
+magic_broken config t w w' part = inl (record { gate = Grew-refl t; tape = part })
+
+-- behind the opening of the gate, which tells nothing
+pub opened_first : (config : Config) (t t1 t2 : Option (List Turn)) (w w' : Option (List ℕ)) → Grew t t1 [] → RecordsAll config t1 t2 w w' → RecordsAll config t t2 w w'
+opened_first config t t1 t2 w w' opened (inl u) = inl (record { gate = Grew-trans t t1 t2 [] [] opened u.gate; tape = u.tape })
+opened_first config t t1 t2 w w' opened (inr r) = inr (record {
+  earlier = r.earlier;
+  last = r.last;
+  asked = r.asked;
+  gate = Grew-trans t t1 t2 [] _ opened r.gate;
+  read_back = r.read_back;
+  told = r.told;
+  tape = r.tape;
+})
+
+-- of the configuration that was accepted
+pub records_so : (limit : ℕ) (holds : Names) (config : List ℕ) (accepted : Config) (call : Happened) (gate : AtGate) → config_stage limit holds config ≡ Found accepted
+    → RecordsAll accepted gate.turns gate.turns_now call.before.written call.now.written → RecordsSo limit holds config call gate
+records_so limit holds config accepted call gate found all other same =
+    subst (λ (c : Config). RecordsAll c gate.turns gate.turns_now call.before.written call.now.written) (same_found (sym found ∙ same)) all
+
+-- what is said of a refusal that a `?` hands on
+
+pub ends_unread : {T : Type 0} (limit : ℕ) (holds : Names) (config : List ℕ) (call : Happened) (gate : AtGate) (r : Result T Refusal) (refusal : Refusal)
+    → IsErrAnd r (λ e. e ≡ refusal) → HasReason (config_stage limit holds config) (FilesFailed call) refusal → EndsRecording limit holds config call gate (answered r)
+ends_unread limit holds config call gate r refusal same reason =
+    answered_err (EndsRecording limit holds config call gate) r refusal same
+    (ends_config limit holds config call gate (FilesFailed call) refusal reason (λ f. f))
+
+pub ends_unopened : {T : Type 0} (limit : ℕ) (holds : Names) (config : List ℕ) (call : Happened) (gate : AtGate) (r : Result T Refusal)
+    → IsErrAnd r (λ e. e ≡ Outside) → Rose gate.faults gate.faults_now → EndsRecording limit holds config call gate (answered r)
+ends_unopened limit holds config call gate r same rose =
+    answered_err (EndsRecording limit holds config call gate) r Outside same (inr (inr (inl (refl, inr (inr rose)))))

@@ -1,0 +1,17 @@
+use Rattle.std.proofs.Common.{arith}
+use Rattle.cmd_wire.proofs.Recorded.{broken_behind, heard_more}
+use Rattle.cmd_wire.proofs.recording.hear_all.Goals as goal
+
+pub returns-in_err-hear_next-clause-continues : goal.returns-in_err-hear_next-clause-continues
+returns-in_err-hear_next-clause-continues g c =
+    broken_behind c.args.recorder.now.books.desk.config c.loop.recorder _ (g.G.Gate.turns c.loop.gate) _ _ (g.S.Sink.written c.loop.sink) _
+    c.loop.invariant.heard c.in_err-hear_next.ensures.breaks
+
+pub loop-preserved : goal.loop-preserved
+loop-preserved g c = record {
+  gate_later = omega (arith, c.loop.invariant.gate_later, c.in_ok-hear_next.ensures.later.0);
+  sink_later = omega (arith, c.loop.invariant.sink_later, c.in_ok-hear_next.ensures.later.1);
+  size = c.in_ok-hear_next.ensures.size;
+  heard = heard_more c.args.recorder.now.books.desk.config c.loop.recorder c.hear_next.new.recorder _ (g.G.Gate.turns c.loop.gate) _ _
+      (g.S.Sink.written c.loop.sink) _ c.loop.invariant.heard c.in_ok-hear_next.ensures.hears;
+}
