@@ -1,5 +1,5 @@
 -- What events that come one after another call for.
-use Rattle.cmd_wire.proofs.Words.{◌≡◌, ◌∙◌, ℕ, List, [], ◌∷◌, ◌++◌, append-nil, append_assoc, ap, refl, sym, Config}
+use Rattle.cmd_wire.proofs.Words.{◌≡◌, ◌∙◌, List, [], ◌∷◌, ◌++◌, append-nil, append_assoc, ap, refl, sym, Config}
 use Rattle.std.specs.Prelude.{max}
 use Rattle.fs_base.specs.Gate.{Turn, came}
 use Rattle.fs_tape.specs.Tape.{Timed}

@@ -1,13 +1,11 @@
 -- What a recorder did, event by event.
-use Rattle.cmd_wire.proofs.{Words.{◌≡◌, ◌∙◌, ◌≤◌, ◌<◌, ℕ, List, [], ◌∷◌, ◌++◌, Option, Some, None, Result, Ok, Err, length, append-nil, append_assoc, arith, ap, refl, sym, subst, inl, inr, Grew, Grew-trans, Config}, Folding.{recorded_more, stands_more, timed_at, turns_at, turns_more}}
+use Rattle.cmd_wire.proofs.{Words.{◌≡◌, ◌∙◌, ◌<◌, ℕ, List, [], ◌∷◌, ◌++◌, Option, Some, None, Result, Ok, Err, length, append_assoc, arith, ap, refl, sym, subst, inr, Grew, Grew-trans, Config}, Folding.{recorded_more, stands_more, timed_at, turns_at, turns_more}}
 use Rattle.std.{specs.Prelude.{OnErr, OnOk, flat_map, max, take, ◌^◌}, proofs.{lemmas.Grind.{flat_map-append}, Math.Seq.{take-append_seam}}}
-use Rattle.fs_base.{specs.{Gate.{Turn, What, came}, Sink.{GrewPart}}, proofs.Grew.{Grew-refl}}
-use Rattle.fs_base.specs.Language.{IsOctets}
+use Rattle.fs_base.{specs.{Gate.{Turn, What, came}, Language.{IsOctets}}, proofs.Grew.{Grew-refl}}
 use Rattle.fs_input.specs.Parts.{AllFrom}
-use Rattle.fs_tape.proofs.ReadsBack.{reads_back}
-use Rattle.fs_tape.specs.{Laws.{Fits, after, item_text, tape_text}, Magic.{magic_of}, Tape.{Timed, stands}, declared.magic.Version.TheVariants.{Two}}
-use Rattle.fs_recorder.specs.{Books.{Agrees, Booked}, Deeds.{AreKnown, Recording, StayKnown, asked_in, items_of, passing, text_at, told_at}, Steps.{Between, Happening, at_first, behind, empty_station, hears, recorded, stands_from, step_at, swept_after, turns_from}, Tapes.{Scribed, begun}, Works.{BreaksAt, BreaksSo, DidHear, DoesStep, Stands}}
-use Rattle.cmd_wire.specs.Recording.{Breaks, BreaksOne, Continues, Hears, HearsOne, IsUnbegun, Records, RecordsAll, StandsAt, TellsAll, begun_text, begun_turns}
+use Rattle.fs_tape.{proofs.ReadsBack.{reads_back}, specs.{Laws.{Fits, after, item_text, tape_text}, Magic.{magic_of}, Tape.{Timed, stands}, declared.magic.Version.TheVariants.{Two}}}
+use Rattle.fs_recorder.specs.{Books.{Agrees}, Deeds.{AreKnown, Recording, StayKnown, asked_in, items_of, passing, text_at, told_at}, Steps.{Between, Happening, at_first, empty_station, hears, recorded, stands_from, step_at, swept_after, turns_from}, Tapes.{Scribed, begun}, Works.{BreaksAt, BreaksSo, DidHear, DoesStep, Stands}}
+use Rattle.cmd_wire.specs.Recording.{Breaks, BreaksOne, Continues, Hears, HearsOne, Records, RecordsAll, StandsAt, TellsAll, begun_text, begun_turns}
 
 -- the clock on the wall says another moment
 agrees_passed : (config : Config) (told : List Timed) (moment : ℕ) → moment < 2 ^ 64 → (old : Recording) → Agrees config told old.books

@@ -1,10 +1,10 @@
 -- Why `record` ends, and what it did until then.
-use Rattle.cmd_wire.proofs.{Words.{◌≡◌, ◌≢◌, ◌⊎◌, ◌≤◌, ◌∙◌, ℕ, List, [], Option, refl, sym, ap, subst, inl, inr, Grew, Grew-trans, Rose, rose_earlier, Happened, Config, Names, Found, HasReason, Stage, Stopped, config_stage, status_of, Result, IsErrAnd, answered, answered_err, Refusal, Capture, Dump, Limit, Memory, Outside, Rejected, Session, Tape}, Statuses.{not_stopped, same_found}}
+use Rattle.cmd_wire.proofs.{Words.{◌≡◌, ◌≢◌, ◌⊎◌, ◌≤◌, ◌∙◌, ℕ, List, [], Option, refl, sym, ap, subst, inl, inr, Grew, Grew-trans, Rose, rose_earlier, Happened, Config, Names, Found, HasReason, config_stage, status_of, Result, IsErrAnd, answered, answered_err, Refusal, Capture, Dump, Limit, Memory, Outside, Rejected, Session, Tape}, Statuses.{same_found}}
 use Rattle.fs_base.{specs.{Gate.{Turn}, Happened.{FilesFailed}, Sink.{GrewPart}}, proofs.Grew.{Grew-refl, part_none}}
 use Rattle.fs_tape.specs.{Magic.{magic_of}, declared.magic.Version.TheVariants.{Two}}
 use Rattle.fs_recorder.specs.declared.stop.Stop.{Stop, TheVariants.{Failed, Memory as NoMemory, Limit as TooLong}}
 use Rattle.cmd_stages.specs.Refusal.{IsOfFile}
-use Rattle.cmd_wire.specs.Recording.{AtGate, Continues, EndsRecording, IsOfRecording, IsUnbegun, Records, RecordsAll, RecordsSo, SomeFailed, refusal_by}
+use Rattle.cmd_wire.specs.Recording.{AtGate, EndsRecording, IsOfRecording, RecordsAll, RecordsSo, SomeFailed, refusal_by}
 
 -- the statuses
 

@@ -1,11 +1,10 @@
 -- What `record` answers, what it asks of its gate, and what it writes.
 use Rattle.std.specs.Prelude.{ℕ, List, [], ◌∷◌, ◌++◌, Option, Some, None, ◌≡◌, ◌⊎◌, ◌↔◌, ◌<◌, flat_map, length, take, max}
-use Rattle.fs_base.specs.{Gate.{Turn, came, what_from}, Happened.{Happened, FilesFailed, SinkFailed}, Outside.{Rose}, Sink.{Grew, GrewPart}, declared.config.Config.{Config}, declared.Event.{Event}}
+use Rattle.fs_base.specs.{Gate.{Turn, came, what_from}, Happened.{Happened, FilesFailed, SinkFailed}, Language.{IsOctets}, Outside.{Rose}, Sink.{Grew, GrewPart}, declared.config.Config.{Config}, declared.Event.{Event}}
 use Rattle.fs_base.specs.declared.Gate as gate
-use Rattle.fs_base.specs.Language.{IsOctets}
 use Rattle.fs_input.specs.{Parts.{AllFrom}, Records.{done}}
 use Rattle.fs_tape.specs.{Laws.{Fits, after, item_text, tape_text}, Magic.{magic_of}, Tape.{Timed, stands, tape_of}, declared.magic.Version.TheVariants.{Two}}
-use Rattle.fs_recorder.specs.{Books.{Agrees}, Deeds.{AreKnown, Recording, asked_in, items_of, text_at, told_at}, Steps.{Between, Happening, at_first, behind, recorded, recorded_from, stands_from, step_at, turns_from}, Works.{Stands}, declared.stop.Stop.{Stop, TheVariants.{Failed, Memory as NoMemory, Limit as TooLong}}}
+use Rattle.fs_recorder.specs.{Books.{Agrees}, Deeds.{AreKnown, Recording, asked_in, items_of, text_at, told_at}, Steps.{Between, Happening, at_first, behind, recorded, stands_from, step_at, turns_from}, Works.{Stands}, declared.stop.Stop.{Stop, TheVariants.{Failed, Memory as NoMemory, Limit as TooLong}}}
 use Rattle.cmd_stages.specs.{Load.{Names, config_stage}, Refusal.{Found, Stopped, status_of}, declared.refusal.Refusal.{Refusal, TheVariants.{Outside, Memory, Limit}}}
 
 -- What a gate tells before a call and behind it. Clauses take it as one argument.

@@ -1,5 +1,5 @@
 -- What a run beside a gate promises, by what its words ask for.
-use Rattle.fs_cli.proofs.Words.{◌≡◌, ◌∙◌, ℕ, List, Option, Some, None, refl, sym, subst, ap}
+use Rattle.fs_cli.proofs.Words.{◌≡◌, ◌∙◌, ℕ, List, Some, None, sym, subst}
 use Rattle.cmd_stages.specs.{Load.{OpensFront, config_alone, config_stage}, Refusal.{Stopped}, declared.refusal.Refusal.{Refusal}}
 use Rattle.cmd_wire.specs.Recording.{EndsRecording, IsOfRecording, RecordsSo}
 use Rattle.fs_cli.specs.{Live.{GateKept, LiveForm, LiveObjects, LivePromises, Record, RecordPromises, gate_in, live_form_of}, Program.{AreTold, ClockKept, Promises, SinkKept, WireKept, happened_in, names_in}}

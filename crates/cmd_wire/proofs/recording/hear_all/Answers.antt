@@ -1,5 +1,5 @@
 use Rattle.std.proofs.Common.{arith}
-use Rattle.cmd_wire.proofs.Recorded.{broken_behind, heard_more}
+use Rattle.cmd_wire.proofs.Recorded.{broken_behind, ended_behind, heard_more}
 use Rattle.cmd_wire.proofs.recording.hear_all.Goals as goal
 
 pub returns-in_err-hear_next-clause-continues : goal.returns-in_err-hear_next-clause-continues
@@ -15,3 +15,8 @@ loop-preserved g c = record {
   heard = heard_more c.args.recorder.now.books.desk.config c.loop.recorder c.hear_next.new.recorder _ (g.G.Gate.turns c.loop.gate) _ _
       (g.S.Sink.written c.loop.sink) _ c.loop.invariant.heard c.in_ok-hear_next.ensures.hears;
 }
+
+pub returns-clause-continues : goal.returns-clause-continues
+returns-clause-continues g c =
+    ended_behind c.args.recorder.now.books.desk.config c.loop.recorder (g.G.Gate.turns c.args.gate.now) (g.G.Gate.turns c.loop.gate)
+    (g.S.Sink.written c.args.sink.now) (g.S.Sink.written c.loop.sink) c.loop.invariant.heard

@@ -1,5 +1,4 @@
 use Rattle.fs_base.{proofs.Grew.{Grew-refl}, specs.Happened.{happened}}
-use Rattle.fs_recorder.specs.declared.stop.Stop.TheVariants.{Failed}
 use Rattle.cmd_wire.{specs.Recording.{IsOfRecording, at_gate}, proofs.{Words.{Err, Outside, answered_err, ap, arith, config_alone, inl, opened_due, refl, sym, status_of, ◌∙◌}, Statuses.{not_stopped}, RecordingEnds.{config_status, ends_stop, ends_unopened, ends_unread, never_three, opened_first, records_so, some_failed, stop_status, unbegun}}}
 use Rattle.cmd_wire.proofs.recording.record_sessions.Goals as goal
 
