@@ -7,12 +7,11 @@ speak first.
 The local AS is the one that most records tell. The identifier is that of the last OPEN that the dump's own end sent, or
 else the local IPv4 address of the records that tell this AS. An address under which two AS numbers speak is told with
 the later one. Where the dump ends within a record, what stands before it counts. A configuration takes 1024 peers: of
-more the first are written, and their number is told.
+more the first are written, and that there are more is told.
 """
 
 import collections
 import ipaddress
-import itertools
 import struct
 import sys
 
@@ -67,6 +66,7 @@ class Seen:
 
     def __init__(self):
         self.peers = {}
+        self.has_more = False
         self.local_as = collections.Counter()
         self.addresses = {}
         self.identifiers = {}
@@ -76,6 +76,11 @@ class Seen:
         if found is None:
             return
         (peer_as, local_as), (address, local), rest = found
+        if int(address) and address not in self.peers and len(self.peers) == MOST_PEERS:
+            self.has_more = True
+            return
+        if local_as not in self.local_as and len(self.local_as) == MOST_PEERS:
+            return
         self.local_as[local_as] += 1
         if local.version == 4 and int(local):
             self.addresses[local_as] = local
@@ -101,9 +106,9 @@ def lines_of(seen):
     if identifier is None:
         yield "# the records tell no IPv4 address of this end: write the router's own identifier"
     yield f'local_id = "{identifier or "192.0.2.254"}"'
-    if len(seen.peers) > MOST_PEERS:
-        yield f"# {len(seen.peers)} addresses speak in the dump: these are the first {MOST_PEERS}"
-    for number, (address, peer_as) in enumerate(itertools.islice(seen.peers.items(), MOST_PEERS), 1):
+    if seen.has_more:
+        yield f"# more addresses speak in the dump: these are the first {MOST_PEERS}"
+    for number, (address, peer_as) in enumerate(seen.peers.items(), 1):
         yield ""
         yield "[[peer]]"
         yield f"number = {number}"
