@@ -1,5 +1,5 @@
 -- One step behind another, and what stands behind a seat that was taken or left.
-use Rattle.fs_recorder.proofs.{PlaceWords.{List, None, Option, Some, [], ap, append-nil, map-append, refl, subst, sym, ℕ, ◌++◌, ◌==◌, ◌∙◌, ◌∷◌, ◌≡◌, AllByRecursion, IsSome, Err, Ok, OnOk, Result, option_map, Grew, peer_of, Turn, shut, Address, Config, Peer, IsNumbered, IsWritable, came_up, was_lost, begins, fresh, live, Desked, KeepsOthers, Played, nobody, session_at, Booked, Tells, TellsPart, Does, Recording, leaves, shuts, tells, seat_for, seat_of, Place, Station, Step, checks, checks_peer, doing, ends, peer_for, peers_at, place_for, place_of, places_without, replaces, resting, seat_at, seats_one, taken_by, takes, vacates, BreaksAt, BreaksIn, BreaksQuietly, BreaksSo, DidAt, DidQuietly, DidSeat, DidSo, DoesStep, IsOpenAt, Left, Stands, Seat}, Doing.{breaks_more, breaks_tell, does_ask, does_tell}, Places.{FoundAt, found_at, found_none, open_left, others_left, place_found, place_is}, Placing.{apart_more, more_are, none_of_others, others_of_none, peers_more}, Settling.{stands_gone}, Stepping.{breaks_both, does_both, does_rest}}
+use Rattle.fs_recorder.proofs.{PlaceWords.{List, None, Option, Some, [], ap, append-nil, map-append, refl, subst, sym, ℕ, ◌++◌, ◌==◌, ◌∙◌, ◌∷◌, ◌≡◌, AllByRecursion, IsSome, Err, Ok, OnOk, Result, option_map, Grew, peer_of, Turn, shut, Address, Config, Peer, IsNumbered, IsWritable, came_up, was_lost, begins, fresh, live, Desked, KeepsOthers, Played, nobody, session_at, Booked, Tells, TellsPart, Does, Recording, leaves, shuts, tells, seat_for, seat_of, Place, Station, Step, checks, checks_peer, doing, ends, peer_for, peers_at, place_for, place_of, places_without, replaces, resting, seat_at, seats_one, taken_by, takes, vacates, BreaksAt, BreaksIn, BreaksQuietly, BreaksSo, DidAt, DidQuietly, DidSeat, DidSo, DoesStep, IsOpenAt, Left, Stands, Seat}, Doing.{breaks_more, breaks_tell, breaks_where, does_ask, does_tell}, Places.{FoundAt, found_at, found_none, open_left, others_left, place_found, place_is}, Placing.{apart_more, more_are, none_of_others, others_of_none, peers_more}, Settling.{stands_gone}, Stepping.{breaks_both, does_both, does_rest}}
 
 -- what two clauses say of a success
 pub ok_both : {T E : Type 0} {X Y Z : Type 0} (result : Result T E) → OnOk result X → OnOk result Y → (X → Y → Z) → OnOk result Z
@@ -42,9 +42,9 @@ did_seat seat old new before now told begun others known seats swept turns stati
 }
 
 -- so where it was broken off
-pub breaks_seat : (seat : Seat) (old : Recording) (before now : Option (List ℕ)) → TellsPart (came_up seat.peer) old.books before now
-    → BreaksQuietly (seats_one seat) old before now
-breaks_seat seat old before now part turns station stands = breaks_tell (came_up seat.peer) old.books turns before now part
+pub breaks_seat : {L : Type 0} → (seat : Seat) (old : Recording) (before now : Option (List ℕ)) → TellsPart L (came_up seat.peer) old.books before now
+    → BreaksQuietly L (seats_one seat) old before now
+breaks_seat {L} seat old before now part turns station stands = breaks_tell (came_up seat.peer) old.books turns before now part
 
 -- a place that is found by its peer is that of its own peer
 own_place : (peer : ℕ) (places : List Place) (place : Place) → place_for peer places ≡ Some place → place_for place.peer places ≡ Some place
@@ -81,11 +81,11 @@ pub did_found : (step : Place → Station → Step) (station : Station) (found :
 did_found step station found place swept old new t t1 w w1 e does =
     subst (λ f. DoesStep swept (at_place step station f) old new t t1 w w1) (sym e) does
 
-pub breaks_found : (step : Place → Station → Step) (station : Station) (found : Option Place) (place : Place) (old : Booked)
-    (t t1 : Option (List Turn)) (w w1 : Option (List ℕ)) → found ≡ Some place → BreaksAt (step place station).deeds old t t1 w w1
-    → BreaksAt (at_place step station found).deeds old t t1 w w1
-breaks_found step station found place old t t1 w w1 e breaks =
-    subst (λ f. BreaksAt (at_place step station f).deeds old t t1 w w1) (sym e) breaks
+pub breaks_found : {L : Type 0} → (step : Place → Station → Step) (station : Station) (found : Option Place) (place : Place) (old : Booked)
+    (t t1 : Option (List Turn)) (w w1 : Option (List ℕ)) → found ≡ Some place → BreaksAt L (step place station).deeds old t t1 w w1
+    → BreaksAt L (at_place step station found).deeds old t t1 w w1
+breaks_found {L} step station found place old t t1 w w1 e breaks =
+    subst (λ f. BreaksAt L (at_place step station f).deeds old t t1 w w1) (sym e) breaks
 
 -- it wasn't
 pub did_not_find : (step : Place → Station → Step) (station : Station) (found : Option Place) (old : Recording) (t : Option (List Turn))
@@ -109,12 +109,12 @@ did_vacate peer seat old new t t1 w w1 found does left station stands =
       swept_is = left.swept_is;
     })
 
-pub breaks_vacate : (peer : ℕ) (seat : Seat) (old : Recording) (t t1 : Option (List Turn)) (w w1 : Option (List ℕ))
-    → seat_for peer old.seats ≡ Some seat → BreaksAt (leaves seat) old.books t t1 w w1 → BreaksSo (vacates peer) old t t1 w w1
-breaks_vacate peer seat old t t1 w w1 found breaks station stands =
+pub breaks_vacate : {L : Type 0} → (peer : ℕ) (seat : Seat) (old : Recording) (t t1 : Option (List Turn)) (w w1 : Option (List ℕ))
+    → seat_for peer old.seats ≡ Some seat → BreaksAt L (leaves seat) old.books t t1 w w1 → BreaksSo L (vacates peer) old t t1 w w1
+breaks_vacate {L} peer seat old t t1 w w1 found breaks station stands =
     let has = place_has old station stands peer seat found in
-    subst (λ f. BreaksAt (at_place leaving station f).deeds old.books t t1 w w1)
-    (sym has.found) (subst (λ s. BreaksAt (leaves s) old.books t t1 w w1) (sym has.seated) breaks)
+    subst (λ f. BreaksAt L (at_place leaving station f).deeds old.books t t1 w w1)
+    (sym has.found) (subst (λ s. BreaksAt L (leaves s) old.books t t1 w w1) (sym has.seated) breaks)
 
 pub did_vacate_none : (peer : ℕ) (old : Recording) (t : Option (List Turn)) (w : Option (List ℕ)) → seat_for peer old.seats ≡ None
     → DidSo (vacates peer) old old t t w w
@@ -149,13 +149,13 @@ did_end line seat old new w w1 found told left turns station stands =
       swept_is = left.swept_is;
     })
 
-pub breaks_end : (line : ℕ) (seat : Seat) (old : Recording) (w w1 : Option (List ℕ)) → seat_of line old.seats ≡ Some seat
-    → TellsPart (was_lost seat.peer) old.books w w1 → BreaksQuietly (ends line) old w w1
-breaks_end line seat old w w1 found part turns station stands =
+pub breaks_end : {L : Type 0} → (line : ℕ) (seat : Seat) (old : Recording) (w w1 : Option (List ℕ)) → seat_of line old.seats ≡ Some seat
+    → TellsPart L (was_lost seat.peer) old.books w w1 → BreaksQuietly L (ends line) old w w1
+breaks_end {L} line seat old w w1 found part turns station stands =
     let has = line_has old station stands line seat found in
-    subst (λ f. BreaksAt (at_place losing station f).deeds old.books turns turns w w1)
+    subst (λ f. BreaksAt L (at_place losing station f).deeds old.books turns turns w w1)
     (sym has.found)
-    (subst (λ (s : Seat). BreaksAt (tells (was_lost s.peer) ∷ []) old.books turns turns w w1) (sym has.seated)
+    (subst (λ (s : Seat). BreaksAt L (tells (was_lost s.peer) ∷ []) old.books turns turns w w1) (sym has.seated)
     (breaks_tell (was_lost seat.peer) old.books turns w w1 part))
 
 pub did_end_none : (line : ℕ) (old : Recording) (w : Option (List ℕ)) → seat_of line old.seats ≡ None → DidQuietly (ends line) old old w w
@@ -173,18 +173,19 @@ did_replace line peer time old mid new t t1 w w1 w2 did later station stands =
     let next = later t1 (vacates peer station).station one.stands (vacated peer old station stands) in
     does_both (vacates peer station) (seats_one (record { line = line; peer = peer; since = time })) old mid new t t1 t1 w w1 w2 one next
 
-pub breaks_replace : (line peer time : ℕ) (old mid : Recording) (t t1 : Option (List Turn)) (w w1 w2 : Option (List ℕ))
-    → DidSo (vacates peer) old mid t t1 w w1 → BreaksQuietly (seats_one (record { line = line; peer = peer; since = time })) mid w1 w2
-    → BreaksSo (replaces line peer time) old t t1 w w2
-breaks_replace line peer time old mid t t1 w w1 w2 did later station stands =
+pub breaks_replace : {L : Type 0} → (line peer time : ℕ) (old mid : Recording) (t t1 : Option (List Turn)) (w w1 w2 : Option (List ℕ))
+    → DidSo (vacates peer) old mid t t1 w w1 → BreaksQuietly L (seats_one (record { line = line; peer = peer; since = time })) mid w1 w2
+    → BreaksSo L (replaces line peer time) old t t1 w w2
+breaks_replace {L} line peer time old mid t t1 w w1 w2 did later station stands =
     let one = did station stands in
     breaks_both (vacates peer station) (seats_one (record { line = line; peer = peer; since = time })) old mid t t1 t1 w w1 w2 one
     (later t1 (vacates peer station).station one.stands)
 
-pub breaks_replace_early : (line peer time : ℕ) (old : Recording) (t t1 : Option (List Turn)) (w w1 : Option (List ℕ))
-    → IsWritable old.books.desk.config (came_up peer) → BreaksSo (vacates peer) old t t1 w w1 → BreaksSo (replaces line peer time) old t t1 w w1
-breaks_replace_early line peer time old t t1 w w1 writable breaks station stands =
-    breaks_more (vacates peer station).deeds (tells (came_up peer) ∷ []) old.books t t1 w w1 (writable, tt) (breaks station stands)
+pub breaks_replace_early : {L M : Type 0} → (line peer time : ℕ) (old : Recording) (t t1 : Option (List Turn)) (w w1 : Option (List ℕ))
+    → IsWritable old.books.desk.config (came_up peer) → (M → L) → BreaksSo L (vacates peer) old t t1 w w1
+    → BreaksSo M (replaces line peer time) old t t1 w w1
+breaks_replace_early {L} {M} line peer time old t t1 w w1 writable named breaks station stands =
+    breaks_more (vacates peer station).deeds (tells (came_up peer) ∷ []) old.books t t1 w w1 (writable, tt) (breaks_where named (breaks station stands))
 
 -- a connection was taken
 module _ (config : Config) (line : ℕ) (from : Address) (time : ℕ) (old : Recording) (t t1 : Option (List Turn)) (w w1 : Option (List ℕ)) where
@@ -198,10 +199,10 @@ module _ (config : Config) (line : ℕ) (from : Address) (time : ℕ) (old : Rec
       subst (λ found. DoesStep old.swept (takes_for station found) old new t t1 w w1)
       (sym (ap (peer_for config from) (sym stands.seats_are) ∙ e)) (did station stands)
 
-  pub breaks_take : (peer : ℕ) → peer_for config from old.seats ≡ Some peer → BreaksSo (replaces line peer time) old t t1 w w1
-      → BreaksSo (takes config line from time) old t t1 w w1
-  breaks_take peer e breaks station stands =
-      subst (λ found. BreaksAt (takes_for station found).deeds old.books t t1 w w1)
+  pub breaks_take : {L : Type 0} → (peer : ℕ) → peer_for config from old.seats ≡ Some peer → BreaksSo L (replaces line peer time) old t t1 w w1
+      → BreaksSo L (takes config line from time) old t t1 w w1
+  breaks_take {L} peer e breaks station stands =
+      subst (λ found. BreaksAt L (takes_for station found).deeds old.books t t1 w w1)
       (sym (ap (peer_for config from) (sym stands.seats_are) ∙ e)) (breaks station stands)
 
   pub did_take_none : peer_for config from old.seats ≡ None → Grew t t1 (shut line ∷ [])
@@ -225,9 +226,9 @@ did_check_peer peer time seat old new t t1 w w1 found did station stands =
     (did station stands has.place
     (subst (λ (s : Seat). place_for s.peer station.places ≡ Some has.place) has.seated (own_place peer station.places has.place has.found)) has.seated)
 
-pub breaks_check_peer : (peer time : ℕ) (seat : Seat) (old : Recording) (t t1 : Option (List Turn)) (w w1 : Option (List ℕ))
-    → seat_for peer old.seats ≡ Some seat → BreaksIn seat (checks time) old t t1 w w1 → BreaksSo (checks_peer time peer) old t t1 w w1
-breaks_check_peer peer time seat old t t1 w w1 found breaks station stands =
+pub breaks_check_peer : {L : Type 0} → (peer time : ℕ) (seat : Seat) (old : Recording) (t t1 : Option (List Turn)) (w w1 : Option (List ℕ))
+    → seat_for peer old.seats ≡ Some seat → BreaksIn L seat (checks time) old t t1 w w1 → BreaksSo L (checks_peer time peer) old t t1 w w1
+breaks_check_peer {L} peer time seat old t t1 w w1 found breaks station stands =
     let has = place_has old station stands peer seat found in
     breaks_found (checks time) station (place_for peer station.places) has.place old.books t t1 w w1 has.found
     (breaks station stands has.place

@@ -1,5 +1,7 @@
 -- Deeds, one after the other.
-use Rattle.fs_recorder.proofs.{Words.{ℕ, Bool, List, [], ◌∷◌, ◌++◌, Option, ◌≡◌, refl, ap, sym, subst, ◌∙◌, append-nil, append_assoc, AllByRecursion, Turn, said, shut, Grew, Grew-refl, Grew-trans, part_more, part_then, GrewPart, take, IsWritable, item_text, Item, timed, Two, expired_after, nobody, AgreesBut, Booked, Tells, TellsPart, BreaksAt, Deed, Does, asked_in, items_of, leaves, says, sends, shuts, tells, text_at, told_at, Seat, was_lost, Result, Ok, Err, IfOk, OnErr, OnOk, arith, length}, Telling.{told_on}}
+use Rattle.fs_recorder.proofs.{Words.{ℕ, Bool, List, [], ◌∷◌, ◌++◌, Option, ◌≡◌, refl, ap, sym, subst, ◌∙◌, append-nil, append_assoc, AllByRecursion, Turn, said, shut, Grew, Grew-refl, Grew-trans, part_more, part_then, GrewPart, take, IsWritable, item_text, Item, timed, Two, expired_after, nobody, AgreesBut, Booked, Tells, TellsPart, BreaksAt, Deed, Does, asked_in, items_of, leaves, says, sends, shuts, tells, text_at, text_now, told_at, Seat, was_lost, Result, Ok, Err, IfOk, OnErr, OnOk, arith, length, length-append, ◌+◌, ◌≤◌}, Telling.{told_on}}
+use Rattle.std.specs.Result.{IsErrAnd, IsErrOf}
+use Rattle.fs_recorder.specs.declared.stop.Stop.{Stop, TheVariants.{Limit, Memory}}
 
 pub items_both : (first later : List Deed) → items_of (first ++ later) ≡ items_of first ++ items_of later
 items_both [] later = refl
@@ -23,6 +25,17 @@ text_both moment (item ∷ first) later =
     ap (λ text. item_text Two (timed moment item) ++ text) (text_both moment first later)
     ∙ sym (append_assoc (item_text Two (timed moment item)) (text_at moment first) (text_at moment later))
 
+-- the records of deeds, and of others behind them
+text_size : (moment : ℕ) (first later : List Deed)
+    → length (text_at moment (items_of (first ++ later))) ≡ length (text_at moment (items_of first)) + length (text_at moment (items_of later))
+text_size moment first later =
+    ap length (ap (text_at moment) (items_both first later) ∙ text_both moment (items_of first) (items_of later))
+    ∙ length-append (text_at moment (items_of first)) (text_at moment (items_of later))
+
+-- the record of one
+one_size : (books : Booked) (item : Item) → length (text_at books.scribe.moment (item ∷ [])) ≡ length (text_now books item)
+one_size books item = ap length (append-nil (text_now books item))
+
 all_both : (P : Item → Type 0) (first later : List Item) → AllByRecursion P first → AllByRecursion P later → AllByRecursion P (first ++ later)
 all_both P [] later a b = b
 all_both P (item ∷ first) later a b = (a.0, all_both P first later a.1 b)
@@ -35,6 +48,8 @@ does_ask expired deeds books turns turns' written none grew = record {
   tape = subst (λ items. Grew written written (text_at books.scribe.moment items)) (sym none) (Grew-refl written);
   gate = grew;
   moment_is = refl;
+  written_is = subst (λ items. books.scribe.written ≡ books.scribe.written + length (text_at books.scribe.moment items)) (sym none) (omega arith);
+  limit_is = refl;
   config_is = refl;
   agrees = λ config told agrees.
       subst (λ items. AgreesBut expired config (told ++ told_at books.scribe.moment items) books) (sym none)
@@ -49,16 +64,19 @@ does_tell item old new turns before now told expired = record {
   tape = subst (Grew before now) (sym (append-nil (item_text Two (timed old.scribe.moment item)))) told.grew;
   gate = Grew-refl turns;
   moment_is = ap (λ s. s.moment) told.scribe_is;
+  written_is = ap (λ s. s.written) told.scribe_is ∙ ap (λ n. old.scribe.written + n) (sym (one_size old item));
+  limit_is = ap (λ s. s.limit) told.scribe_is;
   config_is = told.config_is;
   agrees = told_on item old new before now told expired;
 }
 
 -- a front of an item's record was written
-pub breaks_tell : (item : Item) (old : Booked) (turns : Option (List Turn)) (before now : Option (List ℕ)) → TellsPart item old before now
-    → BreaksAt (tells item ∷ []) old turns turns before now
-breaks_tell item old turns before now part = record {
+pub breaks_tell : {L : Type 0} → (item : Item) (old : Booked) (turns : Option (List Turn)) (before now : Option (List ℕ)) → TellsPart L item old before now
+    → BreaksAt L (tells item ∷ []) old turns turns before now
+breaks_tell {L} item old turns before now part = record {
   writable = (part.writable, tt);
   part = (part.part.0, subst (λ text. Grew before now (take part.part.0 text)) (sym (append-nil (item_text Two (timed old.scribe.moment item)))) part.part.1);
+  full = λ limited. subst (λ n. old.scribe.limit ≤ old.scribe.written + n) (sym (one_size old item)) (part.full limited);
   asked = [];
   later = [];
   front = refl;
@@ -66,22 +84,36 @@ breaks_tell item old turns before now part = record {
 }
 
 -- it was broken off before anything was written or asked
-pub breaks_early : (deeds : List Deed) (old : Booked) (turns : Option (List Turn)) (written : Option (List ℕ))
-    → AllByRecursion (IsWritable old.desk.config) (items_of deeds) → BreaksAt deeds old turns turns written written
-breaks_early deeds old turns written writable = record {
+pub breaks_early : {L : Type 0} → (deeds : List Deed) (old : Booked) (turns : Option (List Turn)) (written : Option (List ℕ))
+    → AllByRecursion (IsWritable old.desk.config) (items_of deeds) → (L → ⊥) → BreaksAt L deeds old turns turns written written
+breaks_early {L} deeds old turns written writable never = record {
   writable = writable;
   part = (0, Grew-refl written);
+  full = λ limited. absurd (never limited);
   asked = [];
   later = asked_in deeds;
   front = refl;
   gate = Grew-refl turns;
 }
 
+-- so where the limit is named otherwise
+pub breaks_where : {L M : Type 0} {deeds : List Deed} {old : Booked} {turns turns' : Option (List Turn)} {before now : Option (List ℕ)}
+    → (M → L) → BreaksAt L deeds old turns turns' before now → BreaksAt M deeds old turns turns' before now
+breaks_where named breaks = record {
+  writable = breaks.writable;
+  part = breaks.part;
+  full = λ limited. breaks.full (named limited);
+  asked = breaks.asked;
+  later = breaks.later;
+  front = breaks.front;
+  gate = breaks.gate;
+}
+
 -- what breaks off a step breaks off that step and another one
-pub breaks_more : (deeds more : List Deed) (old : Booked) (turns turns' : Option (List Turn)) (before now : Option (List ℕ))
-    → AllByRecursion (IsWritable old.desk.config) (items_of more) → BreaksAt deeds old turns turns' before now
-    → BreaksAt (deeds ++ more) old turns turns' before now
-breaks_more deeds more old turns turns' before now writable breaks =
+pub breaks_more : {L : Type 0} → (deeds more : List Deed) (old : Booked) (turns turns' : Option (List Turn)) (before now : Option (List ℕ))
+    → AllByRecursion (IsWritable old.desk.config) (items_of more) → BreaksAt L deeds old turns turns' before now
+    → BreaksAt L (deeds ++ more) old turns turns' before now
+breaks_more {L} deeds more old turns turns' before now writable breaks =
     let moment = old.scribe.moment in
     let all : items_of (deeds ++ more) ≡ items_of deeds ++ items_of more = items_both deeds more in
     record {
@@ -89,6 +121,7 @@ breaks_more deeds more old turns turns' before now writable breaks =
           (all_both (IsWritable old.desk.config) (items_of deeds) (items_of more) breaks.writable writable);
       part = subst (GrewPart before now) (sym (ap (text_at moment) all ∙ text_both moment (items_of deeds) (items_of more)))
           (part_more before now (text_at moment (items_of deeds)) (text_at moment (items_of more)) breaks.part);
+      full = λ limited. (let short = breaks.full limited in omega (arith, short, text_size moment deeds more));
       asked = breaks.asked;
       later = breaks.later ++ asked_in more;
       front = sym (append_assoc breaks.asked breaks.later (asked_in more)) ∙ ap (λ turns. turns ++ asked_in more) breaks.front ∙ sym (asked_both deeds more);
@@ -112,6 +145,9 @@ module _ (expired expired1 : ℕ → Bool) (first : List Deed) (a b : Booked) (t
             (Grew-trans w w1 w2 (text_at moment (items_of first)) (text_at moment (items_of later)) one.tape tape);
         gate = subst (Grew t t2) (sym (asked_both first later)) (Grew-trans t t1 t2 (asked_in first) (asked_in later) one.gate next.gate);
         moment_is = next.moment_is ∙ one.moment_is;
+        written_is = (let size = subst (λ m. c.scribe.written ≡ b.scribe.written + length (text_at m (items_of later))) one.moment_is next.written_is in
+            omega (arith, one.written_is, size, text_size moment first later));
+        limit_is = next.limit_is ∙ one.limit_is;
         config_is = next.config_is ∙ one.config_is;
         agrees = λ config told agrees.
             subst (λ t. AgreesBut expired2 config t c)
@@ -121,9 +157,9 @@ module _ (expired expired1 : ℕ → Bool) (first : List Deed) (a b : Booked) (t
             (next.agrees config (told ++ told_at moment (items_of first)) (one.agrees config told agrees)));
       }
 
-  pub breaks_then : (later : List Deed) (t2 : Option (List Turn)) (w2 : Option (List ℕ)) → BreaksAt later b t1 t2 w1 w2
-      → BreaksAt (first ++ later) a t t2 w w2
-  breaks_then later t2 w2 next =
+  pub breaks_then : {L : Type 0} → (later : List Deed) (t2 : Option (List Turn)) (w2 : Option (List ℕ)) → BreaksAt L later b t1 t2 w1 w2
+      → BreaksAt L (first ++ later) a t t2 w w2
+  breaks_then {L} later t2 w2 next =
       let moment = a.scribe.moment in
       let all : items_of (first ++ later) ≡ items_of first ++ items_of later = items_both first later in
       let part : GrewPart w1 w2 (text_at moment (items_of later)) = subst (λ m. GrewPart w1 w2 (text_at m (items_of later))) one.moment_is next.part in
@@ -133,6 +169,8 @@ module _ (expired expired1 : ℕ → Bool) (first : List Deed) (a b : Booked) (t
             (subst (λ config. AllByRecursion (IsWritable config) (items_of later)) one.config_is next.writable));
         part = subst (GrewPart w w2) (sym (ap (text_at moment) all ∙ text_both moment (items_of first) (items_of later)))
             (part_then w w1 w2 (text_at moment (items_of first)) (text_at moment (items_of later)) one.tape part);
+        full = λ limited. (let short = subst (λ m. b.scribe.limit ≤ b.scribe.written + length (text_at m (items_of later))) one.moment_is (next.full limited) in
+            omega (arith, short, one.limit_is, one.written_is, text_size moment first later));
         asked = asked_in first ++ next.asked;
         later = next.later;
         front = append_assoc (asked_in first) next.asked next.later ∙ ap (λ turns. asked_in first ++ turns) next.front ∙ sym (asked_both first later);
@@ -182,6 +220,22 @@ pub if_to : {T E : Type 0} {P Q : T → Type 0} (result : Result T E) → IfOk r
 if_to (Ok value) p f = f value p
 if_to (Err error) p f = tt
 
+-- an error that `?` hands on names the limit only where it did
+pub handed_on : {T U : Type 0} → (stop : Stop) (result : Result T Stop) → IsErrAnd result (λ e. e ≡ stop) → IsErrOf result Limit
+    → IsErrOf {T = U} {E = Stop} (Err stop) Limit
+handed_on stop (Ok value) same limited = absurd same
+handed_on stop (Err error) same limited = (let is : error ≡ Limit = cc in ap Err (sym same ∙ is))
+
+-- where it wanted memory, it names none
+pub wanted_memory : {T U : Type 0} → (stop : Stop) (result : Result T Stop) → IsErrAnd result (λ e. e ≡ stop) → IsErrOf {T = U} {E = Stop} (Err stop) Memory
+    → IsErrOf result Limit → ⊥
+wanted_memory {T} {U} stop result same wanted limited =
+    let now : IsErrOf {T = U} {E = Stop} (Err stop) Limit = handed_on stop result same limited in absurd cc
+
+pub no_memory : {T : Type 0} (result : Result T Stop) → IsErrAnd result (λ e. e ≡ Memory) → IsErrOf result Limit → ⊥
+no_memory (Ok value) same limited = same
+no_memory (Err error) same limited = (let is : error ≡ Limit = cc in let no : Memory ≡ Limit = sym same ∙ is in absurd cc)
+
 -- a line is closed, and its peer lost
 module _ (seat : Seat) (old : Booked) (turns turns' : Option (List Turn)) (before now : Option (List ℕ)) (closed : Grew turns turns' (shut seat.line ∷ [])) where
   shutting : (expired : ℕ → Bool) → Does expired expired (shuts seat.line ∷ []) old old turns turns' before before
@@ -194,8 +248,8 @@ module _ (seat : Seat) (old : Booked) (turns turns' : Option (List Turn)) (befor
       (expired_after (was_lost seat.peer) expired) (tells (was_lost seat.peer) ∷ []) new turns' now
       (does_tell (was_lost seat.peer) old new turns' before now told expired)
 
-  pub breaks_leave : TellsPart (was_lost seat.peer) old before now → BreaksAt (leaves seat) old turns turns' before now
-  breaks_leave part =
+  pub breaks_leave : {L : Type 0} → TellsPart L (was_lost seat.peer) old before now → BreaksAt L (leaves seat) old turns turns' before now
+  breaks_leave {L} part =
       breaks_then nobody nobody (shuts seat.line ∷ []) old old turns turns' before before (shutting nobody) (tells (was_lost seat.peer) ∷ []) turns' now
       (breaks_tell (was_lost seat.peer) old turns' before now part)
 
@@ -213,5 +267,5 @@ module _ (seat : Seat) (replies : List ℕ) (old : Booked) (turns turns1 turns2 
       does_then expired expired (says seat.line replies) old old turns turns1 before before (saying expired)
       (expired_after (was_lost seat.peer) expired) (leaves seat) new turns2 now (left expired)
 
-  pub breaks_answer : BreaksAt (leaves seat) old turns1 turns2 before now → BreaksAt (says seat.line replies ++ leaves seat) old turns turns2 before now
-  breaks_answer breaks = breaks_then nobody nobody (says seat.line replies) old old turns turns1 before before (saying nobody) (leaves seat) turns2 now breaks
+  pub breaks_answer : {L : Type 0} → BreaksAt L (leaves seat) old turns1 turns2 before now → BreaksAt L (says seat.line replies ++ leaves seat) old turns turns2 before now
+  breaks_answer {L} breaks = breaks_then nobody nobody (says seat.line replies) old old turns turns1 before before (saying nobody) (leaves seat) turns2 now breaks

@@ -1,5 +1,5 @@
 -- Steps that were taken, and steps that were broken off.
-use Rattle.fs_recorder.proofs.{Words.{nat_tests, longest_payload, length, ◌<◌, ◌≤◌, arith, ℕ, Bool, true, false, List, [], ◌∷◌, ◌++◌, Option, Some, None, ◌==◌, ◌-◌, ◌≡◌, not, refl, ap, sym, subst, ◌∙◌, true≢false, if◌then◌else◌, nat_lt, AllByRecursion, IsWritable, Grew, Grew-refl, GrewPart, Turn, said, Config, IsNumbered, received, was_lost, HandsPeer, KeepsOthers, RepliesBehind, TicksPeer, StaysPlayed, ExpiresPlayed, ExpiresSo, standing_at_desk, nobody, Point, Booked, Scribed, Tells, TellsPart, Deed, Does, Recording, answered, is_closed, items_of, leaves, says, sends, tells, text_at, stands_established, Place, Station, Step, expires, handed_point, hurries, hurries_where_late, hurries_where_new, is_early, is_established, moved, open_time, place_for, place_of, receives, replies_to, resting, seat_at, settles, then_do, wakes, woken, Seat, seat_of, BreaksAt, BreaksIn, BreaksSo, DidAt, DidSo, DoesStep, IsOpenAt, Left, Stands, WakesSo}, Doing.{breaks_early, breaks_more, breaks_tell, breaks_then, does_ask, does_tell, does_then, items_both, says_items}, Places.{FoundAt, at_found, found_at, found_none, peers_all, place_found, place_is, place_moved}, Sessions.{open_stands}, Settling.{Answered, Received, Woke, received_says, received_stands, received_step, stands_gone, woke_at, woke_lives, woke_step}}
+use Rattle.fs_recorder.proofs.{Words.{nat_tests, longest_payload, length, ◌<◌, ◌≤◌, arith, ℕ, Bool, true, false, List, [], ◌∷◌, ◌++◌, Option, Some, None, ◌==◌, ◌-◌, ◌≡◌, not, refl, ap, sym, subst, ◌∙◌, ◌+◌, true≢false, if◌then◌else◌, nat_lt, AllByRecursion, IsWritable, Grew, Grew-refl, GrewPart, Turn, said, Config, IsNumbered, received, was_lost, HandsPeer, KeepsOthers, RepliesBehind, TicksPeer, StaysPlayed, ExpiresPlayed, ExpiresSo, standing_at_desk, nobody, Point, Booked, Scribed, Tells, TellsPart, Deed, Does, Recording, answered, is_closed, items_of, leaves, says, sends, tells, text_at, stands_established, Place, Station, Step, expires, handed_point, hurries, hurries_where_late, hurries_where_new, is_early, is_established, moved, open_time, place_for, place_of, receives, replies_to, resting, seat_at, settles, then_do, wakes, woken, Seat, seat_of, BreaksAt, BreaksIn, BreaksSo, DidAt, DidSo, DoesStep, IsOpenAt, Left, Stands, WakesSo}, Doing.{breaks_early, breaks_more, breaks_tell, breaks_then, breaks_where, does_ask, does_tell, does_then, items_both, says_items}, Places.{FoundAt, at_found, found_at, found_none, peers_all, place_found, place_is, place_moved}, Sessions.{open_stands}, Settling.{Answered, Received, Woke, received_says, received_stands, received_step, stands_gone, woke_at, woke_lives, woke_step}}
 use Rattle.fs_speaker.specs.{declared.{Standing.{TheVariants.{Live as LiveIn}}, State.{State, TheVariants.{WaitOpen, WaitKeep, Established, Closed}}}, End.{ticked}, Side.{notice_text}, State.{standing_by}}
 
 -- the place of a seat, where the seat is seen as its own
@@ -36,10 +36,10 @@ does_both first later old mid new t t1 t2 w w1 w2 one next = record {
   swept_is = next.swept_is ∙ one.swept_is;
 }
 
-pub breaks_both : (first : Step) (later : Station → Step) (old mid : Recording) (t t1 t2 : Option (List Turn)) (w w1 w2 : Option (List ℕ))
-    → DoesStep old.swept first old mid t t1 w w1 → BreaksAt (later first.station).deeds mid.books t1 t2 w1 w2
-    → BreaksAt (then_do first later).deeds old.books t t2 w w2
-breaks_both first later old mid t t1 t2 w w1 w2 one next =
+pub breaks_both : {L : Type 0} → (first : Step) (later : Station → Step) (old mid : Recording) (t t1 t2 : Option (List Turn)) (w w1 w2 : Option (List ℕ))
+    → DoesStep old.swept first old mid t t1 w w1 → BreaksAt L (later first.station).deeds mid.books t1 t2 w1 w2
+    → BreaksAt L (then_do first later).deeds old.books t t2 w w2
+breaks_both {L} first later old mid t t1 t2 w w1 w2 one next =
     breaks_then nobody nobody first.deeds old.books mid.books t t1 w w1 one.does (later first.station).deeds t2 w2 next
 
 -- what a session says and how it settles can be written
@@ -51,11 +51,12 @@ settles_writable config true place to text station known =
     (sym (items_both (says place.line text) (leaves (seat_at place)) ∙ ap (λ items. items ++ was_lost place.peer ∷ []) (says_items place.line text))) (known, tt)
 
 -- it was broken off behind what leaves the tape and the configuration
-breaks_before : (deeds : List Deed) (old mid : Booked) (t t1 : Option (List Turn)) (w w1 : Option (List ℕ)) → mid.scribe ≡ old.scribe
-    → mid.desk.config ≡ old.desk.config → BreaksAt deeds mid t t1 w w1 → BreaksAt deeds old t t1 w w1
-breaks_before deeds old mid t t1 w w1 scribe config breaks = record {
+breaks_before : {L : Type 0} → (deeds : List Deed) (old mid : Booked) (t t1 : Option (List Turn)) (w w1 : Option (List ℕ)) → mid.scribe ≡ old.scribe
+    → mid.desk.config ≡ old.desk.config → BreaksAt L deeds mid t t1 w w1 → BreaksAt L deeds old t t1 w w1
+breaks_before {L} deeds old mid t t1 w w1 scribe config breaks = record {
   writable = subst (λ c. AllByRecursion (IsWritable c) (items_of deeds)) config breaks.writable;
   part = subst (λ (s : Scribed). GrewPart w w1 (text_at s.moment (items_of deeds))) scribe breaks.part;
+  full = λ limited. subst (λ (s : Scribed). s.limit ≤ s.written + length (text_at s.moment (items_of deeds))) scribe (breaks.full limited);
   asked = breaks.asked;
   later = breaks.later;
   front = breaks.front;
@@ -98,24 +99,25 @@ wakes_so time seat lives old mid woke closes station stands place found =
     (subst (λ p. Woke time p old mid) (sym own) woke) lives
     (subst (λ p. is_closed (standing_at_desk mid.books.desk p) ≡ not lives) (sym own) closes))
 
-pub breaks_unwoken : (time : ℕ) (seat : Seat) (old : Recording) (t : Option (List Turn)) (w : Option (List ℕ)) → BreaksIn seat (wakes time) old t t w w
-breaks_unwoken time seat old t w station stands place found seated =
+pub breaks_unwoken : {L : Type 0} → (time : ℕ) (seat : Seat) (old : Recording) (t : Option (List Turn)) (w : Option (List ℕ)) → (L → ⊥)
+    → BreaksIn L seat (wakes time) old t t w w
+breaks_unwoken {L} time seat old t w never station stands place found seated =
     breaks_early (wakes time place station).deeds old.books t w
     (settles_writable old.books.desk.config (expires time place) place (ticked time place.point).point (ticked time place.point).text station
-    (place_known station old stands seat.peer place found))
+    (place_known station old stands seat.peer place found)) never
 
-pub breaks_woken : (time : ℕ) (seat : Seat) (old mid : Recording) (t t1 : Option (List Turn)) (w w1 : Option (List ℕ)) → Woke time seat.peer old mid
-    → is_closed (standing_at_desk mid.books.desk seat.peer) ≡ true → BreaksAt (answered false seat mid.replies) mid.books t t1 w w1
-    → BreaksIn seat (wakes time) old t t1 w w1
-breaks_woken time seat old mid t t1 w w1 woke closes breaks station stands place found seated =
+pub breaks_woken : {L : Type 0} → (time : ℕ) (seat : Seat) (old mid : Recording) (t t1 : Option (List Turn)) (w w1 : Option (List ℕ)) → Woke time seat.peer old mid
+    → is_closed (standing_at_desk mid.books.desk seat.peer) ≡ true → BreaksAt L (answered false seat mid.replies) mid.books t t1 w w1
+    → BreaksIn L seat (wakes time) old t t1 w w1
+breaks_woken {L} time seat old mid t t1 w w1 woke closes breaks station stands place found seated =
     let at = own_found seat station.places place found in
     let woke_here = subst (λ (s : Seat). Woke time s.peer old mid) (sym seated) woke in
     let e : expires time place ≡ true =
     woke_lives time place old mid mid None None None None station stands at woke_here false
     (subst (λ (s : Seat). is_closed (standing_at_desk mid.books.desk s.peer) ≡ true) (sym seated) closes) in
-    subst (λ b. BreaksAt (settles b place (ticked time place.point).point (ticked time place.point).text station).deeds old.books t t1 w w1) (sym e)
-    (subst (λ text. BreaksAt (answered false (seat_at place) text) old.books t t1 w w1) (woke_at time place old mid station stands at woke_here).made.text
-    (subst (λ s. BreaksAt (answered false s mid.replies) old.books t t1 w w1) (sym seated)
+    subst (λ b. BreaksAt L (settles b place (ticked time place.point).point (ticked time place.point).text station).deeds old.books t t1 w w1) (sym e)
+    (subst (λ text. BreaksAt L (answered false (seat_at place) text) old.books t t1 w w1) (woke_at time place old mid station stands at woke_here).made.text
+    (subst (λ s. BreaksAt L (answered false s mid.replies) old.books t t1 w w1) (sym seated)
     (breaks_before (answered false seat mid.replies) old.books mid.books t t1 w w1 woke.scribe_is woke.config_is breaks)))
 
 -- a piece of a session
@@ -142,29 +144,29 @@ did_receive piece seat lives old mid new t t1 w w1 w2 heard answered station sta
     (subst (λ (s : Seat). Received piece s.peer old mid w w1) (sym seated) heard) new t t1 w2 lives
     (subst (λ (s : Seat). Answered s lives mid new t t1 w1 w2) (sym seated) answered)
 
-pub breaks_unreceived : (piece : List ℕ) (seat : Seat) (old : Recording) (t : Option (List Turn)) (w w1 : Option (List ℕ)) → TellsPart (received seat.peer piece) old.books w w1
-    → BreaksIn seat (λ place. receives old.books.desk.config place piece) old t t w w1
-breaks_unreceived piece seat old t w w1 part station stands place found seated =
+pub breaks_unreceived : {L : Type 0} → (piece : List ℕ) (seat : Seat) (old : Recording) (t : Option (List Turn)) (w w1 : Option (List ℕ)) → TellsPart L (received seat.peer piece) old.books w w1
+    → BreaksIn L seat (λ place. receives old.books.desk.config place piece) old t t w w1
+breaks_unreceived {L} piece seat old t w w1 part station stands place found seated =
     let step = receives old.books.desk.config place piece station in
     breaks_more (tells (received place.peer piece) ∷ []) _ old.books t t w w1
     (settles_writable old.books.desk.config _ place _ _ _ (place_known station old stands seat.peer place found))
-    (subst (λ (s : Seat). BreaksAt (tells (received s.peer piece) ∷ []) old.books t t w w1) (sym seated)
+    (subst (λ (s : Seat). BreaksAt L (tells (received s.peer piece) ∷ []) old.books t t w w1) (sym seated)
     (breaks_tell (received seat.peer piece) old.books t w w1 part))
 
-pub breaks_received : (piece : List ℕ) (seat : Seat) (old mid : Recording) (t t1 : Option (List Turn)) (w w1 w2 : Option (List ℕ)) → Received piece seat.peer old mid w w1
-    → is_closed (standing_at_desk mid.books.desk seat.peer) ≡ true → BreaksAt (answered false seat mid.replies) mid.books t t1 w1 w2
-    → BreaksIn seat (λ place. receives old.books.desk.config place piece) old t t1 w w2
-breaks_received piece seat old mid t t1 w w1 w2 heard closes breaks station stands place found seated =
+pub breaks_received : {L : Type 0} → (piece : List ℕ) (seat : Seat) (old mid : Recording) (t t1 : Option (List Turn)) (w w1 w2 : Option (List ℕ)) → Received piece seat.peer old mid w w1
+    → is_closed (standing_at_desk mid.books.desk seat.peer) ≡ true → BreaksAt L (answered false seat mid.replies) mid.books t t1 w1 w2
+    → BreaksIn L seat (λ place. receives old.books.desk.config place piece) old t t1 w w2
+breaks_received {L} piece seat old mid t t1 w w1 w2 heard closes breaks station stands place found seated =
     let at = own_found seat station.places place found in
     let heard_here = subst (λ (s : Seat). Received piece s.peer old mid w w1) (sym seated) heard in
     let e = sym (received_stands piece place old mid w w1 station stands at heard_here)
     ∙ subst (λ (s : Seat). is_closed (standing_at_desk mid.books.desk s.peer) ≡ true) (sym seated) closes in
-    subst (λ b. BreaksAt ((tells (received place.peer piece) ∷ []) ++ (settles b place (handed_point old.books.desk.config place.peer place.point piece) (replies_to old.books.desk.config place.peer station.told piece) (record { told = station.told ++ received place.peer piece ∷ []; places = station.places })).deeds) old.books t t1 w w2) (sym e)
+    subst (λ b. BreaksAt L ((tells (received place.peer piece) ∷ []) ++ (settles b place (handed_point old.books.desk.config place.peer place.point piece) (replies_to old.books.desk.config place.peer station.told piece) (record { told = station.told ++ received place.peer piece ∷ []; places = station.places })).deeds) old.books t t1 w w2) (sym e)
     (breaks_then nobody nobody (tells (received place.peer piece) ∷ []) old.books mid.books t t w w1
     (does_tell (received place.peer piece) old.books mid.books t w w1 heard_here.told nobody)
     _ t1 w2
-    (subst (λ text. BreaksAt (answered false (seat_at place) text) mid.books t t1 w1 w2) (sym (received_says piece place old mid w w1 station stands at heard_here))
-    (subst (λ s. BreaksAt (answered false s mid.replies) mid.books t t1 w1 w2) (sym seated) breaks)))
+    (subst (λ text. BreaksAt L (answered false (seat_at place) text) mid.books t t1 w1 w2) (sym (received_says piece place old mid w w1 station stands at heard_here))
+    (subst (λ s. BreaksAt L (answered false s mid.replies) mid.books t t1 w1 w2) (sym seated) breaks)))
 
 pub receives_writable : (piece : List ℕ) (config : Config) (place : Place) (station : Station) → IsNumbered config place.peer → IsWritable config (received place.peer piece)
     → AllByRecursion (IsWritable config) (items_of (receives config place piece station).deeds)
@@ -199,26 +201,29 @@ module _ (time : ℕ) (seat : Seat) (later : Place → Station → Step) where
         (does_both (wakes time place station) (later (woken time place)) old mid new t t1 t2 w w1 w2 one
         (next (wakes time place station).station one.stands (woken time place) (at_woken (expires time place) e station place found) seated))
 
-    pub woken_breaks : BreaksIn seat later mid t1 t2 w1 w2 → BreaksIn seat (wakes_then time later) old t t2 w w2
-    woken_breaks next station stands place found seated =
+    pub woken_breaks : {L : Type 0} → BreaksIn L seat later mid t1 t2 w1 w2 → BreaksIn L seat (wakes_then time later) old t t2 w w2
+    woken_breaks {L} next station stands place found seated =
         let e : expires time place ≡ false = flipped true (expires time place) (so station stands place found) in
         let one = did station stands place found seated in
-        subst (λ b. BreaksAt (if b then wakes time place station else then_do (wakes time place station) (later (woken time place))).deeds old.books t t2 w w2) (sym e)
+        subst (λ b. BreaksAt L (if b then wakes time place station else then_do (wakes time place station) (later (woken time place))).deeds old.books t t2 w w2) (sym e)
         (breaks_both (wakes time place station) (later (woken time place)) old mid t t1 t2 w w1 w2 one
         (next (wakes time place station).station one.stands (woken time place) (at_woken (expires time place) e station place found) seated))
 
   -- the clock broke it off
-  pub woken_broke : (old : Recording) (t t1 : Option (List Turn)) (w w1 : Option (List ℕ)) → BreaksIn seat (wakes time) old t t1 w w1
+  pub woken_broke : {L M : Type 0} → (old : Recording) (t t1 : Option (List Turn)) (w w1 : Option (List ℕ)) → (M → L) → BreaksIn L seat (wakes time) old t t1 w w1
       → ((station : Station) → Stands station old → (place : Place) → place_for seat.peer station.places ≡ Some place → seat_at place ≡ seat
       → (there : Station) → AllByRecursion (IsWritable old.books.desk.config) (items_of (later (woken time place) there).deeds))
-      → BreaksIn seat (wakes_then time later) old t t1 w w1
-  woken_broke old t t1 w w1 broke writable station stands place found seated = by (expires time place)
+      → BreaksIn M seat (wakes_then time later) old t t1 w w1
+  woken_broke {L} {M} old t t1 w w1 named broke writable station stands place found seated = by (expires time place)
     where
-      by : (b : Bool) → BreaksAt (if b then wakes time place station else then_do (wakes time place station) (later (woken time place))).deeds old.books t t1 w w1
-      by true = broke station stands place found seated
+      there : BreaksAt M (wakes time place station).deeds old.books t t1 w w1
+      there = breaks_where named (broke station stands place found seated)
+
+      by : (b : Bool) → BreaksAt M (if b then wakes time place station else then_do (wakes time place station) (later (woken time place))).deeds old.books t t1 w w1
+      by true = there
       by false =
           breaks_more (wakes time place station).deeds (later (woken time place) (wakes time place station).station).deeds old.books t t1 w w1
-          (writable station stands place found seated (wakes time place station).station) (broke station stands place found seated)
+          (writable station stands place found seated (wakes time place station).station) there
 
 -- what can be written of a piece
 pub piece_writable : (piece : List ℕ) (time : ℕ) (seat : Seat) (old : Recording) → length piece ≤ longest_payload
@@ -270,12 +275,12 @@ did_hurry seat old new t t1 t2 w w1 is grew does left station stands place found
       swept_is = left.swept_is;
     })
 
-pub breaks_hurry : (seat : Seat) (old : Recording) (t t1 t2 : Option (List Turn)) (w w1 : Option (List ℕ)) → stands_established (standing_at_desk old.books.desk seat.peer) ≡ false
-    → Grew t t1 (said seat.line (notice_text 4 0) ∷ []) → BreaksAt (leaves seat) old.books t1 t2 w w1 → BreaksIn seat hurries_where_new old t t2 w w1
-breaks_hurry seat old t t1 t2 w w1 is grew breaks station stands place found seated =
-    subst (λ b. BreaksAt (if b then resting station else hurries place station).deeds old.books t t2 w w1)
+pub breaks_hurry : {L : Type 0} → (seat : Seat) (old : Recording) (t t1 t2 : Option (List Turn)) (w w1 : Option (List ℕ)) → stands_established (standing_at_desk old.books.desk seat.peer) ≡ false
+    → Grew t t1 (said seat.line (notice_text 4 0) ∷ []) → BreaksAt L (leaves seat) old.books t1 t2 w w1 → BreaksIn L seat hurries_where_new old t t2 w w1
+breaks_hurry {L} seat old t t1 t2 w w1 is grew breaks station stands place found seated =
+    subst (λ b. BreaksAt L (if b then resting station else hurries place station).deeds old.books t t2 w w1)
     (sym (place_est station old stands seat.peer place found ∙ is))
-    (subst (λ s. BreaksAt (gives_up s) old.books t t2 w w1) (sym seated)
+    (subst (λ s. BreaksAt L (gives_up s) old.books t t2 w w1) (sym seated)
     (breaks_then nobody nobody (sends seat.line (notice_text 4 0) ∷ []) old.books old.books t t1 w w
     (does_ask nobody (sends seat.line (notice_text 4 0) ∷ []) old.books t t1 w refl grew) (leaves seat) t2 w1 breaks))
 
@@ -302,10 +307,10 @@ did_late time seat old new t t1 w w1 late did station stands place found seated 
     subst (λ b. DoesStep old.swept (if b then resting station else hurries_where_new place station) old new t t1 w w1)
     (sym (place_early time seat place seated ∙ late)) (did station stands place found seated)
 
-pub breaks_late : (time : ℕ) (seat : Seat) (old : Recording) (t t1 : Option (List Turn)) (w w1 : Option (List ℕ)) → nat_lt (time - seat.since) open_time ≡ false
-    → BreaksIn seat hurries_where_new old t t1 w w1 → BreaksIn seat (hurries_where_late time) old t t1 w w1
-breaks_late time seat old t t1 w w1 late did station stands place found seated =
-    subst (λ b. BreaksAt (if b then resting station else hurries_where_new place station).deeds old.books t t1 w w1)
+pub breaks_late : {L : Type 0} → (time : ℕ) (seat : Seat) (old : Recording) (t t1 : Option (List Turn)) (w w1 : Option (List ℕ)) → nat_lt (time - seat.since) open_time ≡ false
+    → BreaksIn L seat hurries_where_new old t t1 w w1 → BreaksIn L seat (hurries_where_late time) old t t1 w w1
+breaks_late {L} time seat old t t1 w w1 late did station stands place found seated =
+    subst (λ b. BreaksAt L (if b then resting station else hurries_where_new place station).deeds old.books t t1 w w1)
     (sym (place_early time seat place seated ∙ late)) (did station stands place found seated)
 
 pub late_writable : (time : ℕ) (seat : Seat) (old : Recording) (station : Station) → Stands station old → (place : Place) → place_for seat.peer station.places ≡ Some place
@@ -338,13 +343,13 @@ did_no_line line step old t w is station stands =
     (sym (found_none (λ (other : Seat). other.line == line) station.places (ap (seat_of line) (sym stands.seats_are) ∙ is)))
     (does_rest station old t w stands)
 
-pub breaks_line : (line : ℕ) (seat : Seat) (step : Place → Station → Step) (old : Recording) (t t1 : Option (List Turn)) (w w1 : Option (List ℕ)) → seat_of line old.seats ≡ Some seat
-    → BreaksIn seat step old t t1 w w1
-    → BreaksSo (λ station. elim (place_of line station.places) [ None ↦ resting station | Some place ↦ step place station ]) old t t1 w w1
-breaks_line line seat step old t t1 w w1 is did station stands =
+pub breaks_line : {L : Type 0} → (line : ℕ) (seat : Seat) (step : Place → Station → Step) (old : Recording) (t t1 : Option (List Turn)) (w w1 : Option (List ℕ)) → seat_of line old.seats ≡ Some seat
+    → BreaksIn L seat step old t t1 w w1
+    → BreaksSo L (λ station. elim (place_of line station.places) [ None ↦ resting station | Some place ↦ step place station ]) old t t1 w w1
+breaks_line {L} line seat step old t t1 w w1 is did station stands =
     let at : FoundAt (λ (place : Place). place.line == line) station.places seat =
     found_at (λ (other : Seat). other.line == line) station.places seat (ap (seat_of line) (sym stands.seats_are) ∙ is) in
     let own : place_for seat.peer station.places ≡ Some at.place =
     subst (λ (s : Seat). place_for s.peer station.places ≡ Some at.place) at.seated (place_found line station.places at.place stands.apart at.found) in
-    subst (λ (found : Option Place). BreaksAt (elim found as (λ _. Step) [ None ↦ resting station | Some place ↦ step place station ]).deeds old.books t t1 w w1) (sym at.found)
+    subst (λ (found : Option Place). BreaksAt L (elim found as (λ _. Step) [ None ↦ resting station | Some place ↦ step place station ]).deeds old.books t t1 w w1) (sym at.found)
     (did station stands at.place own at.seated)

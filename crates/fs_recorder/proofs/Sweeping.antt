@@ -1,5 +1,5 @@
 -- The clock of each session in turn, and all that is done at an event.
-use Rattle.fs_recorder.proofs.{PlaceWords.{Bool, List, Option, [], ap, append_assoc, false, not, refl, subst, sym, true, ℕ, ◌++◌, ◌∙◌, ◌∷◌, ◌≡◌, AllByRecursion, if◌then◌else◌, Turn, Config, IsWritable, nobody, Recording, items_of, What, Station, Step, checks_peer, follows, hears, is_due, peers_at, peers_in, resting, swept_after, sweeps, sweeps_all, sweeps_where_due, then_do, BreaksAt, BreaksSo, DidHear, DidSo, DoesStep, Stands}, Doing.{breaks_early, breaks_more, breaks_then, does_then}, Knowing.{Known, known_checks_peer, known_follows, known_sweeps, known_where_due, new_told}, Stepping.{breaks_both, does_both, does_rest}}
+use Rattle.fs_recorder.proofs.{PlaceWords.{Bool, List, Option, [], ap, append_assoc, false, not, refl, subst, sym, true, ℕ, ◌++◌, ◌∙◌, ◌∷◌, ◌≡◌, AllByRecursion, if◌then◌else◌, Turn, Config, IsWritable, nobody, Recording, items_of, What, Station, Step, checks_peer, follows, hears, is_due, peers_at, peers_in, resting, swept_after, sweeps, sweeps_all, sweeps_where_due, then_do, BreaksAt, BreaksSo, DidHear, DidSo, DoesStep, Stands}, Doing.{breaks_early, breaks_more, breaks_then, breaks_where, does_then}, Knowing.{Known, known_checks_peer, known_follows, known_sweeps, known_where_due, new_told}, Stepping.{breaks_both, does_both, does_rest}}
 use Rattle.fs_recorder.specs.{Books.{Booked}, Deeds.{passing}, Laws.{IsShort}, Steps.{seat_at, Place}}
 use Rattle.fs_recorder.specs.declared.seats.Seat.{Seat}
 use Rattle.fs_base.specs.{Gate.{what_from}, declared.Came.{Came, TheVariants.{Ended, Made, Nothing, Octets, Taken}}}
@@ -28,16 +28,16 @@ module _ (time : ℕ) (front : List ℕ) (peer : ℕ) (a b : Recording) (t t1 t2
       (does_both (sweeps time front station) (sweeps time (peer ∷ [])) a b c t t1 t2 w w1 w2 one single)
 
   -- it was broken off at a peer
-  pub breaks_more_peers : (later : List ℕ) → DidSo (sweeps time front) a b t t1 w w1 → BreaksSo (checks_peer time peer) b t1 t2 w1 w2
-      → BreaksSo (sweeps time (front ++ peer ∷ later)) a t t2 w w2
-  breaks_more_peers later did breaks station stands =
+  pub breaks_more_peers : {L M : Type 0} → (later : List ℕ) → (M → L) → DidSo (sweeps time front) a b t t1 w w1 → BreaksSo L (checks_peer time peer) b t1 t2 w1 w2
+      → BreaksSo M (sweeps time (front ++ peer ∷ later)) a t t2 w w2
+  breaks_more_peers {L} {M} later named did breaks station stands =
       let one = did station stands in
       let mid = (sweeps time front station).station in
       let known = known_checks_peer b.books.desk.config time peer mid one.stands.known in
-      subst (λ (step : Step). BreaksAt step.deeds a.books t t2 w w2) (sym (sweeps_both time front (peer ∷ later) station))
+      subst (λ (step : Step). BreaksAt M step.deeds a.books t t2 w w2) (sym (sweeps_both time front (peer ∷ later) station))
       (breaks_both (sweeps time front station) (sweeps time (peer ∷ later)) a b t t1 t2 w w1 w2 one
       (breaks_more (checks_peer time peer mid).deeds (sweeps time later (checks_peer time peer mid).station).deeds b.books t1 t2 w1 w2
-      (known_sweeps b.books.desk.config time later (checks_peer time peer mid).station known.known).writable (breaks mid one.stands)))
+      (known_sweeps b.books.desk.config time later (checks_peer time peer mid).station known.known).writable (breaks_where named (breaks mid one.stands))))
 
 -- the peers of seats are those of their places
 peers_same : (places : List Place) → peers_in (map seat_at places) ≡ peers_at places
@@ -53,16 +53,16 @@ module _ (time : ℕ) (old : Recording) (t t1 : Option (List Turn)) (w w1 : Opti
   did_sweep seats new same did station stands =
       subst (λ peers. DoesStep old.swept (sweeps time peers station) old new t t1 w w1) (ap peers_in same ∙ peers_are old station stands) (did station stands)
 
-  pub breaks_sweep : (seats : List Seat) → seats ≡ old.seats → BreaksSo (sweeps time (peers_in seats)) old t t1 w w1
-      → BreaksSo (sweeps_all time) old t t1 w w1
-  breaks_sweep seats same breaks station stands =
-      subst (λ peers. BreaksAt (sweeps time peers station).deeds old.books t t1 w w1) (ap peers_in same ∙ peers_are old station stands) (breaks station stands)
+  pub breaks_sweep : {L : Type 0} → (seats : List Seat) → seats ≡ old.seats → BreaksSo L (sweeps time (peers_in seats)) old t t1 w w1
+      → BreaksSo L (sweeps_all time) old t t1 w w1
+  breaks_sweep {L} seats same breaks station stands =
+      subst (λ peers. BreaksAt L (sweeps time peers station).deeds old.books t t1 w w1) (ap peers_in same ∙ peers_are old station stands) (breaks station stands)
 
 -- it was broken off before it began
-pub breaks_sweep_early : (time : ℕ) (old : Recording) (t : Option (List Turn)) (w : Option (List ℕ)) → BreaksSo (sweeps_all time) old t t w w
-breaks_sweep_early time old t w station stands =
+pub breaks_sweep_early : {L : Type 0} → (time : ℕ) (old : Recording) (t : Option (List Turn)) (w : Option (List ℕ)) → (L → ⊥) → BreaksSo L (sweeps_all time) old t t w w
+breaks_sweep_early {L} time old t w never station stands =
     breaks_early (sweeps_all time station).deeds old.books t w
-    (known_sweeps old.books.desk.config time (peers_at station.places) station stands.known).writable
+    (known_sweeps old.books.desk.config time (peers_at station.places) station stands.known).writable never
 
 -- the clock was heard of all at another time
 pub stands_swept : (station : Station) (old : Recording) (time : ℕ) → Stands station old → Stands station (record old { swept = time })
@@ -105,22 +105,22 @@ module _ (config : Config) (time : ℕ) (what : What) (old mid : Recording) (t t
       })
 
   -- it was broken off at the clock
-  pub breaks_due : is_due mid.swept time ≡ true → DidSo (follows config time what) old mid t t1 w w1
-      → BreaksSo (sweeps_all time) (record mid { swept = time }) t1 t2 w1 w2
-      → BreaksSo (hears config old.swept time what) old t t2 w w2
-  breaks_due e did later station stands =
+  pub breaks_due : {L : Type 0} → is_due mid.swept time ≡ true → DidSo (follows config time what) old mid t t1 w w1
+      → BreaksSo L (sweeps_all time) (record mid { swept = time }) t1 t2 w1 w2
+      → BreaksSo L (hears config old.swept time what) old t t2 w w2
+  breaks_due {L} e did later station stands =
       let one = did station stands in
-      subst (λ (b : Bool). BreaksAt (hears_by b station).deeds old.books t t2 w w2) (sym (ap (λ s. is_due s time) (sym one.swept_is) ∙ e))
+      subst (λ (b : Bool). BreaksAt L (hears_by b station).deeds old.books t t2 w w2) (sym (ap (λ s. is_due s time) (sym one.swept_is) ∙ e))
       (breaks_then nobody nobody (follows config time what station).deeds old.books mid.books t t1 w w1 one.does
       (sweeps_all time (follows config time what station).station).deeds t2 w2
       (later (follows config time what station).station (stands_swept (follows config time what station).station mid time one.stands)))
 
 -- it was broken off at the event itself
-pub breaks_follow : (config : Config) (time : ℕ) (what : What) (old : Recording) (t t1 : Option (List Turn)) (w w1 : Option (List ℕ))
-    → config ≡ old.books.desk.config → IsShort what → BreaksSo (follows config time what) old t t1 w w1
-    → BreaksSo (hears config old.swept time what) old t t1 w w1
-breaks_follow config time what old t t1 w w1 same short breaks station stands =
-    let broken = breaks station stands in
+pub breaks_follow : {L M : Type 0} → (config : Config) (time : ℕ) (what : What) (old : Recording) (t t1 : Option (List Turn)) (w w1 : Option (List ℕ))
+    → config ≡ old.books.desk.config → IsShort what → (M → L) → BreaksSo L (follows config time what) old t t1 w w1
+    → BreaksSo M (hears config old.swept time what) old t t1 w w1
+breaks_follow {L} {M} config time what old t t1 w w1 same short named breaks station stands =
+    let broken : BreaksAt M (follows config time what station).deeds old.books t t1 w w1 = breaks_where named (breaks station stands) in
     let known : Known config station = subst (λ c. Known c station) (sym same) stands.known in
     let writable : AllByRecursion (IsWritable config) (items_of (follows config time what station).deeds) =
     subst (λ c. AllByRecursion (IsWritable c) (items_of (follows config time what station).deeds)) (sym same) broken.writable in

@@ -62,7 +62,16 @@ tells_as item inside old new before now same writable plays config_is scribe_is 
       grew = grew;
     })
 
-pub part_as : (item : Item) (inside old : Booked) (before now : Option (List ℕ)) → inside ≡ old → IsWritable old.desk.config item
-    → GrewPart before now (text_now inside item) → TellsPart item old before now
-part_as item inside old before now same writable part =
-    record { writable = writable; part = subst (λ books. GrewPart before now (text_now books item)) same part }
+pub part_as : {L : Type 0} → (item : Item) (inside old : Booked) (before now : Option (List ℕ)) → inside ≡ old → IsWritable old.desk.config item
+    → GrewPart before now (text_now inside item) → (L → inside.scribe.limit ≤ inside.scribe.written + length (text_now inside item))
+    → TellsPart L item old before now
+part_as {L} item inside old before now same writable part full = record {
+  writable = writable;
+  part = subst (λ books. GrewPart before now (text_now books item)) same part;
+  full = subst (λ (books : Booked). L → books.scribe.limit ≤ books.scribe.written + length (text_now books item)) same full;
+}
+
+-- so where the limit is named otherwise
+pub part_where : {L M : Type 0} {item : Item} {old : Booked} {before now : Option (List ℕ)} → (M → L) → TellsPart L item old before now
+    → TellsPart M item old before now
+part_where named part = record { writable = part.writable; part = part.part; full = λ limited. part.full (named limited) }

@@ -104,6 +104,8 @@ answered_so peer lives deeds old new t t' w w' answers =
       tape = d.tape;
       gate = d.gate;
       moment_is = d.moment_is;
+      written_is = d.written_is;
+      limit_is = d.limit_is;
       config_is = d.config_is;
       agrees = λ config told agrees. settled peer lives config (told ++ told_at old.scribe.moment (items_of deeds)) new (d.agrees config told agrees);
     }
@@ -143,6 +145,8 @@ module _ (peer time : ℕ) (lives : Bool) (deeds : List Deed) (old new : Booked)
         tape = d.tape;
         gate = d.gate;
         moment_is = d.moment_is;
+        written_is = d.written_is;
+        limit_is = d.limit_is;
         config_is = d.config_is ∙ config_is;
         agrees = λ config told agrees. by_case (tick_case peer time old.desk desk replies replies' ticks) config told agrees;
       }

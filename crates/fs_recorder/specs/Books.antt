@@ -1,5 +1,5 @@
 -- A desk beside the tape that is written of what it is told.
-use Rattle.std.specs.Prelude.{ℕ, List, Bool, Option, ◌≡◌, ◌≤◌, ◌<◌, ◌^◌, length}
+use Rattle.std.specs.Prelude.{ℕ, List, Bool, Option, ◌≡◌, ◌≤◌, ◌<◌, ◌+◌, ◌^◌, length}
 use Rattle.fs_base.specs.{Sink.{Grew, GrewPart}, declared.config.Config.{Config}}
 use Rattle.fs_input.specs.Parts.{AllFrom}
 use Rattle.fs_tape.specs.{Laws.{Fits, IsWritable, after, item_text, tape_text}, Tape.{Item, Timed, stands, timed}, declared.magic.Version.TheVariants.{Two}}
@@ -37,7 +37,8 @@ pub record Tells (item : Item) (old new : Booked) (before now : Option (List ℕ
   pub below : new.scribe.written < new.scribe.limit
   pub grew : Grew before now (text_now old item)
 
--- A front of an item's record was written.
-pub record TellsPart (item : Item) (old : Booked) (before now : Option (List ℕ)) : Type 0 where
+-- A front of an item's record was written; and where the limit was named, the record would make the tape as long as it.
+pub record TellsPart (limited : Type 0) (item : Item) (old : Booked) (before now : Option (List ℕ)) : Type 0 where
   pub writable : IsWritable old.desk.config item
   pub part : GrewPart before now (text_now old item)
+  pub full : limited → old.scribe.limit ≤ old.scribe.written + length (text_now old item)

@@ -1,5 +1,5 @@
 -- What a recorder does: what it tells the tape, and what it asks of the gate.
-use Rattle.std.specs.{Prelude.{ℕ, List, [], ◌∷◌, ◌++◌, Bool, true, false, Option, IsSome, ◌≡◌, map, flat_map}, List.{AllByRecursion}}
+use Rattle.std.specs.{Prelude.{ℕ, List, [], ◌∷◌, ◌++◌, Bool, true, false, Option, IsSome, ◌≡◌, ◌+◌, length, map, flat_map}, List.{AllByRecursion}}
 use Rattle.fs_base.specs.{Config.{peer_of}, Gate.{Turn, said, shut}, Sink.{Grew}, declared.config.Config.{Config}}
 use Rattle.fs_tape.specs.{Laws.{IsWritable, item_text}, Tape.{Item, Timed, timed, was_lost}, declared.magic.Version.TheVariants.{Two}}
 use Rattle.fs_speaker.specs.declared.{Standing.{Standing, TheVariants.{Ended, Live}}, State.TheVariants.{Established}}
@@ -42,6 +42,8 @@ pub record Does (expired expired' : ℕ → Bool) (deeds : List Deed) (old new :
   pub tape : Grew before now (text_at old.scribe.moment (items_of deeds))
   pub gate : Grew turns turns' (asked_in deeds)
   pub moment_is : new.scribe.moment ≡ old.scribe.moment
+  pub written_is : new.scribe.written ≡ old.scribe.written + length (text_at old.scribe.moment (items_of deeds))
+  pub limit_is : new.scribe.limit ≡ old.scribe.limit
   pub config_is : new.desk.config ≡ old.desk.config
   pub agrees : (config : Config) (told : List Timed) → AgreesBut expired config told old
       → AgreesBut expired' config (told ++ told_at old.scribe.moment (items_of deeds)) new

@@ -1,5 +1,5 @@
 -- That a recorder takes a step: its tape, its desk, its gate and its seats.
-use Rattle.std.specs.{Prelude.{ℕ, List, [], ◌∷◌, ◌++◌, Bool, true, Option, Some, None, ◌==◌, ◌≡◌, false, map, not, ⊤}, List.{AllByRecursion}}
+use Rattle.std.specs.{Prelude.{ℕ, List, [], ◌∷◌, ◌++◌, Bool, true, Option, Some, None, ◌==◌, ◌≡◌, ◌≤◌, ◌+◌, false, length, map, not, ⊤}, List.{AllByRecursion}}
 use Rattle.fs_base.specs.{Gate.{Turn}, Sink.{Grew, GrewPart}}
 use Rattle.fs_tape.specs.{Laws.{IsNumbered, IsWritable}, Tape.{was_lost}}
 use Rattle.fs_speaker.specs.Session.{Live}
@@ -79,24 +79,26 @@ WakesSo time seat old lives =
     (station : Station) → Stands station old
     → (place : Place) → place_for seat.peer station.places ≡ Some place → lives ≡ not (expires time place)
 
--- It was broken off: a front of the records was written, and a front of what the gate was to be asked was.
-pub record BreaksAt (deeds : List Deed) (old : Booked) (turns turns' : Option (List Turn)) (before now : Option (List ℕ)) : Type 0 where
+-- It was broken off: a front of the records was written, and a front of what the gate was to be asked was; and where the
+-- limit was named, the records would make the tape as long as it.
+pub record BreaksAt (limited : Type 0) (deeds : List Deed) (old : Booked) (turns turns' : Option (List Turn)) (before now : Option (List ℕ)) : Type 0 where
   pub writable : AllByRecursion (IsWritable old.desk.config) (items_of deeds)
   pub part : GrewPart before now (text_at old.scribe.moment (items_of deeds))
+  pub full : limited → old.scribe.limit ≤ old.scribe.written + length (text_at old.scribe.moment (items_of deeds))
   pub asked : List Turn
   pub later : List Turn
   pub front : asked ++ later ≡ asked_in deeds
   pub gate : Grew turns turns' asked
 
-abbrev pub BreaksSo : (Station → Step) → (old : Recording) → (turns turns' : Option (List Turn)) → (before now : Option (List ℕ)) → Type 0
-BreaksSo step old turns turns' before now =
-    (station : Station) → Stands station old → BreaksAt (step station).deeds old.books turns turns' before now
+abbrev pub BreaksSo : (limited : Type 0) → (Station → Step) → (old : Recording) → (turns turns' : Option (List Turn)) → (before now : Option (List ℕ)) → Type 0
+BreaksSo limited step old turns turns' before now =
+    (station : Station) → Stands station old → BreaksAt limited (step station).deeds old.books turns turns' before now
 
-abbrev pub BreaksQuietly : (Station → Step) → (old : Recording) → (before now : Option (List ℕ)) → Type 0
-BreaksQuietly step old before now = (turns : Option (List Turn)) → BreaksSo step old turns turns before now
+abbrev pub BreaksQuietly : (limited : Type 0) → (Station → Step) → (old : Recording) → (before now : Option (List ℕ)) → Type 0
+BreaksQuietly limited step old before now = (turns : Option (List Turn)) → BreaksSo limited step old turns turns before now
 
-abbrev pub BreaksIn : Seat → (Place → Station → Step) → (old : Recording) → (turns turns' : Option (List Turn)) → (before now : Option (List ℕ)) → Type 0
-BreaksIn seat step old turns turns' before now =
+abbrev pub BreaksIn : (limited : Type 0) → Seat → (Place → Station → Step) → (old : Recording) → (turns turns' : Option (List Turn)) → (before now : Option (List ℕ)) → Type 0
+BreaksIn limited seat step old turns turns' before now =
     (station : Station) → Stands station old
     → (place : Place) → place_for seat.peer station.places ≡ Some place → seat_at place ≡ seat
-    → BreaksAt (step place station).deeds old.books turns turns' before now
+    → BreaksAt limited (step place station).deeds old.books turns turns' before now

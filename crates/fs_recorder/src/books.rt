@@ -45,6 +45,7 @@ impl<'a> Books<'a> {
         ensures later { S.faults sink.old ≤ S.faults sink.new }
         ensures failed { IsErrOf result Stop.Failed → Rose (S.faults sink.old) (S.faults sink.new) }
         ensures agrees { IfOk result (Agrees config.entry.now []) }
+        ensures limit { IsErrOf result Stop.Limit → limit ≤ 8 }
         ensures begun { IfOk result (λ books. books.scribe ≡ begun limit) }
         ensures config { IfOk result (λ books. books.desk.config ≡ config.entry.now) }
         ensures written { OnOk result (Grew (S.written sink.old) (S.written sink.new) (magic_of Two)) }
@@ -90,7 +91,7 @@ impl<'a> Books<'a> {
         ensures begun { OnOk result (session_at peer self.new.desk.sessions ≡ begins self.old.desk.config peer) }
         ensures others { OnOk result (KeepsOthers peer self.old.desk self.new.desk) }
         ensures err { OnErr result
-            (TellsPart (came_up peer) self.old (S.written sink.old) (S.written sink.new)) }
+            (TellsPart (IsErrOf result Stop.Limit) (came_up peer) self.old (S.written sink.old) (S.written sink.new)) }
     {
         let mut piece = [0u8; HEAD_SIZE];
         self.scribe.write(Kind::Up, peer, &mut piece, sink)?;
@@ -111,7 +112,7 @@ impl<'a> Books<'a> {
             (Tells (was_lost peer) self.old self.new (S.written sink.old) (S.written sink.new)) }
         ensures others { OnOk result (KeepsOthers peer self.old.desk self.new.desk) }
         ensures err { OnErr result
-            (TellsPart (was_lost peer) self.old (S.written sink.old) (S.written sink.new)) }
+            (TellsPart (IsErrOf result Stop.Limit) (was_lost peer) self.old (S.written sink.old) (S.written sink.new)) }
     {
         let mut piece = [0u8; HEAD_SIZE];
         self.scribe.write(Kind::Lost, peer, &mut piece, sink)?;
@@ -139,7 +140,7 @@ impl<'a> Books<'a> {
         ensures told { OnOk result
             (Tells (received peer (drop 15 piece.old)) self.old self.new (S.written sink.old) (S.written sink.new)) }
         ensures err { OnErr result
-            (TellsPart (received peer (drop 15 piece.old)) self.old (S.written sink.old) (S.written sink.new)) }
+            (TellsPart (IsErrOf result Stop.Limit) (received peer (drop 15 piece.old)) self.old (S.written sink.old) (S.written sink.new)) }
         ensures handed { OnOk result (HandsPeer peer self.old.desk self.new.desk (drop 15 piece.old)
             replies.old.items replies.new.items) }
         ensures others { OnOk result (KeepsOthers peer self.old.desk self.new.desk) }

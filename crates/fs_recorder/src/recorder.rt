@@ -59,6 +59,7 @@ impl<'a> Recorder<'a> {
         ensures later { S.faults sink.old ≤ S.faults sink.new }
         ensures failed { IsErrOf result Stop.Failed → Rose (S.faults sink.old) (S.faults sink.new) }
         ensures agrees { IfOk result (λ recorder. Agrees config.entry.now [] recorder.books) }
+        ensures limit { IsErrOf result Stop.Limit → limit ≤ 8 }
         ensures begun { IfOk result (λ recorder. recorder.books.scribe ≡ begun limit) }
         ensures config { IfOk result (λ recorder. recorder.books.desk.config ≡ config.entry.now) }
         ensures empty { IfOk result (λ recorder. recorder.seats ≡ []) }
@@ -102,7 +103,7 @@ impl<'a> Recorder<'a> {
             (passing event.moment self.old) self.new
             (G.turns gate.old) (G.turns gate.new) (S.written sink.old) (S.written sink.new)) }
         ensures stay { OnOk result (StayKnown (passing event.moment self.old) self.new) }
-        ensures breaks { OnErr result (BreaksSo (hears self.old.books.desk.config self.old.swept event.time (what_from event.came (drop 15 buffer.old)))
+        ensures breaks { OnErr result (BreaksSo (IsErrOf result Stop.Limit) (hears self.old.books.desk.config self.old.swept event.time (what_from event.came (drop 15 buffer.old)))
             (passing event.moment self.old)
             (G.turns gate.old) (G.turns gate.new) (S.written sink.old) (S.written sink.new)) }
     {
@@ -134,7 +135,7 @@ impl<'a> Recorder<'a> {
         ensures did { OnOk result (DidSo (follows self.old.books.desk.config event.time (what_from event.came (drop 15 buffer.old))) self.old self.new
             (G.turns gate.old) (G.turns gate.new) (S.written sink.old) (S.written sink.new)) }
         ensures stay { OnOk result (StayKnown self.old self.new) }
-        ensures breaks { OnErr result (BreaksSo (follows self.old.books.desk.config event.time (what_from event.came (drop 15 buffer.old))) self.old
+        ensures breaks { OnErr result (BreaksSo (IsErrOf result Stop.Limit) (follows self.old.books.desk.config event.time (what_from event.came (drop 15 buffer.old))) self.old
             (G.turns gate.old) (G.turns gate.new) (S.written sink.old) (S.written sink.new)) }
     {
         match event.came {
@@ -166,7 +167,7 @@ impl<'a> Recorder<'a> {
         ensures did { OnOk result (DidSo (takes self.old.books.desk.config line from time) self.old self.new
             (G.turns gate.old) (G.turns gate.new) (S.written sink.old) (S.written sink.new)) }
         ensures stay { OnOk result (StayKnown self.old self.new) }
-        ensures breaks { OnErr result (BreaksSo (takes self.old.books.desk.config line from time) self.old
+        ensures breaks { OnErr result (BreaksSo (IsErrOf result Stop.Limit) (takes self.old.books.desk.config line from time) self.old
             (G.turns gate.old) (G.turns gate.new) (S.written sink.old) (S.written sink.new)) }
     {
         match self.peer_for(from) {
@@ -211,7 +212,7 @@ impl<'a> Recorder<'a> {
         ensures did { OnOk result (DidSo (replaces line peer since) self.old self.new
             (G.turns gate.old) (G.turns gate.new) (S.written sink.old) (S.written sink.new)) }
         ensures stay { OnOk result (StayKnown self.old self.new) }
-        ensures breaks { OnErr result (BreaksSo (replaces line peer since) self.old
+        ensures breaks { OnErr result (BreaksSo (IsErrOf result Stop.Limit) (replaces line peer since) self.old
             (G.turns gate.old) (G.turns gate.new) (S.written sink.old) (S.written sink.new)) }
     {
         self.vacate(peer, gate, sink)?;
@@ -233,7 +234,7 @@ impl<'a> Recorder<'a> {
             (G.turns gate.old) (G.turns gate.new) (S.written sink.old) (S.written sink.new)) }
         ensures config { OnOk result (self.new.books.desk.config ≡ self.old.books.desk.config) }
         ensures stay { OnOk result (StayKnown self.old self.new) }
-        ensures breaks { OnErr result (BreaksSo (vacates peer) self.old
+        ensures breaks { OnErr result (BreaksSo (IsErrOf result Stop.Limit) (vacates peer) self.old
             (G.turns gate.old) (G.turns gate.new) (S.written sink.old) (S.written sink.new)) }
     {
         match seat_for(&self.seats, peer) {
@@ -249,7 +250,7 @@ impl<'a> Recorder<'a> {
         ensures failed { IsErrOf result Stop.Failed → Rose (S.faults sink.old) (S.faults sink.new) }
         ensures stay { OnOk result (StayKnown self.old self.new) }
         ensures did { OnOk result (DidSeat seat self.old self.new (S.written sink.old) (S.written sink.new)) }
-        ensures breaks { OnErr result (BreaksQuietly (seats_one seat) self.old (S.written sink.old) (S.written sink.new)) }
+        ensures breaks { OnErr result (BreaksQuietly (IsErrOf result Stop.Limit) (seats_one seat) self.old (S.written sink.old) (S.written sink.new)) }
     {
         self.books.up(seat.peer, sink)?;
         add(&mut self.seats, seat)?;
@@ -272,7 +273,7 @@ impl<'a> Recorder<'a> {
             (G.turns gate.old) (G.turns gate.new) (S.written sink.old) (S.written sink.new)) }
         ensures stay { OnOk result (StayKnown self.old self.new) }
         ensures left { OnOk result (Left seat self.old self.new) }
-        ensures breaks { OnErr result (BreaksAt (leaves seat) self.old.books
+        ensures breaks { OnErr result (BreaksAt (IsErrOf result Stop.Limit) (leaves seat) self.old.books
             (G.turns gate.old) (G.turns gate.new) (S.written sink.old) (S.written sink.new)) }
     {
         gate.close(seat.line);
@@ -288,7 +289,7 @@ impl<'a> Recorder<'a> {
             (Tells (was_lost seat.peer) self.old.books self.new.books (S.written sink.old) (S.written sink.new)) }
         ensures stay { OnOk result (StayKnown self.old self.new) }
         ensures err { OnErr result
-            (TellsPart (was_lost seat.peer) self.old.books (S.written sink.old) (S.written sink.new)) }
+            (TellsPart (IsErrOf result Stop.Limit) (was_lost seat.peer) self.old.books (S.written sink.old) (S.written sink.new)) }
         ensures left { OnOk result (Left seat self.old self.new) }
     {
         remove(&mut self.seats, seat.line);
@@ -302,7 +303,7 @@ impl<'a> Recorder<'a> {
         ensures failed { IsErrOf result Stop.Failed → Rose (S.faults sink.old) (S.faults sink.new) }
         ensures stay { OnOk result (StayKnown self.old self.new) }
         ensures did { OnOk result (DidQuietly (ends line) self.old self.new (S.written sink.old) (S.written sink.new)) }
-        ensures breaks { OnErr result (BreaksQuietly (ends line) self.old (S.written sink.old) (S.written sink.new)) }
+        ensures breaks { OnErr result (BreaksQuietly (IsErrOf result Stop.Limit) (ends line) self.old (S.written sink.old) (S.written sink.new)) }
     {
         match seat_of(&self.seats, line) {
             Some(seat) => self.lose(seat, sink),
@@ -328,7 +329,7 @@ impl<'a> Recorder<'a> {
         ensures did { OnOk result (DidSo (hears_octets self.old.books.desk.config line time (drop 15 piece.old)) self.old self.new
             (G.turns gate.old) (G.turns gate.new) (S.written sink.old) (S.written sink.new)) }
         ensures stay { OnOk result (StayKnown self.old self.new) }
-        ensures breaks { OnErr result (BreaksSo (hears_octets self.old.books.desk.config line time (drop 15 piece.old)) self.old
+        ensures breaks { OnErr result (BreaksSo (IsErrOf result Stop.Limit) (hears_octets self.old.books.desk.config line time (drop 15 piece.old)) self.old
             (G.turns gate.old) (G.turns gate.new) (S.written sink.old) (S.written sink.new)) }
     {
         match seat_of(&self.seats, line) {
@@ -355,7 +356,7 @@ impl<'a> Recorder<'a> {
         ensures did { OnOk result (DidAt seat (λ place. speaks self.old.books.desk.config time place (drop 15 piece.old)) self.old self.new
             (G.turns gate.old) (G.turns gate.new) (S.written sink.old) (S.written sink.new)) }
         ensures stay { OnOk result (StayKnown self.old self.new) }
-        ensures breaks { OnErr result (BreaksIn seat (λ place. speaks self.old.books.desk.config time place (drop 15 piece.old)) self.old
+        ensures breaks { OnErr result (BreaksIn (IsErrOf result Stop.Limit) seat (λ place. speaks self.old.books.desk.config time place (drop 15 piece.old)) self.old
             (G.turns gate.old) (G.turns gate.new) (S.written sink.old) (S.written sink.new)) }
     {
         let is_open = self.wake(seat, time, gate, sink)?;
@@ -382,7 +383,7 @@ impl<'a> Recorder<'a> {
         ensures did { OnOk result (DidAt seat (λ place. receives self.old.books.desk.config place (drop 15 piece.old)) self.old self.new
             (G.turns gate.old) (G.turns gate.new) (S.written sink.old) (S.written sink.new)) }
         ensures stay { OnOk result (StayKnown self.old self.new) }
-        ensures breaks { OnErr result (BreaksIn seat (λ place. receives self.old.books.desk.config place (drop 15 piece.old)) self.old
+        ensures breaks { OnErr result (BreaksIn (IsErrOf result Stop.Limit) seat (λ place. receives self.old.books.desk.config place (drop 15 piece.old)) self.old
             (G.turns gate.old) (G.turns gate.new) (S.written sink.old) (S.written sink.new)) }
     {
         self.replies.clear();
@@ -407,7 +408,7 @@ impl<'a> Recorder<'a> {
         ensures did { OnOk result (DidAt seat (wakes time) self.old self.new
             (G.turns gate.old) (G.turns gate.new) (S.written sink.old) (S.written sink.new)) }
         ensures stay { OnOk result (StayKnown self.old self.new) }
-        ensures breaks { OnErr result (BreaksIn seat (wakes time) self.old
+        ensures breaks { OnErr result (BreaksIn (IsErrOf result Stop.Limit) seat (wakes time) self.old
             (G.turns gate.old) (G.turns gate.new) (S.written sink.old) (S.written sink.new)) }
         ensures lives { IfOk result (λ lives. WakesSo time seat self.old lives) }
         ensures config { OnOk result (self.new.books.desk.config ≡ self.old.books.desk.config) }
@@ -436,7 +437,7 @@ impl<'a> Recorder<'a> {
         ensures stay { OnOk result (StayKnown self.old self.new) }
         ensures settled { IfOk result (λ lives. Settled lives seat self.old self.new) }
         ensures shut { OnErr result (is_closed (standing_at_desk self.old.books.desk seat.peer) ≡ true) }
-        ensures breaks { OnErr result (BreaksAt (answered false seat self.old.replies) self.old.books
+        ensures breaks { OnErr result (BreaksAt (IsErrOf result Stop.Limit) (answered false seat self.old.replies) self.old.books
             (G.turns gate.old) (G.turns gate.new) (S.written sink.old) (S.written sink.new)) }
     {
         self.say(seat.line, gate);
@@ -468,7 +469,7 @@ impl<'a> Recorder<'a> {
         ensures did { OnOk result (DidSo (sweeps_all time) self.old self.new
             (G.turns gate.old) (G.turns gate.new) (S.written sink.old) (S.written sink.new)) }
         ensures stay { OnOk result (StayKnown self.old self.new) }
-        ensures breaks { OnErr result (BreaksSo (sweeps_all time) self.old
+        ensures breaks { OnErr result (BreaksSo (IsErrOf result Stop.Limit) (sweeps_all time) self.old
             (G.turns gate.old) (G.turns gate.new) (S.written sink.old) (S.written sink.new)) }
     {
         let seats = self.seats.clone()?;
@@ -490,7 +491,7 @@ impl<'a> Recorder<'a> {
         ensures did { OnOk result (DidSo (sweeps time (peers_in seats.now)) self.old self.new
             (G.turns gate.old) (G.turns gate.new) (S.written sink.old) (S.written sink.new)) }
         ensures stay { OnOk result (StayKnown self.old self.new) }
-        ensures breaks { OnErr result (BreaksSo (sweeps time (peers_in seats.now)) self.old
+        ensures breaks { OnErr result (BreaksSo (IsErrOf result Stop.Limit) (sweeps time (peers_in seats.now)) self.old
             (G.turns gate.old) (G.turns gate.new) (S.written sink.old) (S.written sink.new)) }
     {
         for seat in seats {
@@ -514,7 +515,7 @@ impl<'a> Recorder<'a> {
         ensures did { OnOk result (DidSo (checks_peer time peer) self.old self.new
             (G.turns gate.old) (G.turns gate.new) (S.written sink.old) (S.written sink.new)) }
         ensures stay { OnOk result (StayKnown self.old self.new) }
-        ensures breaks { OnErr result (BreaksSo (checks_peer time peer) self.old
+        ensures breaks { OnErr result (BreaksSo (IsErrOf result Stop.Limit) (checks_peer time peer) self.old
             (G.turns gate.old) (G.turns gate.new) (S.written sink.old) (S.written sink.new)) }
     {
         match seat_for(&self.seats, peer) {
@@ -538,7 +539,7 @@ impl<'a> Recorder<'a> {
         ensures did { OnOk result (DidAt seat (checks time) self.old self.new
             (G.turns gate.old) (G.turns gate.new) (S.written sink.old) (S.written sink.new)) }
         ensures stay { OnOk result (StayKnown self.old self.new) }
-        ensures breaks { OnErr result (BreaksIn seat (checks time) self.old
+        ensures breaks { OnErr result (BreaksIn (IsErrOf result Stop.Limit) seat (checks time) self.old
             (G.turns gate.old) (G.turns gate.new) (S.written sink.old) (S.written sink.new)) }
     {
         let is_open = self.wake(seat, time, gate, sink)?;
@@ -565,7 +566,7 @@ impl<'a> Recorder<'a> {
         ensures did { OnOk result (DidAt seat hurries_where_new self.old self.new
             (G.turns gate.old) (G.turns gate.new) (S.written sink.old) (S.written sink.new)) }
         ensures stay { OnOk result (StayKnown self.old self.new) }
-        ensures breaks { OnErr result (BreaksIn seat hurries_where_new self.old
+        ensures breaks { OnErr result (BreaksIn (IsErrOf result Stop.Limit) seat hurries_where_new self.old
             (G.turns gate.old) (G.turns gate.new) (S.written sink.old) (S.written sink.new)) }
     {
         if is_established(self.books.standing(seat.peer)) {

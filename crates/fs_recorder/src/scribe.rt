@@ -56,6 +56,7 @@ impl Scribe {
     pub fn begin<S: Sink>(limit: u64, sink: &mut S) -> Result<Scribe, Stop>
         ensures later { S.faults sink.old ≤ S.faults sink.new }
         ensures failed { IsErrOf result Stop.Failed → Rose (S.faults sink.old) (S.faults sink.new) }
+        ensures limit { IsErrOf result Stop.Limit → limit ≤ 8 }
         ensures begun { IfOk result (λ scribe. scribe ≡ begun limit) }
         ensures below { OnOk result (8 < limit) }
         ensures written { OnOk result (Grew (S.written sink.old) (S.written sink.new) (magic_of Two)) }
@@ -97,6 +98,7 @@ impl Scribe {
         requires long { length piece.old ≤ 65551 }
         ensures later { S.faults sink.old ≤ S.faults sink.new }
         ensures failed { IsErrOf result Stop.Failed → Rose (S.faults sink.old) (S.faults sink.new) }
+        ensures limit { IsErrOf result Stop.Limit → self.old.limit ≤ self.old.written + length piece.old }
         ensures longer { OnOk result (self.new ≡ longer_by (length piece.old) self.old) }
         ensures room { OnOk result (self.new.written < self.new.limit) }
         ensures written { OnOk result (Grew (S.written sink.old) (S.written sink.new)

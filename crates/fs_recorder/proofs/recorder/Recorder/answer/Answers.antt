@@ -1,4 +1,4 @@
-use Rattle.fs_recorder.proofs.Doing.{breaks_answer, does_answer}
+use Rattle.fs_recorder.proofs.{Words.{Err, refl}, Doing.{breaks_answer, breaks_where, does_answer, handed_on}}
 use Rattle.fs_recorder.proofs.recorder.Recorder.answer.Goals as goal
 
 pub returns-in-Ok-clause-answers : goal.returns-in-Ok-clause-answers
@@ -7,4 +7,5 @@ returns-in-Ok-clause-answers g c =
 
 pub returns-in-Err-clause-breaks : goal.returns-in-Err-clause-breaks
 returns-in-Err-clause-breaks g c =
-    breaks_answer c.args.seat c.args.self.now.replies _ _ _ _ _ _ c.say.ensures.said c.in-Err.ensures.breaks
+    breaks_answer c.args.seat c.args.self.now.replies _ _ _ _ _ _ c.say.ensures.said
+    (breaks_where (handed_on c.in-Err.stop (Err c.in-Err.stop) refl) c.in-Err.ensures.breaks)

@@ -1,9 +1,10 @@
-use Rattle.fs_recorder.proofs.{Words.{ap, on_err, subst, sym, peer_of, ◌∙◌, nat_lt, IsSome, WakesSo, hurries_where_late, open_time}, Doing.{err_to, ok_to}, Stepping.{breaks_late, did_early, did_late, late_writable, time_left, time_up, woken_breaks, woken_broke, woken_shut, woken_then}}
+use Rattle.fs_recorder.proofs.{Words.{ap, on_err, subst, sym, peer_of, ◌∙◌, nat_lt, IsSome, WakesSo, hurries_where_late, open_time}, Doing.{err_to, handed_on, ok_to}, Stepping.{breaks_late, did_early, did_late, late_writable, time_left, time_up, woken_breaks, woken_broke, woken_shut, woken_then}}
 use Rattle.fs_recorder.proofs.recorder.Recorder.check.Goals as goal
 
 pub returns-in_err-is_open-clause-breaks : goal.returns-in_err-is_open-clause-breaks
 returns-in_err-is_open-clause-breaks g c = on_err c.from_residual.result
-    (woken_broke c.args.time c.args.seat (hurries_where_late c.args.time) c.args.self.now _ _ _ _ c.in_err-is_open.ensures.breaks
+    (woken_broke c.args.time c.args.seat (hurries_where_late c.args.time) c.args.self.now _ _ _ _
+    (handed_on c.in_err-is_open.field-0.0 c.from_residual.result c.from_residual.ensures.1) c.in_err-is_open.ensures.breaks
     (late_writable c.args.time c.args.seat c.args.self.now))
 
 pub returns-then-not-is_open-clause-did : goal.returns-then-not-is_open-clause-did

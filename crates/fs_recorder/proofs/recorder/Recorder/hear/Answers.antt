@@ -1,13 +1,16 @@
-use Rattle.fs_recorder.proofs.{Words.{drop, on_err, refl, subst, sym, true, ◌≡◌, AreKnown, Recording, passing}, Doing.{err_to, ok_to}, Sweeping.{breaks_due, breaks_follow, did_due, due_from, passed_as, short_what}}
+use Rattle.fs_recorder.proofs.{Words.{Err, drop, on_err, refl, subst, sym, true, ◌≡◌, AreKnown, Recording, passing}, Doing.{err_to, handed_on, ok_to}, Sweeping.{breaks_due, breaks_follow, did_due, due_from, passed_as, short_what}}
 use Rattle.fs_base.specs.Gate.{what_from}
 use Rattle.fs_recorder.specs.{Steps.{follows, is_due, sweeps_all}, Works.{BreaksSo, DidSo}}
+use Rattle.std.specs.Result.{IsErrOf}
+use Rattle.fs_recorder.specs.declared.stop.Stop.{Stop, TheVariants.{Limit}}
 use Rattle.fs_recorder.proofs.recorder.Recorder.hear.Goals as goal
 
 pub returns-in_err-follow-clause-breaks : goal.returns-in_err-follow-clause-breaks
 returns-in_err-follow-clause-breaks g c = on_err c.from_residual.result
     (breaks_follow c.args.self.now.books.desk.config c.args.event.time (what_from c.args.event.came (drop 15 c.args.buffer.now)) (passing c.args.event.moment c.args.self.now) _ _ _ _ refl
     (short_what c.args.event.came c.args.buffer.now c.requires.long)
-    (subst (λ (r : Recording). BreaksSo (follows r.books.desk.config c.args.event.time (what_from c.args.event.came (drop 15 c.args.buffer.now))) r (g.G.Gate.turns c.args.gate.now) (g.G.Gate.turns c.follow.new.gate) (g.S.Sink.written c.args.sink.now) (g.S.Sink.written c.follow.new.sink))
+    (handed_on c.in_err-follow.field-0.0 c.from_residual.result c.from_residual.ensures.1)
+    (subst (λ (r : Recording). BreaksSo (IsErrOf {T = Unit {0}} {E = Stop} (Err c.in_err-follow.field-0.0) Limit) (follows r.books.desk.config c.args.event.time (what_from c.args.event.came (drop 15 c.args.buffer.now))) r (g.G.Gate.turns c.args.gate.now) (g.G.Gate.turns c.follow.new.gate) (g.S.Sink.written c.args.sink.now) (g.S.Sink.written c.follow.new.sink))
     (passed_as c.args.event.moment _ c.args.self.now c.pass.new.self c.pass.ensures c.self.view_is)
     c.in_err-follow.ensures.breaks))
 
@@ -38,5 +41,5 @@ returns-clause-breaks g c = err_to c.sweep.result c.sweep.ensures.breaks
     (subst (λ (r : Recording). DidSo (follows r.books.desk.config c.args.event.time (what_from c.args.event.came (drop 15 c.args.buffer.now))) r c.follow.new.self (g.G.Gate.turns c.args.gate.now) (g.G.Gate.turns c.follow.new.gate) (g.S.Sink.written c.args.sink.now) (g.S.Sink.written c.follow.new.sink))
     (passed_as c.args.event.moment _ c.args.self.now c.pass.new.self c.pass.ensures c.self.view_is)
     c.in_ok-follow.ensures.did)
-    (subst (λ (r : Recording). BreaksSo (sweeps_all c.args.event.time) (record r { swept = c.args.event.time }) (g.G.Gate.turns c.follow.new.gate) (g.G.Gate.turns c.sweep.new.gate) (g.S.Sink.written c.follow.new.sink) (g.S.Sink.written c.sweep.new.sink))
+    (subst (λ (r : Recording). BreaksSo (IsErrOf c.sweep.result Limit) (sweeps_all c.args.event.time) (record r { swept = c.args.event.time }) (g.G.Gate.turns c.follow.new.gate) (g.G.Gate.turns c.sweep.new.gate) (g.S.Sink.written c.follow.new.sink) (g.S.Sink.written c.sweep.new.sink))
     c.self-2.view_is later))

@@ -1,9 +1,10 @@
-use Rattle.fs_recorder.proofs.{Words.{ap, nobody, ◌∙◌, on_err, subst, sym, refl, AreKnown, Recording}, Doing.{err_both, if_to, ok_all, ok_to}, Stepping.{breaks_unwoken, breaks_woken, did_wake, wakes_so, woke_as}}
+use Rattle.fs_recorder.proofs.{Words.{ap, nobody, ◌∙◌, on_err, subst, sym, refl, AreKnown, Recording}, Doing.{err_both, if_to, wanted_memory, ok_all, ok_to}, Stepping.{breaks_unwoken, breaks_woken, did_wake, wakes_so, woke_as}}
 use Rattle.fs_recorder.proofs.recorder.Recorder.wake.Goals as goal
 
 pub returns-in_err-tick-clause-breaks : goal.returns-in_err-tick-clause-breaks
 returns-in_err-tick-clause-breaks g c = on_err c.from_residual.result
-    (breaks_unwoken c.args.time c.args.seat c.args.self.now (g.G.Gate.turns c.args.gate.now) (g.S.Sink.written c.args.sink.now))
+    (breaks_unwoken c.args.time c.args.seat c.args.self.now (g.G.Gate.turns c.args.gate.now) (g.S.Sink.written c.args.sink.now)
+    (wanted_memory c.in_err-tick.field-0.0 c.from_residual.result c.from_residual.ensures.1 c.in_err-tick.ensures.memory))
 
 pub returns-clause-did : goal.returns-clause-did
 returns-clause-did g c =
