@@ -18,6 +18,10 @@ HEAD = 'local_as = 65000\nlocal_id = "192.0.2.254"\n'
 PEER = '\n[[peer]]\nnumber = 1\naddress = "198.51.100.1"\nas = 65001\n'
 CONFIG = HEAD + PEER
 SECOND = PEER.replace("number = 1", "number = 2")
+SENDER = 'id = "198.51.100.1"\nas_path = [65001]\n'
+OCTETS = '\n[[rule]]\nfamily = "v4"\nnlri = "0b0118c00002038106048119"\nactions = "8006fde900000000"\n'
+WORDS = '\n[[rule]]\ntext = "v6 dst 2001:db8:0:0:0:0:0:0/32 proto =17 sport =53 then bytes 0:49742400"\n'
+RULES = SENDER + OCTETS + WORDS
 TAPE = b"FSTAPE1\n" + bytes.fromhex("01000100000000")
 DUMP = bytes.fromhex("6553f10000100005 00000018 0000fde9 0000fde8 0000 0001 c6336401 c6336402 0005 0006")
 CAPTURE = bytes.fromhex("a1b2c3d4 0002 0004 00000000 00000000 00040000 00000065")
@@ -28,11 +32,16 @@ INTERFACES = bytes.fromhex("00000001 00000014 0001 0000 00000000 00000014 000000
 BLOCK = bytes.fromhex("00000006 00000024 00000000 00000000 0000000b 00000001 00000001 45000000 00000024")
 
 
-def changed(old, new):
-    """The configuration with one text in it changed."""
-    if CONFIG.count(old) != 1:
-        sys.exit(f"{old!r} isn't once in the configuration")
-    return CONFIG.replace(old, new)
+def changed(old, new, text=CONFIG):
+    """The configuration, or another file, with one text in it changed."""
+    if text.count(old) != 1:
+        sys.exit(f"{old!r} isn't once in the file")
+    return text.replace(old, new)
+
+
+def ruled(old, new):
+    """The rules file with one text in it changed."""
+    return changed(old, new, RULES)
 
 
 # What is done, the file, the status, and the line.
@@ -79,6 +88,29 @@ CONFIGS = [
     ("compressed by gzip", gzip.compress(CONFIG.encode(), mtime=0), 9, "config line 1 column 2"),
     ("a tape in its place", TAPE, 9, "config line 1 column 8"),
     ("a dump in its place", DUMP, 9, "config line 1 column 3"),
+]
+
+RULE_FILES = [
+    ("nothing wrong", RULES, 0, "rules 2"),
+    ("no rules", SENDER, 0, "rules 0"),
+    ("an empty rules file", "", 9, "rules id Missing"),
+    ("a key of CONFIG", "local_as = 65000\n" + RULES, 9, "rules local_as Unknown"),
+    ("an identifier without quotes", ruled('"198.51.100.1"', "198.51.100.1"), 9, "rules line 1 column 6"),
+    ("a path that is no list", ruled("[65001]", "65001"), 9, "rules as_path Kind"),
+    ("an AS number of the path between quotes", ruled("[65001]", '[65001, "65002"]'), 9, "rules as_path 2 Kind"),
+    ("an AS number of 0 in the path", ruled("[65001]", "[0]"), 9, "rules as_path 1 Value"),
+    ("single brackets round rule", SENDER + OCTETS.replace("[[rule]]", "[rule]"), 9, "rules rule Kind"),
+    ("a key of a rule misspelt", ruled("text", "txt"), 9, "rules rule 2 txt Unknown"),
+    ("actions beside a text", RULES + 'actions = ""\n', 9, "rules rule 2 actions Unknown"),
+    ("a family in capitals", ruled('"v4"', '"V4"'), 9, "rules rule 1 family Value"),
+    ("octets with blanks", ruled("0b01", "0b 01"), 9, "rules rule 1 nlri Value"),
+    ("a frame without its length", ruled("0b01", "01"), 9, "rules rule 1 nlri Type at 0"),
+    ("types out of order", ruled("0b0118c00002038106048119", "0b0381060118c00002048119"), 9, "rules rule 1 nlri Order at 3"),
+    ("an action that isn't known", ruled("8006", "0002"), 9, "rules rule 1 actions Value"),
+    ("a shortened address in a text", ruled("2001:db8:0:0:0:0:0:0/32", "2001:db8::/32"), 9, "rules rule 2 text at word 3"),
+    ("words out of order", ruled("proto =17 sport =53", "sport =53 proto =17"), 9, "rules rule 2 text at word 6"),
+    ("a text that stops too early", ruled(" 0:49742400", ""), 9, "rules rule 2 text at word 10"),
+    ("a rule twice", RULES + WORDS, 9, "rules rule 3 Repeated"),
 ]
 
 TAPES = [
@@ -129,6 +161,8 @@ def answers(program, folder):
     for mistake, content, status, line in CONFIGS:
         yield mistake, (status, line + "\n"), answer_of(program, ["check", "config", written(folder, "config", content)])
     config = written(folder, "config", CONFIG)
+    for mistake, content, status, line in RULE_FILES:
+        yield mistake, (status, line + "\n"), answer_of(program, ["check", "rules", config, written(folder, "rules", content)])
     for mistake, content, status, line in TAPES:
         yield mistake, (status, line + "\n"), answer_of(program, ["rules", config, written(folder, "tape", content)])
     for mistake, content, status, lines in CAPTURES:

@@ -5,7 +5,7 @@ use Rattle.std.specs.Prelude.{IfOk, MatchResult}
 use Rattle.fs_base.specs.Files.{one_opening}
 use Rattle.cmd_stages.specs.Refusal.{IsOfFile}
 use Rattle.cmd_enforce.specs.{Judge.{IsOfCapture}, Stamps.{IsUnsaid}, Survey.{capture_verdict}, declared.survey.CaptureSaid.{CaptureSaid}}
-use Rattle.fs_cli.specs.{FileCheck.{ChecksFileSo, FileForm, IsDue, OfCapture, OfConfig, Unsaid, file_openings, file_statuses}, declared.file_check.Said.{Said}}
+use Rattle.fs_cli.specs.{FileCheck.{ChecksFileSo, FileForm, IsDue, OfCapture, OfConfig, OfRules, Unsaid, file_openings, file_statuses}, declared.file_check.Said.{Said}}
 
 -- nothing was said
 pub file_unsaid : (limit : ℕ) (holds : Names) (form : FileForm) (failed other : Type 0) (a : Option (List ℕ)) (refusal : Refusal)
@@ -35,6 +35,20 @@ config_possible (Err Memory) p a = inr (inr (inl refl))
 config_possible (Err Limit) p a = inr (inr (inr (inl refl)))
 config_possible (Err Session) p a = absurd (p.0.2 refl)
 
+pub rules_possible : (result : Result Said Refusal) → IsOfFile (answered result)
+    → IfOk result (λ said. (said.status ≡ 0) ⊎ (said.status ≡ 9))
+    → MatchResult result (λ said. IsOneOf (0 ∷ 1 ∷ 3 ∷ 6 ∷ 7 ∷ 9 ∷ []) said.status) (λ refusal. IsOneOf (0 ∷ 1 ∷ 3 ∷ 6 ∷ 7 ∷ 9 ∷ []) (status_of refusal))
+rules_possible (Ok said) p (inl h) = inl h
+rules_possible (Ok said) p (inr h) = inr (inr (inr (inr (inr (inl h)))))
+rules_possible (Err Outside) p a = inr (inl refl)
+rules_possible (Err Rejected) p a = inr (inr (inl refl))
+rules_possible (Err (Tape reason place)) p a = absurd (p.0 refl)
+rules_possible (Err Capture) p a = absurd (p.1 refl)
+rules_possible (Err Dump) p a = absurd (p.3 refl)
+rules_possible (Err Memory) p a = inr (inr (inr (inl refl)))
+rules_possible (Err Limit) p a = inr (inr (inr (inr (inl refl))))
+rules_possible (Err Session) p a = absurd (p.2 refl)
+
 pub capture_possible : (result : Result CaptureSaid Refusal) → IsOfCapture (answered result) × (answered result ≢ 5)
     → IfOk result (λ said. (said.status ≡ 0) ⊎ (said.status ≡ 5))
     → MatchResult result (λ said. IsOneOf (0 ∷ 1 ∷ 5 ∷ 6 ∷ 7 ∷ []) said.status) (λ refusal. IsOneOf (0 ∷ 1 ∷ 5 ∷ 6 ∷ 7 ∷ []) (status_of refusal))
@@ -52,6 +66,7 @@ capture_possible (Err Session) p a = absurd (p.0.2 refl)
 -- a call on the outside may fail in each
 outside_possible : (form : FileForm) (answer : ℕ) → answer ≡ 1 → IsOneOf (file_statuses form) answer
 outside_possible (OfConfig config) answer h = inr (inl h)
+outside_possible (OfRules config sending) answer h = inr (inl h)
 outside_possible (OfCapture capture) answer h = inr (inl h)
 
 -- what is said is written, or a call on the outside failed
@@ -62,17 +77,14 @@ said_possible form status answer p (inr h) = outside_possible form answer h
 none_else : (statuses : List ℕ) (answer other : ℕ) → IsOneOf statuses answer → answer ≡ other → IsOneOf statuses other
 none_else statuses answer other p h = subst (IsOneOf statuses) h p
 
--- words that ask for no command, and the tape, have statuses of their own
-pub never_other : (form : FileForm) (answer : ℕ) → IsOneOf (file_statuses form) answer → (answer ≢ 2) × (answer ≢ 4)
-never_other form answer p = (λ h. two form (none_else (file_statuses form) answer 2 p h), λ h. four form (none_else (file_statuses form) answer 4 p h))
+-- words that ask for no command have a status of their own
+pub never_two : (form : FileForm) (answer : ℕ) → IsOneOf (file_statuses form) answer → answer ≢ 2
+never_two form answer p = λ h. two form (none_else (file_statuses form) answer 2 p h)
   where
     two : (form : FileForm) → IsOneOf (file_statuses form) 2 → ⊥
     two (OfConfig config) p = search (rules, p)
+    two (OfRules config sending) p = search (rules, p)
     two (OfCapture capture) p = search (rules, p)
-
-    four : (form : FileForm) → IsOneOf (file_statuses form) 4 → ⊥
-    four (OfConfig config) p = search (rules, p)
-    four (OfCapture capture) p = search (rules, p)
 
 -- what was opened where something is said, and it is written or a call on the outside failed
 pub opens_said : (openings : Openings) (before now : Option (List Opened)) (status answer : ℕ) → OpensFront openings before now 0

@@ -1,5 +1,6 @@
 mod Words
 pub mod Checking
+pub mod RulesChecking
 pub mod Counting
 pub mod Surveying
 pub mod Following

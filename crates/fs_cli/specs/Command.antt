@@ -2,7 +2,7 @@
 use Rattle.std.specs.{Prelude.{◌==◌, ◌&&◌, ℕ, List, [], ◌∷◌, Bool, false, not, nat_le, Option, Some, None, if◌then◌else◌, codes, decimal, option_map}, Str.{bytes_eq, Parse.{digits_value}}}
 use Rattle.fs_base.specs.declared.prefix.Family.TheVariants.{V4, V6}
 use Rattle.fs_cli.specs.declared.{command.{Command.{Command, TheVariants.{Enforce as EnforceCommand, Survey as SurveyCommand, Changes as ChangesCommand, Convert as ConvertCommand, Check as CheckCommand, CheckFile as CheckFileCommand, Gen as GenCommand, Announce as AnnounceCommand, Listen as ListenCommand, Pair as PairCommand}}, Subject.{Subject, TheVariants.{Nlri, Text}}}, survey.Survey.{Survey, TheVariants.{Rules, Shadow, Words}}}
-use Rattle.fs_cli.specs.FileCheck.{FileForm, OfCapture, OfConfig, file_shown}
+use Rattle.fs_cli.specs.FileCheck.{FileForm, OfCapture, OfConfig, OfRules, file_shown}
 
 -- a command, with the names of the files that it is to read, or the word or the file that it is to say of and what as, or how
 -- many steps and packets it is to generate, or the files and the address of whom it is to announce to or to receive from,
@@ -36,6 +36,10 @@ abbrev pub file_of : (kind word : List ℕ) → Option FileForm
 file_of kind word =
     if bytes_eq kind (codes "config") then Some (OfConfig word)
     else if bytes_eq kind (codes "capture") then Some (OfCapture word) else None
+
+-- a file of this kind beside a configuration
+abbrev pub files_of : (kind config word : List ℕ) → Option FileForm
+files_of kind config word = if bytes_eq kind (codes "rules") then Some (OfRules config word) else None
 
 -- a file of this kind, or else a word
 abbrev pub check_by : Option FileForm → (subject word : List ℕ) → Option Form
@@ -71,7 +75,8 @@ two_names word first second =
 abbrev pub form_of_three : (word first second third : List ℕ) → Option Form
 form_of_three word first second third =
     if bytes_eq word (codes "enforce") then Some (Enforce first second third)
-    else if bytes_eq word (codes "announce") then Some (Announce first second third) else None
+    else if bytes_eq word (codes "announce") then Some (Announce first second third)
+    else if bytes_eq word (codes "check") then option_map CheckFile (files_of first second third) else None
 
 -- the command of these words, or none
 abbrev pub form_of : List (List ℕ) → Option Form

@@ -3,17 +3,20 @@ use Rattle.std.specs.Prelude.{◌≡◌, ◌≢◌, ◌⊎◌, ℕ, List, [], �
 use Rattle.fs_base.specs.{Happened.{Happened, FilesFailed, SinkFailed, Wrote}, Sink.{Grew}, Files.{one_opening}, declared.config.Config.{Config}}
 use Rattle.fs_conf.specs.{Config.{config_of}, Fault.{IsFirstFault, fault_text}, declared.fault.ConfigFault.{ConfigFault, TheVariants.{Memory as NoMemory}}}
 use Rattle.cmd_enforce.specs.Survey.{capture_verdict}
-use Rattle.fs_cli.specs.declared.file_check.{CheckedFile.{CheckedFile, TheVariants.{Config as ConfigFile, Capture as CaptureFile}}, Said.{Said}}
-use Rattle.cmd_stages.specs.{Load.{Names, Openings, config_alone, fetch}, Refusal.{Answers, Verdict, verdict_with, Stage, Found, Stopped, status_of}, declared.refusal.Refusal.{Refusal, TheVariants.{Memory, Outside}}}
+use Rattle.fs_cli.specs.declared.file_check.{CheckedFile.{CheckedFile, TheVariants.{Config as ConfigFile, Rules as RulesFile, Capture as CaptureFile}}, Said.{Said}}
+use Rattle.fs_cli.specs.RulesCheck.{JudgesRules}
+use Rattle.cmd_stages.specs.{Load.{Names, Openings, config_alone, config_stage, config_then, fetch}, Refusal.{Answers, Verdict, verdict_with, Stage, Found, Stopped, status_of}, declared.refusal.Refusal.{Refusal, TheVariants.{Memory, Outside}}}
 
 -- a file that is checked
 pub data FileForm : Type 0 where
   OfConfig : (config : List ℕ) → FileForm
+  OfRules : (config rules : List ℕ) → FileForm
   OfCapture : (capture : List ℕ) → FileForm
 
 -- what a parsed word for it says
 abbrev pub file_shown : CheckedFile → FileForm
 file_shown (ConfigFile config) = OfConfig config.now
+file_shown (RulesFile config rules) = OfRules config.now rules.now
 file_shown (CaptureFile capture) = OfCapture capture.now
 
 -- how many peers a configuration has; or its first fault
@@ -43,6 +46,8 @@ Due judges (Stopped refusal) verdict = verdict ≡ verdict_with (status_of refus
 -- the status and the text that a file calls for
 abbrev pub IsDue : ℕ → Names → FileForm → Verdict → Type 0
 IsDue limit holds (OfConfig config) verdict = Due JudgesConfig (fetch limit holds config) verdict
+IsDue limit holds (OfRules config rules) verdict =
+    Due (λ accepted. Due (JudgesRules accepted) (fetch limit holds rules)) (config_stage limit holds config) verdict
 IsDue limit holds (OfCapture capture) verdict = verdict ≡ capture_verdict limit holds capture
 
 -- why nothing is said of a file: it calls for that, memory was wanting, or a call on the outside failed
@@ -70,6 +75,7 @@ HasFileStatus limit holds form answer = (verdict : Verdict) × IsDue limit holds
 -- the statuses that may be answered, whatever the outside tells
 abbrev pub file_statuses : FileForm → List ℕ
 file_statuses (OfConfig config) = 0 ∷ 1 ∷ 6 ∷ 7 ∷ 9 ∷ []
+file_statuses (OfRules config rules) = 0 ∷ 1 ∷ 3 ∷ 6 ∷ 7 ∷ 9 ∷ []
 file_statuses (OfCapture capture) = 0 ∷ 1 ∷ 5 ∷ 6 ∷ 7 ∷ []
 
 -- a capture, in slot 2
@@ -78,6 +84,7 @@ capture_alone capture = record { files = one_opening 2 capture; judged = 1; due 
 
 abbrev pub file_openings : FileForm → Openings
 file_openings (OfConfig config) = config_alone config
+file_openings (OfRules config rules) = config_then 1 config rules
 file_openings (OfCapture capture) = capture_alone capture
 
 -- the status and the text that the file calls for were answered and written

@@ -9,6 +9,7 @@ pub use Rattle.fs_desk.specs.Receive
 pub use Rattle.fs_desk.specs.Updates
 pub mod Changes
 pub mod Command
+pub mod RulesCheck
 pub mod FileCheck
 pub mod Program
 pub mod Survey

@@ -1,7 +1,7 @@
 //! What the words of the command line ask for.
 
 ghost use Rattle.std.specs.{Prelude.{◌≡◌, ◌∷◌, [], decimal, map, option_map, string_bytes}, Str.{bytes_eq}};
-ghost use Rattle.fs_cli.specs.{FileCheck.{file_shown}, Command.{check_form, count_of, file_of, form_of, is_name, form_shown, subject_of, survey_of}};
+ghost use Rattle.fs_cli.specs.{FileCheck.{file_shown}, Command.{CheckFile, check_form, count_of, file_of, files_of, form_of, is_name, form_shown, subject_of, survey_of}};
 
 use crate::file_check::CheckedFile;
 use crate::survey::Survey;
@@ -99,6 +99,21 @@ fn parse_three<'w>(
             rules: second,
             address: third,
         }),
+        "check" => parse_files(first, second, third),
+        _ => None,
+    }
+}
+
+/// The check of a file of this kind beside a configuration.
+fn parse_files<'w>(kind: &str, config: &'w str, word: &'w str) -> Option<Command<'w>>
+    ensures { option_map form_shown result
+        ≡ option_map CheckFile (files_of kind.now config.entry.now word.entry.now) }
+{
+    match kind {
+        "rules" => Some(Command::CheckFile(CheckedFile::Rules {
+            config,
+            rules: word,
+        })),
         _ => None,
     }
 }

@@ -6,6 +6,7 @@ ghost use Rattle.cmd_stages.specs.{Load.{OpensFront}, Refusal.{Answers, IsOfFile
 ghost use Rattle.fs_cli.specs.{FileCheck.{ChecksFile, IsDue, JudgesConfig, OfConfig, Unsaid, file_openings, file_shown, file_statuses, said_shown}, Program.{IsOneOf}};
 
 use crate::capture_check::say_of_capture;
+use crate::rules_check::say_of_rules;
 use cmd_stages::{CONFIG_SLOT, Refusal, load_file, status};
 use fs_base::{Failed, Files, Memory, Sink, write_all};
 use fs_conf::{ConfigFault, judge_config, names_the_fault};
@@ -16,6 +17,8 @@ use std::alloc::Global;
 pub enum CheckedFile<'w> {
     /// A configuration.
     Config(&'w str),
+    /// A rules file beside a configuration.
+    Rules { config: &'w str, rules: &'w str },
     /// A capture.
     Capture(&'w str),
 }
@@ -39,7 +42,7 @@ pub(crate) fn check_file<F: Files, S: Sink>(
         → ChecksFile limit (F.holds files.old) (file_shown checked.entry)
         (happened F.Files S.Sink files.old files.new sink.old sink.new) result }
     ensures possible { IsOneOf (file_statuses (file_shown checked.entry)) result }
-    ensures known { (result ≢ 2) × (result ≢ 4) }
+    ensures known { result ≢ 2 }
     ensures quiet { (result ≡ 3) ⊎ (result ≡ 6) → sink.new ≡ sink.old }
     ensures opens { OpensFront (file_openings (file_shown checked.entry))
         (F.opened files.old) (F.opened files.new) result }
@@ -86,6 +89,7 @@ fn say_of_file<F: Files>(
 {
     match checked {
         CheckedFile::Config(config) => say_of_config(alloc, files, config, limit),
+        CheckedFile::Rules { config, rules } => say_of_rules(alloc, files, config, rules, limit),
         CheckedFile::Capture(capture) => say_of_capture(alloc, files, capture, limit),
     }
 }

@@ -8,6 +8,7 @@ mod file_check;
 mod laws;
 mod live;
 mod program;
+mod rules_check;
 mod survey;
 
 pub use cmd_enforce::same_lines;

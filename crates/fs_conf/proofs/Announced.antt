@@ -90,7 +90,7 @@ found_rules (Some value) rules is =
 abbrev IsAs : ℕ → Type 0
 IsAs asn = (asn < 2 ^ 32) × (0 < asn)
 
-found_numbers : (found : Option Data) (numbers : List ℕ) → as_path_in found ≡ Some numbers → AllByRecursion IsAs numbers
+pub found_numbers : (found : Option Data) (numbers : List ℕ) → as_path_in found ≡ Some numbers → AllByRecursion IsAs numbers
 found_numbers found numbers is =
     and_then_some (each_item number_of) (option_and_then as_array found) numbers is λ items array_is items_are.
     each_read IsAs number_of (λ value asn read. as_within (Some value) asn read) items numbers items_are

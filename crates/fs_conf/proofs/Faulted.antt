@@ -8,36 +8,36 @@ use Rattle.fs_conf.specs.{Config.{config_of}, declared.{fault.{ConfigFault.{Conf
 abbrev pub is_clear : {A : Type 0} → Option A → Bool
 is_clear found = not (is_some found)
 
-clear_or : {A : Type 0} (a b : Option A) → is_clear (option_or a b) ≡ (is_clear a && is_clear b)
+pub clear_or : {A : Type 0} (a b : Option A) → is_clear (option_or a b) ≡ (is_clear a && is_clear b)
 clear_or None b = refl
 clear_or (Some x) b = refl
 
-clear_map : {A B : Type 0} (f : A → B) (a : Option A) → is_clear (option_map f a) ≡ is_clear a
+pub clear_map : {A B : Type 0} (f : A → B) (a : Option A) → is_clear (option_map f a) ≡ is_clear a
 clear_map f None = refl
 clear_map f (Some x) = refl
 
-some_map : {A B : Type 0} (f : A → B) (a : Option A) → is_some (option_map f a) ≡ is_some a
+pub some_map : {A B : Type 0} (f : A → B) (a : Option A) → is_some (option_map f a) ≡ is_some a
 some_map f None = refl
 some_map f (Some x) = refl
 
-then_some : {A B : Type 0} (f : A → Option B) (o : Option A) (p : Bool) → ((x : A) → is_some (f x) ≡ p) → is_some (option_and_then f o) ≡ (is_some o && p)
+pub then_some : {A B : Type 0} (f : A → Option B) (o : Option A) (p : Bool) → ((x : A) → is_some (f x) ≡ p) → is_some (option_and_then f o) ≡ (is_some o && p)
 then_some f None p h = refl
 then_some f (Some x) p h = h x
 
 -- at a key
 
-clear_reason : (kind : Kind) (accepted : Bool) (found : Option Data) → is_clear (reason_at kind accepted found) ≡ accepted
+pub clear_reason : (kind : Kind) (accepted : Bool) (found : Option Data) → is_clear (reason_at kind accepted found) ≡ accepted
 clear_reason kind true found = refl
 clear_reason kind false None = refl
 clear_reason kind false (Some value) = refl
 
-clear_judged : {A : Type 0} (key : List ℕ) (kind : Kind) (read : Option Data → Option A) (members : Members)
+pub clear_judged : {A : Type 0} (key : List ℕ) (kind : Kind) (read : Option Data → Option A) (members : Members)
     → is_clear (judged key kind read members) ≡ is_some (read (get_member key members))
 clear_judged key kind read members =
     clear_map (unfit key) (reason_at kind (is_some (read (get_member key members))) (get_member key members))
     ∙ clear_reason kind (is_some (read (get_member key members))) (get_member key members)
 
-clear_other : (names : List (List ℕ)) (members : Members) → is_clear (first_other names members) ≡ keys_among names members
+pub clear_other : (names : List (List ℕ)) (members : Members) → is_clear (first_other names members) ≡ keys_among names members
 clear_other names no_members = refl
 clear_other names (member key value rest) = by (list_any (λ name. bytes_eq name key) names) (clear_other names rest)
   where
@@ -45,17 +45,17 @@ clear_other names (member key value rest) = by (list_any (λ name. bytes_eq name
     by true more = more
     by false more = refl
 
-clear_unknown : (names : List (List ℕ)) (members : Members) → is_clear (unknown names members) ≡ keys_among names members
+pub clear_unknown : (names : List (List ℕ)) (members : Members) → is_clear (unknown names members) ≡ keys_among names members
 clear_unknown names members = clear_map (λ key. unfit key Unknown) (first_other names members) ∙ clear_other names members
 
 -- one test more
-clear_first : (check : Check) (checks : List Check) (members : Members) (a b : Bool) → is_clear (check members) ≡ a → is_clear (first_of checks members) ≡ b
+pub clear_first : (check : Check) (checks : List Check) (members : Members) (a b : Bool) → is_clear (check members) ≡ a → is_clear (first_of checks members) ≡ b
     → is_clear (first_of (check ∷ checks) members) ≡ (a && b)
 clear_first check checks members a b here behind = clear_or (check members) (first_of checks members) ∙ rw (here, behind) refl
 
 -- of a table
 
-if_keys : {A : Type 0} (keys : Bool) (found : Option A) (p : Bool) → is_some found ≡ p → is_some (if keys then found else None) ≡ (keys && p)
+pub if_keys : {A : Type 0} (keys : Bool) (found : Option A) (p : Bool) → is_some found ≡ p → is_some (if keys then found else None) ≡ (keys && p)
 if_keys true found p e = e
 if_keys false found p e = refl
 
@@ -252,11 +252,11 @@ config_clear members =
     (last_true (is_some (peers_in (get_member (codes "peer") members))))))))))
     ∙ sym (config_some members)
 
-none_clear : {A : Type 0} (found : Option A) → (found ≡ None) ↔ (is_clear found ≡ true)
+pub none_clear : {A : Type 0} (found : Option A) → (found ≡ None) ↔ (is_clear found ≡ true)
 none_clear None = (λ e. refl, λ e. refl)
 none_clear (Some x) = (λ e. absurd cc, λ e. absurd cc)
 
-no_value : {A : Type 0} (o : Option A) → is_some o ≡ false → o ≡ None
+pub no_value : {A : Type 0} (o : Option A) → is_some o ≡ false → o ≡ None
 no_value None e = refl
 no_value (Some x) e = absurd cc
 

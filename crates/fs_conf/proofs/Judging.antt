@@ -156,7 +156,7 @@ six_in_turn None b c d e f = five_in_turn b c d e f
 
 -- the count of the peers
 
-count_is : (items : List Value) → item_count (items_view items) ≡ length items
+pub count_is : (items : List Value) → item_count (items_view items) ≡ length items
 count_is [] = refl
 count_is (value ∷ items) = ap suc (count_is items)
 

@@ -9,6 +9,9 @@ pub mod Found
 pub mod Accepted
 mod Documents
 mod Faulted
+mod RulesFaulted
+mod RulesJudging
+mod RulesTelling
 mod Judging
 mod Sought
 mod CanonicalFrame

@@ -5,7 +5,7 @@ use Rattle.std.specs.{Prelude.{ℕ, suc, ◌+◌, ◌≡◌, ◌≤◌, ◌==◌
 use Rattle.hex.specs.Hex.{encode_lower}
 use Rattle.toml.specs.Data.{Data, as_array, as_bool, as_integer, as_str, as_table, Items, no_items, item, Members, no_members, member, get_member}
 use Rattle.fs_conf.specs.{Address.{address_of}, Config.{as_number, config_keys, hold_time_in, identifier, limit_in, peer_keys, written}, Document.{document_of}, Fields.{flag_or, number_in}}
-use Rattle.fs_conf.specs.declared.{fault.{ConfigFault.{ConfigFault, TheVariants.{Key, Memory, Text as NoDocument}}, KeyReason.{KeyReason, TheVariants.{Kind as OtherKind, Missing, Repeated, Unknown, Value}}}, faults.{Kind.{Kind, TheVariants.{Array, Boolean, Integer, Text}}, Spot.{Spot}, Unfit.{Unfit}}}
+use Rattle.fs_conf.specs.declared.{fault.{ConfigFault.{ConfigFault, TheVariants.{Key, Memory, Text as NoDocument}}, Unread.{Unread, TheVariants.{At, Memory as NoneLeft}}, KeyReason.{KeyReason, TheVariants.{Kind as OtherKind, Missing, Repeated, Unknown, Value}}}, faults.{Kind.{Kind, TheVariants.{Array, Boolean, Integer, Text}}, Spot.{Spot}, Unfit.{Unfit}}}
 
 -- where a document breaks off
 
@@ -33,6 +33,15 @@ pub record IsNoDocument (octets : List ℕ) (line column : ℕ) : Type 0 where
   pub utf8 : is_utf8 octets ≡ false → place ≡ utf8_valid_len octets
   pub position_is : position_of (take place octets) ≡ (line, column)
   pub none : document_of octets ≡ None
+
+-- why octets aren't read as a document; want of memory says nothing of them
+abbrev pub IsUnread : List ℕ → Unread → Type 0
+IsUnread octets (At line column) = IsNoDocument octets line column
+IsUnread octets NoneLeft = ⊤
+
+abbrev pub unread_config : Unread → ConfigFault
+unread_config (At line column) = NoDocument line column
+unread_config NoneLeft = Memory
 
 -- what is wrong at a key
 

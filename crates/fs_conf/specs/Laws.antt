@@ -3,8 +3,8 @@ use Rattle.std.specs.{Prelude.{◌≡◌, ◌≢◌, ◌↔◌, ℕ, ◌^◌, �
 use Rattle.fs_base.specs.declared.config.{Config.{Config}, Peer.{Peer}}
 use Rattle.fs_speaker.specs.{declared.Sending.{Sending}, Laws.{AreSendable, IsSent}, Numbers.{HasOwnNumbers, IsFourOctet}, Sending.{is_short, sender_of}, Transition.{terms_of}}
 use Rattle.toml.specs.Data.{Members}
-use Rattle.fs_conf.specs.{Config.{config_keys, config_of, config_of_document}, Fault.{IsFirstFault, config_fault, first_other, own_fault, unfit}, Rules.{rules_of}}
-use Rattle.fs_conf.specs.declared.fault.{ConfigFault.{ConfigFault, TheVariants.{Memory as NoMemory}}, KeyReason.TheVariants.{Unknown}}
+use Rattle.fs_conf.specs.{Config.{config_keys, config_of, config_of_document}, Fault.{IsFirstFault, config_fault, first_other, own_fault, unfit}, RuleFault.{IsFirstRulesFault, rules_fault}, Rules.{file_keys, rules_of, sending_of_document}}
+use Rattle.fs_conf.specs.declared.fault.{ConfigFault.{ConfigFault, TheVariants.{Memory as NoMemory}}, KeyReason.TheVariants.{Unknown}, RulesFault.{RulesFault, TheVariants.{Memory as NoRulesMemory}}}
 
 -- a peer's number has two octets, its AS number four, and neither is 0
 pub record HasPeerNumbers (peer : Peer) : Type 0 where
@@ -39,3 +39,12 @@ pub record NamesTheFault : Type 0 where
   pub refused : (octets : List ℕ) (fault : ConfigFault) → IsFirstFault octets fault → fault ≢ NoMemory → config_of octets ≡ None
   pub other_first : (members : Members) (key : List ℕ) → first_other config_keys members ≡ Some key
       → config_fault members ≡ Some (own_fault (unfit key Unknown))
+
+-- Likewise of a rules file beside a configuration.
+pub record NamesTheRulesFault : Type 0 where
+  pub exact : (config : Config) (members : Members)
+      → (rules_fault config members ≡ None) ↔ (is_some (sending_of_document config members) ≡ true)
+  pub refused : (config : Config) (octets : List ℕ) (fault : RulesFault)
+      → IsFirstRulesFault config octets fault → fault ≢ NoRulesMemory → rules_of config octets ≡ None
+  pub other_first : (config : Config) (members : Members) (key : List ℕ) → first_other file_keys members ≡ Some key
+      → rules_fault config members ≡ Some (own_fault (unfit key Unknown))

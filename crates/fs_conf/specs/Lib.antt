@@ -7,4 +7,5 @@ pub mod Sent
 pub mod WordedLaw
 pub mod Rules
 pub mod Fault
+pub mod RuleFault
 pub mod Laws

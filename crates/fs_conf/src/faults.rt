@@ -3,12 +3,12 @@
 ghost use Rattle.std.specs.{BTreeMap.{keys}, Prelude.{◌≡◌, ◌==◌, ◌≤◌, ◌<◌, ◌^◌, [], codes, find, map, nat_le, not, ◌&&◌, option_map, string_bytes, is_some, take, length, Some, None, IfOk, IfErr}, List.{list_all, list_any}, Option.{option_copied}};
 ghost use Rattle.toml.specs.{Data.{as_table, get_member}, View.{items_view, table_view, view}};
 ghost use Rattle.fs_conf.specs.{Address.{address_of}, Config.{config_of, config_of_document, written}, Document.{document_of}, Fields.{is_named}};
-ghost use Rattle.fs_conf.specs.declared.fault.ConfigFault.TheVariants.{Memory as NoMemory, Text as NoDocument};
-ghost use Rattle.fs_conf.specs.Fault.{IsFirstFault, config_fault, document_checks, each_peer, first_again, advance, first_of, first_other, is_bare, is_bare_octet, is_inner, is_kind, is_plain_octet, items_fault, key_text, keys_of_peer, number_of_peer, numbers_of_peers, own_fault, peer_checks, peer_fault, peers_fault, place_text, position_of, reason_at, repeated, spot_shown, unfit, unfit_shown, unknown};
+ghost use Rattle.fs_conf.specs.declared.fault.{ConfigFault.TheVariants.{Memory as NoMemory}, Unread.TheVariants.{At}};
+ghost use Rattle.fs_conf.specs.Fault.{IsFirstFault, IsUnread, config_fault, document_checks, each_peer, first_again, advance, first_of, first_other, is_bare, is_bare_octet, is_inner, is_kind, is_plain_octet, items_fault, key_text, keys_of_peer, number_of_peer, numbers_of_peers, own_fault, peer_checks, peer_fault, peers_fault, place_text, position_of, reason_at, repeated, spot_shown, unfit, unfit_shown, unknown};
 
 use crate::address::read_address;
 use crate::config::{ConfFault, PEER_LIMIT, config_from, hold_time_at, identifier_at, limit_at};
-use crate::fault::{ConfigFault, KeyReason};
+use crate::fault::{ConfigFault, KeyReason, Unread};
 use crate::fields::{array_at, flag_at, number_at, text_at, value_at};
 use crate::laws::names_the_fault;
 use fs_base::{Config, Memory};
@@ -18,7 +18,7 @@ use toml::{Table, Value};
 
 /// Of what kind the value at a key has to be.
 #[derive(Clone, Copy, Debug, PartialEq, Eq, Drop)]
-enum Kind {
+pub(crate) enum Kind {
     Integer,
     Boolean,
     Text,
@@ -27,19 +27,19 @@ enum Kind {
 
 /// A key of a table, and what is wrong with it.
 #[derive(Clone, Copy, Drop)]
-struct Unfit<'t> {
-    key: &'t str,
-    reason: KeyReason,
+pub(crate) struct Unfit<'t> {
+    pub(crate) key: &'t str,
+    pub(crate) reason: KeyReason,
 }
 
 /// Where a fault stands: at a key of the document, at an item of the array there, counted from 1, or at a key of this
 /// item.
 #[derive(Clone, Copy, Drop)]
-struct Spot<'t> {
-    key: &'t str,
-    item: Option<usize>,
-    inner: Option<&'t str>,
-    reason: KeyReason,
+pub(crate) struct Spot<'t> {
+    pub(crate) key: &'t str,
+    pub(crate) item: Option<usize>,
+    pub(crate) inner: Option<&'t str>,
+    pub(crate) reason: KeyReason,
 }
 
 /// Whether an octet is inside a character of UTF-8 (RFC 3629 section 3).
@@ -75,19 +75,19 @@ fn position_of(before: &[u8]) -> (usize, usize)
 }
 
 /// The fault of octets that are no document, where reading ended behind so many of them.
-fn broken_at(octets: &[u8], place: usize) -> ConfigFault
+fn broken_at(octets: &[u8], place: usize) -> Unread
     requires { place ≤ length octets.now }
     ensures within { place ≤ length octets.now }
-    ensures fault { result ≡ NoDocument (position_of (take place octets.now)).0 (position_of (take place octets.now)).1 }
+    ensures fault { result ≡ At (position_of (take place octets.now)).0 (position_of (take place octets.now)).1 }
 {
     let (line, column) = position_of(&octets[..place]);
-    ConfigFault::Text { line, column }
+    Unread::At { line, column }
 }
 
 /// The table of a document in UTF-8.
-fn read_table(alloc: Global, octets: &[u8]) -> Result<Table, ConfigFault>
+pub(crate) fn read_table(alloc: Global, octets: &[u8]) -> Result<Table, Unread>
     ensures ok { IfOk result (λ table. document_of octets.now ≡ Some (table_view table)) }
-    ensures fault { IfErr result (IsFirstFault octets.now) }
+    ensures unread { IfErr result (IsUnread octets.now) }
 {
     let text = match str::from_utf8(octets) {
         Ok(text) => text,
@@ -97,7 +97,7 @@ fn read_table(alloc: Global, octets: &[u8]) -> Result<Table, ConfigFault>
         Ok(table) => Ok(table),
         Err(error) => match error.span() {
             Some(span) => Err(broken_at(octets, span.start)),
-            None => Err(ConfigFault::Memory),
+            None => Err(Unread::Memory),
         },
     }
 }
@@ -115,7 +115,7 @@ fn is_kind(kind: Kind, value: &Value) -> bool
 }
 
 /// Why what stands at a key isn't accepted.
-fn reason_at(kind: Kind, accepted: bool, found: Option<&Value>) -> Option<KeyReason>
+pub(crate) fn reason_at(kind: Kind, accepted: bool, found: Option<&Value>) -> Option<KeyReason>
     ensures { result ≡ reason_at kind accepted (option_map (λ value. view value.now) found.entry) }
 {
     if accepted {
@@ -129,7 +129,12 @@ fn reason_at(kind: Kind, accepted: bool, found: Option<&Value>) -> Option<KeyRea
 }
 
 /// What is wrong at a key, where what stands there isn't accepted.
-fn judged<'k>(table: &Table, key: &'k str, kind: Kind, accepted: bool) -> Option<Unfit<'k>>
+pub(crate) fn judged<'k>(
+    table: &Table,
+    key: &'k str,
+    kind: Kind,
+    accepted: bool,
+) -> Option<Unfit<'k>>
     ensures { option_map unfit_shown result
         ≡ option_map (unfit key.now) (reason_at kind accepted (get_member key.now (table_view table.now))) }
 {
@@ -155,7 +160,7 @@ fn first_other<'t>(table: &'t Table, names: &[&str]) -> Option<&'t str>
 }
 
 /// What is wrong where the table has another key than these.
-fn unknown<'t>(table: &'t Table, names: &[&str]) -> Option<Unfit<'t>>
+pub(crate) fn unknown<'t>(table: &'t Table, names: &[&str]) -> Option<Unfit<'t>>
     ensures { option_map unfit_shown result ≡ unknown (map (λ name. name.now) names.now) (table_view table.now) }
 {
     let key = first_other(table, names)?;
@@ -216,7 +221,7 @@ fn peer_unfit(table: &Table) -> Option<Unfit<'_>>
 }
 
 /// A fault at a key of the document.
-fn own_fault(found: Unfit<'_>) -> Spot<'_>
+pub(crate) fn own_fault(found: Unfit<'_>) -> Spot<'_>
     ensures { spot_shown result ≡ own_fault (unfit_shown found.entry) }
 {
     Spot {
@@ -398,7 +403,7 @@ fn key_text(alloc: Global, key: &str) -> Result<String, Memory>
 }
 
 /// The place of a fault as a user writes it.
-fn place_text(alloc: Global, spot: &Spot<'_>) -> Result<String, Memory>
+pub(crate) fn place_text(alloc: Global, spot: &Spot<'_>) -> Result<String, Memory>
     ensures { IfOk result (λ text. string_bytes text ≡ place_text (spot_shown spot.now)) }
 {
     let mut text = key_text(alloc, spot.key)?;

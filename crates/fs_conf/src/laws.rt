@@ -1,6 +1,6 @@
 //! Laws of the definitions.
 
-ghost use Rattle.fs_conf.specs.Laws.{AcceptsNumbers, AcceptsRules, NamesTheFault};
+ghost use Rattle.fs_conf.specs.Laws.{AcceptsNumbers, AcceptsRules, NamesTheFault, NamesTheRulesFault};
 
 /// The AS numbers of a configuration that a file writes, its identifier and its peers' numbers aren't 0 and fit the
 /// octets that messages and tapes have for them; its hold time is 0, or 3 to 65535 seconds (RFC 4271, section 4.2).
@@ -19,4 +19,10 @@ pub fn accepts_rules()
 /// configuration, and a key that a document doesn't have is named before one that it lacks.
 pub fn names_the_fault()
     ensures { NamesTheFault }
+{}
+
+/// A document has a fault as a rules file beside a configuration exactly where it isn't accepted, octets that have a
+/// fault are no rules file, and a key that a document doesn't have is named before one that it lacks.
+pub fn names_the_rules_fault()
+    ensures { NamesTheRulesFault }
 {}

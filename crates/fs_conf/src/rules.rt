@@ -2,7 +2,7 @@
 
 ghost use Rattle.std.specs.Prelude.{◌≡◌, Some, None, IfOk, IsErrOf};
 ghost use Rattle.toml.specs.{Data.{get_member}, View.{view, table_view}};
-ghost use Rattle.fs_conf.specs.{Address.{ipv4_of}, Config.{written}, Rules.{as_path_in, are_single, rules_in, sendable, sending_of_members, sending_of_document, rules_of, Sees}};
+ghost use Rattle.fs_conf.specs.{Address.{ipv4_of}, Config.{written}, Rules.{as_path_in, are_single, number_of, rules_in, sendable, sending_of_members, sending_of_document, rules_of, Sees}};
 
 use crate::address::read_ipv4;
 use crate::array::{OfItem, each_item};
@@ -22,17 +22,24 @@ impl OfItem for u32 {
     ghost says = { number_of };
 
     fn of_item(_alloc: Global, item: &Value) -> Result<u32, ConfFault> {
-        match item {
-            Value::Integer(n) => match u32::try_from(*n) {
-                Ok(n) if 1 <= n => Ok(n),
-                _ => Err(ConfFault::Refused),
-            },
-            _ => Err(ConfFault::Refused),
-        }
+        number_of(item).ok_or(ConfFault::Refused)
     }
 }
 
-fn as_path_at(alloc: Global, table: &Table, key: &str) -> Result<Numbers, ConfFault>
+/// The AS number that an item is.
+pub(crate) fn number_of(item: &Value) -> Option<u32>
+    ensures { result ≡ number_of (view item.now) }
+{
+    match item {
+        Value::Integer(n) => match u32::try_from(*n) {
+            Ok(n) if 1 <= n => Some(n),
+            _ => None,
+        },
+        _ => None,
+    }
+}
+
+pub(crate) fn as_path_at(alloc: Global, table: &Table, key: &str) -> Result<Numbers, ConfFault>
     ensures ok { IfOk result (λ numbers. as_path_in (get_member key.now (table_view table.now)) ≡ Some numbers) }
     ensures refused { IsErrOf result ConfFault.Refused
         → as_path_in (get_member key.now (table_view table.now)) ≡ None }
@@ -57,7 +64,7 @@ fn are_single(alloc: Global, rules: &[Sent]) -> Result<bool, Memory>
 }
 
 /// Notes a rule, and answers whether it is new.
-fn see(seen: &mut BTreeSet<Ranked>, sent: &Sent) -> Result<bool, Memory>
+pub(crate) fn see(seen: &mut BTreeSet<Ranked>, sent: &Sent) -> Result<bool, Memory>
     ensures { IfOk result (λ new. Sees seen.old seen.new sent.now new) }
 {
     let rule = sent.rule.copy()?;
@@ -90,7 +97,7 @@ fn rules_at(alloc: Global, table: &Table, key: &str) -> Result<SentList, ConfFau
     }
 }
 
-fn address_at(table: &Table, key: &str) -> Option<u32>
+pub(crate) fn address_at(table: &Table, key: &str) -> Option<u32>
     ensures { result ≡ written ipv4_of (get_member key.now (table_view table.now)) }
 {
     read_ipv4(text_at(table, key)?)
@@ -124,7 +131,11 @@ fn sending_in(alloc: Global, table: &Table, config: &Config) -> Result<Sending, 
     sendable(alloc, config, sending)
 }
 
-fn sending_from(alloc: Global, table: &Table, config: &Config) -> Result<Sending, ConfFault>
+pub(crate) fn sending_from(
+    alloc: Global,
+    table: &Table,
+    config: &Config,
+) -> Result<Sending, ConfFault>
     ensures ok { IfOk result (λ sending. sending_of_document config.now (table_view table.now) ≡ Some sending) }
     ensures refused { IsErrOf result ConfFault.Refused
         → sending_of_document config.now (table_view table.now) ≡ None }

@@ -28,14 +28,14 @@ fn family_of(word: &str) -> Option<Family>
     }
 }
 
-fn family_at(table: &Table, key: &str) -> Option<Family>
+pub(crate) fn family_at(table: &Table, key: &str) -> Option<Family>
     ensures { result ≡ written family_of (get_member key.now (table_view table.now)) }
 {
     family_of(text_at(table, key)?)
 }
 
 /// The octets that a text writes in hexadecimal, in either case.
-fn octets_of(alloc: Global, text: &str) -> Result<Vec<u8>, ConfFault>
+pub(crate) fn octets_of(alloc: Global, text: &str) -> Result<Vec<u8>, ConfFault>
     ensures ok { IfOk result (λ octets. octets_of text.now ≡ Some octets.items) }
     ensures refused { IsErrOf result ConfFault.Refused → octets_of text.now ≡ None }
 {
@@ -69,7 +69,12 @@ fn rule_written(alloc: Global, family: Family, text: &str) -> Result<Rule, ConfF
     rule_of(alloc, family, &octets)
 }
 
-fn rule_at(alloc: Global, family: Family, table: &Table, key: &str) -> Result<Rule, ConfFault>
+pub(crate) fn rule_at(
+    alloc: Global,
+    family: Family,
+    table: &Table,
+    key: &str,
+) -> Result<Rule, ConfFault>
     ensures ok { IfOk result (λ rule.
         written (rule_written family) (get_member key.now (table_view table.now)) ≡ Some rule) }
     ensures refused { IsErrOf result ConfFault.Refused
@@ -127,7 +132,7 @@ fn actions_of(alloc: Global, value: &Value) -> Result<Actions, ConfFault>
     actions_written(alloc, text)
 }
 
-fn actions_at(alloc: Global, table: &Table, key: &str) -> Result<Actions, ConfFault>
+pub(crate) fn actions_at(alloc: Global, table: &Table, key: &str) -> Result<Actions, ConfFault>
     ensures ok { IfOk result (λ actions. actions_in (get_member key.now (table_view table.now)) ≡ Some actions) }
     ensures refused { IsErrOf result ConfFault.Refused
         → actions_in (get_member key.now (table_view table.now)) ≡ None }
@@ -151,7 +156,7 @@ fn sent_in(alloc: Global, table: &Table) -> Result<Sent, ConfFault>
 }
 
 /// The rule whose text stands at this key.
-fn worded_at(alloc: Global, table: &Table, key: &str) -> Result<Sent, ConfFault>
+pub(crate) fn worded_at(alloc: Global, table: &Table, key: &str) -> Result<Sent, ConfFault>
     ensures ok { IfOk result (λ sent. written sent_of_text (get_member key.now (table_view table.now)) ≡ Some sent) }
     ensures refused { IsErrOf result ConfFault.Refused
         → written sent_of_text (get_member key.now (table_view table.now)) ≡ None }

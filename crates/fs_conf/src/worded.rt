@@ -1,10 +1,11 @@
 //! A rule of the rules file in words.
 
 ghost use Rattle.std.specs.Prelude.{◌≡◌, Some, None, IfOk, IsErrOf};
-ghost use Rattle.fs_conf.specs.{Sent.{sent_of_text}, WordedLaw.{SaysItsOwn}};
+ghost use Rattle.fs_conf.specs.{Sent.{sent_of_text}, WordedLaw.{SaysItsOwn, SaysWhy}};
 
 use crate::config::ConfFault;
 use fs_attrs::rules_are_the_outcome;
+use fs_base::Memory;
 use fs_speaker::Sent;
 use fs_text::{TextFault, each_text_has_one_pair, read};
 use std::alloc::Global;
@@ -29,5 +30,18 @@ pub(crate) fn sent_of_text(alloc: Global, text: &str) -> Result<Sent, ConfFault>
         Err(TextFault::Memory) => Err(ConfFault::Memory),
         Err(TextFault::Bad { .. }) => Err(ConfFault::Refused),
         Err(TextFault::TooLong) => Err(ConfFault::Refused),
+    }
+}
+
+/// Why a text is none; nothing where it is one.
+pub(crate) fn text_fault(alloc: Global, text: &str) -> Result<Option<TextFault>, Memory>
+    ensures { IfOk result (SaysWhy text.now) }
+{
+    says_its_own();
+    match read(alloc, text) {
+        Ok(_) => Ok(None),
+        Err(TextFault::Memory) => Err(Memory),
+        Err(TextFault::Bad { word }) => Ok(Some(TextFault::Bad { word })),
+        Err(TextFault::TooLong) => Ok(Some(TextFault::TooLong)),
     }
 }

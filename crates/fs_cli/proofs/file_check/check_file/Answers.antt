@@ -1,4 +1,4 @@
-use Rattle.fs_cli.proofs.{Words.{◌⊎◌, ℕ, inl, inr, subst, sym, IsOneOf, Rose}, Checking.{file_said, file_unsaid, never_other, never_quiet, opens_said, said_possible}}
+use Rattle.fs_cli.proofs.{Words.{◌⊎◌, ℕ, inl, inr, subst, sym, IsOneOf, Rose}, Checking.{file_said, file_unsaid, never_two, never_quiet, opens_said, said_possible}}
 use Rattle.fs_cli.specs.FileCheck.{ChecksFileSo, file_openings, file_shown, file_statuses, said_shown}
 use Rattle.fs_cli.proofs.file_check.check_file.Goals as goal
 
@@ -29,12 +29,12 @@ returns-in-Err-clause-possible g c = subst (IsOneOf (file_statuses (file_shown c
 
 pub returns-in-Ok-clause-known : goal.returns-in-Ok-clause-known
 returns-in-Ok-clause-known g c =
-    never_other (file_shown c.args.checked) c.write_said.result
+    never_two (file_shown c.args.checked) c.write_said.result
     (said_possible (file_shown c.args.checked) c.in-Ok.said.status c.write_said.result c.in-Ok.ensures.possible c.write_said.ensures.late)
 
 pub returns-in-Err-clause-known : goal.returns-in-Err-clause-known
 returns-in-Err-clause-known g c =
-    never_other (file_shown c.args.checked) c.status.result
+    never_two (file_shown c.args.checked) c.status.result
     (subst (IsOneOf (file_statuses (file_shown c.args.checked))) (sym c.status.ensures) c.in-Err.ensures.possible)
 
 pub returns-in-Ok-clause-quiet : goal.returns-in-Ok-clause-quiet

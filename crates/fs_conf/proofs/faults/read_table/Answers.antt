@@ -1,10 +1,10 @@
 use Rattle.fs_conf.proofs.{Words.{◌≡◌, true, false, refl, sym, subst, ◌∙◌, table_view}, Documents.{never_utf8, not_utf8, of_document, unparsed}}
-use Rattle.fs_conf.specs.Fault.{IsFirstFault}
+use Rattle.fs_conf.specs.Fault.{IsUnread}
 use Rattle.fs_conf.proofs.faults.read_table.Goals as goal
 
-pub returns-in-Err-clause-fault : goal.returns-in-Err-clause-fault
-returns-in-Err-clause-fault c =
-    subst (IsFirstFault c.args.octets.now) (sym c.broken_at.ensures.fault) (record {
+pub returns-in-Err-clause-unread : goal.returns-in-Err-clause-unread
+returns-in-Err-clause-unread c =
+    subst (IsUnread c.args.octets.now) (sym c.broken_at.ensures.fault) (record {
       place = c.valid_up_to.result;
       within = c.broken_at.ensures.within;
       utf8 = λ no_text. c.valid_up_to.ensures ∙ c.in-Err.ensures.valid_len;
@@ -17,10 +17,10 @@ returns-in-Ok-table_from_str-clause-ok c =
     let read = c.in-Ok.ensures.cases in
     of_document c.args.octets.now c.in-Ok.text.now (table_view c.in-Ok-table_from_str.table) read.0 read.1 c.in-Ok-table_from_str.ensures.ok
 
-pub returns-in-Some-clause-fault : goal.returns-in-Some-clause-fault
-returns-in-Some-clause-fault c =
+pub returns-in-Some-clause-unread : goal.returns-in-Some-clause-unread
+returns-in-Some-clause-unread c =
     let read = c.in-Ok.ensures.cases in
-    subst (IsFirstFault c.args.octets.now) (sym c.broken_at-in-Some.ensures.fault) (record {
+    subst (IsUnread c.args.octets.now) (sym c.broken_at-in-Some.ensures.fault) (record {
       place = c.in-Some.span.start;
       within = c.broken_at-in-Some.ensures.within;
       utf8 = λ no_text. absurd (never_utf8 c.args.octets.now read.1 no_text);

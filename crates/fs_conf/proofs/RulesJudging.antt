@@ -1,0 +1,158 @@
+-- Loops that look for the first fault of rules.
+use Rattle.fs_conf.proofs.{Words.{◌≡◌, ℕ, suc, ◌+◌, ◌<◌, ◌≤◌, Bool, true, false, not, ◌||◌, if◌then◌else◌, List, [], ◌∷◌, length, drop, get_or, Option, Some, None, refl, sym, ap, ◌∙◌, arith, zero, drop_more, is_eq, rule_cmp, Ruled, Sent, Data, Items, item, Value, view, items_view, items_view-drop, nat_le, codes, Config, is_some, option_map, has_seen, Bor, nat_lt, ltb-true}, Judging.{count_is}}
+use Rattle.std.{specs.{BTreeSet.{BTreeSet}, Option.{option_or}, Prelude.{IfSome}}, proofs.Common.{ltb-false}}
+use Rattle.fs_order.specs.declared.ranked.Ranked.{Ranked}
+use Rattle.fs_conf.specs.{Fault.{KeyFault, own_fault, reason_at, unfit}, RuleFault.{each_fault, first_but, first_same, item_at, listed, listed_fault, number_fault, numbers_fault}, declared.{fault.KeyReason.TheVariants.{Value as NoValue}, faults.Kind.TheVariants.{Array}}}
+
+-- an item without a fault, and one with a fault
+
+faults_left : (judge : ℕ → Data → Option KeyFault) (items : List Value) (i : ℕ) (value : Value) → i < length items → value ≡ get_or items i value
+    → each_fault judge (suc i) (items_view (drop i items)) ≡ option_or (judge (suc i) (view value)) (each_fault judge (suc (suc i)) (items_view (drop (i + 1) items)))
+faults_left judge items i value inside is =
+    ap (each_fault judge (suc i)) (items_view-drop items i value inside ∙ ap (λ v. item (view v) (items_view (drop (i + 1) items))) (sym is))
+
+pub fault_next : (judge : ℕ → Data → Option KeyFault) (items : List Value) (i place : ℕ) (value : Value) → i < length items → value ≡ get_or items i value → place ≡ suc i
+    → None ≡ judge place (view value) → each_fault judge (suc i) (items_view (drop i items)) ≡ each_fault judge (suc place) (items_view (drop (i + 1) items))
+fault_next judge items i place value inside is same none =
+    let here : judge (suc i) (view value) ≡ None = ap (λ k. judge k (view value)) (sym same) ∙ sym none in
+    faults_left judge items i value inside is
+    ∙ ap (λ (found : Option KeyFault). option_or found (each_fault judge (suc (suc i)) (items_view (drop (i + 1) items)))) here
+    ∙ ap (λ k. each_fault judge (suc k) (items_view (drop (i + 1) items))) (sym same)
+
+pub fault_found : (judge : ℕ → Data → Option KeyFault) (items : List Value) (i place : ℕ) (value : Value) (fault : KeyFault) → i < length items → value ≡ get_or items i value → place ≡ suc i
+    → Some fault ≡ judge place (view value) → each_fault judge (suc i) (items_view (drop i items)) ≡ Some fault
+fault_found judge items i place value fault inside is same some =
+    let here : judge (suc i) (view value) ≡ Some fault = ap (λ k. judge k (view value)) (sym same) ∙ sym some in
+    faults_left judge items i value inside is ∙ ap (λ (found : Option KeyFault). option_or found (each_fault judge (suc (suc i)) (items_view (drop (i + 1) items)))) here
+
+pub faults_end : (judge : ℕ → Data → Option KeyFault) (items : List Value) (i : ℕ) → length items ≤ i → each_fault judge (suc i) (items_view (drop i items)) ≡ None
+faults_end judge items i past = ap (λ (rest : List Value). each_fault judge (suc i) (items_view rest)) (empty i items past)
+  where
+    empty : (i : ℕ) (values : List Value) → length values ≤ i → drop i values ≡ []
+    empty zero [] h = refl
+    empty (suc i) [] h = refl
+    empty zero (v ∷ values) h = absurd (omega (arith, h))
+    empty (suc i) (v ∷ values) h = empty i values (omega (arith, h))
+
+-- an item by its place
+
+pub item_is : (items : List Value) (i : ℕ) (value : Value) → i < length items → value ≡ get_or items i value → item_at i (items_view items) ≡ Some (view value)
+item_is [] i value inside is = absurd (omega (arith, inside))
+item_is (v ∷ items) zero value inside is = ap (λ (x : Value). Some (view x)) (sym is)
+item_is (v ∷ items) (suc i) value inside is = item_is items i value (omega (arith, inside)) is
+
+pub item_past : (items : List Value) (i : ℕ) → length items ≤ i → item_at i (items_view items) ≡ None
+item_past [] zero past = refl
+item_past [] (suc i) past = refl
+item_past (v ∷ items) zero past = absurd (omega (arith, past))
+item_past (v ∷ items) (suc i) past = item_past items i (omega (arith, past))
+
+pub item_of : (items : List Value) (place : ℕ) (found : Option (Bor Value)) → is_some found ≡ nat_lt place (length items) → IfSome found (λ x. x.now ≡ get_or items place x.now)
+    → option_map (λ value. view value.now) found ≡ item_at place (items_view items)
+item_of items place None e h = sym (item_past items place (ltb-false place (length items) (sym e)))
+item_of items place (Some x) e h = sym (item_is items place x.now (ltb-true place (length items) (sym e)) h)
+
+-- rules of which one is an earlier one too
+
+pub nothing_seen : (seen : BTreeSet Ranked) → seen.keys ≡ [] → (rule : Ruled) → has_seen seen rule ≡ false
+nothing_seen seen e rule = rw e refl
+
+pub same_has : (has other : Ruled → Bool) → ((rule : Ruled) → has rule ≡ other rule) → (place : ℕ) (rules : List Sent) → first_same has place rules ≡ first_same other place rules
+same_has has other h place [] = refl
+same_has has other h place (sent ∷ rules) =
+    ap (λ b. if b then Some place else first_same (λ rule. is_eq (rule_cmp sent.rule rule) || has rule) (suc place) rules) (h sent.rule)
+    ∙ ap (λ (rest : Option ℕ). if other sent.rule then Some place else rest)
+    (same_has (λ rule. is_eq (rule_cmp sent.rule rule) || has rule) (λ rule. is_eq (rule_cmp sent.rule rule) || other rule) (λ rule. ap (λ b. is_eq (rule_cmp sent.rule rule) || b) (h rule)) (suc place) rules)
+
+flipped : (b new : Bool) → new ≡ not b → b ≡ not new
+flipped true new e = ap not (sym e)
+flipped false new e = ap not (sym e)
+
+pub same_next : (has now : Ruled → Bool) (rules : List Sent) (i place : ℕ) (sent : Sent) (new : Bool) → i < length rules → sent ≡ get_or rules i sent → place ≡ suc i
+    → new ≡ not (has sent.rule) → true ≡ new → ((rule : Ruled) → now rule ≡ (is_eq (rule_cmp sent.rule rule) || has rule))
+    → first_same has (suc i) (drop i rules) ≡ first_same now (suc place) (drop (i + 1) rules)
+same_next has now rules i place sent new inside is same fresh is_new seen =
+    let behind : List Sent = drop (i + 1) rules in
+    let old : has sent.rule ≡ false = flipped (has sent.rule) new fresh ∙ ap not (sym is_new) in
+    ap (first_same has (suc i)) (drop_more rules i sent inside ∙ ap (λ (s : Sent). s ∷ behind) (sym is))
+    ∙ ap (λ b. if b then Some (suc i) else first_same (λ rule. is_eq (rule_cmp sent.rule rule) || has rule) (suc (suc i)) behind) old
+    ∙ same_has (λ rule. is_eq (rule_cmp sent.rule rule) || has rule) now (λ rule. sym (seen rule)) (suc (suc i)) behind
+    ∙ ap (λ k. first_same now (suc k) behind) (sym same)
+
+pub same_found : (has : Ruled → Bool) (rules : List Sent) (i place : ℕ) (sent : Sent) (new : Bool) → i < length rules → sent ≡ get_or rules i sent → place ≡ suc i
+    → new ≡ not (has sent.rule) → false ≡ new → first_same has (suc i) (drop i rules) ≡ Some place
+same_found has rules i place sent new inside is same fresh is_old =
+    let behind : List Sent = drop (i + 1) rules in
+    let old : has sent.rule ≡ true = flipped (has sent.rule) new fresh ∙ ap not (sym is_old) in
+    ap (first_same has (suc i)) (drop_more rules i sent inside ∙ ap (λ (s : Sent). s ∷ behind) (sym is))
+    ∙ ap (λ b. if b then Some (suc i) else first_same (λ rule. is_eq (rule_cmp sent.rule rule) || has rule) (suc (suc i)) behind) old
+    ∙ ap Some (sym same)
+
+-- rules of which one isn't taken
+
+pub but_next : (test : Sent → Bool) (rules : List Sent) (i place : ℕ) (sent : Sent) (taken : Bool) → i < length rules → sent ≡ get_or rules i sent → place ≡ suc i
+    → taken ≡ test sent → true ≡ taken → first_but test (suc i) (drop i rules) ≡ first_but test (suc place) (drop (i + 1) rules)
+but_next test rules i place sent taken inside is same e one =
+    let behind : List Sent = drop (i + 1) rules in
+    ap (first_but test (suc i)) (drop_more rules i sent inside ∙ ap (λ (s : Sent). s ∷ behind) (sym is))
+    ∙ ap (λ b. if b then first_but test (suc (suc i)) behind else Some (suc i)) (sym e ∙ sym one)
+    ∙ ap (λ k. first_but test (suc k) behind) (sym same)
+
+pub but_found : (test : Sent → Bool) (rules : List Sent) (i place : ℕ) (sent : Sent) (taken : Bool) → i < length rules → sent ≡ get_or rules i sent → place ≡ suc i
+    → taken ≡ test sent → false ≡ taken → first_but test (suc i) (drop i rules) ≡ Some place
+but_found test rules i place sent taken inside is same e none =
+    let behind : List Sent = drop (i + 1) rules in
+    ap (first_but test (suc i)) (drop_more rules i sent inside ∙ ap (λ (s : Sent). s ∷ behind) (sym is))
+    ∙ ap (λ b. if b then first_but test (suc (suc i)) behind else Some (suc i)) (sym e ∙ sym none)
+    ∙ ap Some (sym same)
+
+pub nothing_left : {A B : Type 0} (f : List A → Option B) (xs : List A) (i : ℕ) → f [] ≡ None → length xs ≤ i → f (drop i xs) ≡ None
+nothing_left {A} f xs i none past = ap f (empty i xs past) ∙ none
+  where
+    empty : (i : ℕ) (ys : List A) → length ys ≤ i → drop i ys ≡ []
+    empty zero [] h = refl
+    empty (suc i) [] h = refl
+    empty zero (y ∷ ys) h = absurd (omega (arith, h))
+    empty (suc i) (y ∷ ys) h = empty i ys (omega (arith, h))
+
+-- tests one after the other
+
+pub two_in_turn : {A : Type 0} (a b : Option A) → option_or a b ≡ option_or a (option_or b None)
+two_in_turn (Some x) b = refl
+two_in_turn None (Some x) = refl
+two_in_turn None None = refl
+
+pub four_in_turn : {A : Type 0} (a b c d : Option A) → option_or (option_or (option_or a b) c) d ≡ option_or a (option_or b (option_or c (option_or d None)))
+four_in_turn (Some x) b c d = refl
+four_in_turn None (Some x) c d = refl
+four_in_turn None None (Some x) d = refl
+four_in_turn None None None (Some x) = refl
+four_in_turn None None None None = refl
+
+pub in_three : {A : Type 0} (a b c : Option A) → option_or (option_or a b) c ≡ option_or a (option_or b c)
+in_three (Some x) b c = refl
+in_three None b c = refl
+
+-- the count of the numbers of a path
+
+pub numbers_within : (items : List Value) → true ≡ nat_le (length items) 255 → numbers_fault (Some (items_view items)) ≡ each_fault number_fault 1 (items_view items)
+numbers_within items e = rw (count_is items, ← e) refl
+
+pub numbers_without : (items : List Value) → false ≡ nat_le (length items) 255 → numbers_fault (Some (items_view items)) ≡ Some (own_fault (unfit (codes "as_path") NoValue))
+numbers_without items e = rw (count_is items, ← e) refl
+
+-- what stands at `rule`
+
+or_none : {A : Type 0} (found : Option A) → option_or found None ≡ found
+or_none None = refl
+or_none (Some x) = refl
+
+pub list_none : (config : Config) (path : Option (List ℕ)) (found : Option Data) → listed found ≡ None
+    → option_map own_fault (option_map (unfit (codes "rule")) (reason_at Array false found))
+    ≡ option_or (option_map own_fault (option_map (unfit (codes "rule")) (reason_at Array (is_some (listed found)) found))) (listed_fault config path (listed found))
+list_none config path found none = rw none (sym (or_none (option_map own_fault (option_map (unfit (codes "rule")) (reason_at Array false found)))))
+
+pub list_some : (config : Config) (path : Option (List ℕ)) (found : Option Data) (items : Items) → listed found ≡ Some items
+    → listed_fault config path (Some items)
+    ≡ option_or (option_map own_fault (option_map (unfit (codes "rule")) (reason_at Array (is_some (listed found)) found))) (listed_fault config path (listed found))
+list_some config path found items some = rw some refl

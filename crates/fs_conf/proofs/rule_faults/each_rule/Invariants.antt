@@ -1,0 +1,7 @@
+use Rattle.fs_conf.proofs.Words.{◌≡◌, suc, drop, items_view}
+use Rattle.fs_conf.specs.RuleFault.{each_fault, rule_fault}
+use Rattle.fs_conf.proofs.rule_faults.each_rule.Given as goal
+
+-- what is left answers for all
+abbrev pub invariant-loop-place : goal.invariant-loop-place
+invariant-loop-place l = each_fault rule_fault (suc l.place) (items_view (drop l.place l.items)) ≡ each_fault rule_fault 1 (items_view l.items)
