@@ -3,3 +3,4 @@ pub mod Lives
 pub mod Making
 pub mod Command
 pub mod Laws
+pub mod Survey

@@ -13,7 +13,7 @@ use fs_mrt::{Dump, DumpFault, Heard};
 use std::alloc::Global;
 
 /// The octets of the longest message that is read.
-const LONGEST_MESSAGE: usize = 65536;
+pub(crate) const LONGEST_MESSAGE: usize = 65536;
 
 /// The names of the files that `convert` reads.
 #[derive(Clone, Copy, Drop)]

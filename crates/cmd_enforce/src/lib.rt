@@ -1,5 +1,5 @@
 //! The command `enforce`: the packets of a capture, of the libpcap or the pcapng format, under the rules that a tape
-//! holds at their moments.
+//! holds at their moments; and what `check` says of a capture.
 #![tactic(auto)]
 
 mod answer;

@@ -3,3 +3,4 @@ pub mod Messages
 pub mod Bodies
 mod Written
 pub mod AllHeard
+pub mod Noted

@@ -1,5 +1,5 @@
 -- Records as they stand in a dump: what is read of one, and that no other octets are.
-use Rattle.fs_mrt.{proofs.Words.{◌≡◌, ℕ, List, [], ◌++◌, Option, Some, None, Bool, true, false, ◌<◌, ◌≤◌, ◌+◌, ◌-◌, ◌*◌, ◌==◌, ◌&&◌, max, length, take, drop, refl, ap, sym, subst, ◌∙◌, arith, append-nil, append_assoc, length-append, if◌then◌else◌, nat_le, drop-drop, drop_at, length-drop, nat_tests, big_number, big_from-append, Address, Peer, Takes, whole, Scanner, and, field, gives, skips, ReadsBack, number_at, Said, Spoken, body_in, change, ends_in, ends_size, family_in, front_behind, front_in, head_of, headed_in, heard_in, message, message_behind, message_in, moment_behind, record_behind, record_in, said_at, said_in, spoken, states_behind, states_in, time_of, address_of, address_size, family_of, front_size, shape_of, states_size, Body, Entry, Header, IsBody, IsEntry, IsHeader, IsSaidBy, body_text, entry_gives, entry_text, entry_told, header_text, heard_as, peer_in, said_of, shape_in, told, unread, DumpReason, Cut, Length, Front, Head, Family}, specs.declared.{fault.DumpReason.TheVariants.{Family as WrongFamily, Message as WrongMessage}, shape.Shape.{Shape as RecordShape}}}
+use Rattle.fs_mrt.{proofs.Words.{◌≡◌, ℕ, List, [], ◌++◌, Option, Some, None, Bool, true, false, ◌<◌, ◌≤◌, ◌+◌, ◌-◌, ◌*◌, ◌==◌, ◌&&◌, max, length, take, drop, refl, ap, sym, subst, ◌∙◌, arith, append-nil, append_assoc, length-append, if◌then◌else◌, nat_le, drop-drop, drop_at, length-drop, nat_tests, big_number, big_from-append, Address, Peer, Takes, whole, Scanner, and, field, gives, skips, ReadsBack, number_at, Said, Spoken, body_in, change, ends_in, ends_size, family_in, front_behind, front_in, front_of, asn_of, head_of, headed_in, heard_in, message, message_behind, message_in, moment_behind, record_behind, record_in, said_at, said_in, spoken, states_behind, states_in, time_of, address_of, address_size, family_of, front_size, shape_of, states_size, Body, Entry, Header, IsBody, IsEntry, IsHeader, IsSaidBy, body_text, entry_gives, entry_text, entry_told, header_text, heard_as, peer_in, said_of, shape_in, told, unread, DumpReason, Cut, Length, Front, Head, Family}, specs.declared.{fault.DumpReason.TheVariants.{Family as WrongFamily, Message as WrongMessage}, shape.Shape.{Shape as RecordShape}}}
 use Rattle.fs_base.proofs.Bools.{and_parts}
 use Rattle.fs_input.proofs.{Spelling.{Part, Reads, Spells, and_reads, and_spells, cut_at, fails_spells, field_reads, field_spells, gives_reads, gives_spells, map_reads, map_spells, needs_reads, needs_spells, part_spells, skips_reads, skips_spells}, Written.{IsSpelled, spelled_takes, told_text}}
 
@@ -85,12 +85,12 @@ said_spells false size least = message_spells size
 
 -- what stands behind the addresses
 
-record HeardSpelled (moment size : ℕ) (shape : RecordShape) (peer : Option ℕ) (heard : Option Spoken) (octets : List ℕ) : Type 0 where
+pub record HeardSpelled (moment size : ℕ) (shape : RecordShape) (peer : Option ℕ) (heard : Option Spoken) (octets : List ℕ) : Type 0 where
   pub long : length octets ≡ size
   pub judged : IsSaidBy peer shape.change octets
   pub is : heard ≡ heard_as moment shape peer octets
 
-heard_spells : (moment size : ℕ) (shape : RecordShape) (peer : Option ℕ) → states_size shape ≤ size
+pub heard_spells : (moment size : ℕ) (shape : RecordShape) (peer : Option ℕ) → states_size shape ≤ size
     → Spells (HeardSpelled moment size shape peer) (heard_in moment size shape peer)
 heard_spells moment size shape None least =
     map_spells (λ n part. length part ≡ size) (HeardSpelled moment size shape None) (skips size) (λ _. None)
@@ -104,7 +104,7 @@ heard_spells moment size shape (Some peer) least =
 
 -- the octets up to the family
 
-record FrontSpelled (seconds size : ℕ) (shape : RecordShape) (front : Front) (octets : List ℕ) : Type 0 where
+pub record FrontSpelled (seconds size : ℕ) (shape : RecordShape) (front : Front) (octets : List ℕ) : Type 0 where
   pub micros : List ℕ
   pub numbers : List ℕ
   pub family : List ℕ
@@ -131,17 +131,17 @@ behind_front shape micros numbers family m n =
 
 family_spells : (spot start seconds size : ℕ) (shape : RecordShape) (octets part : List ℕ) (family : Option Family)
     → size ≤ 65536 → octets ≡ part → length part ≡ front_size shape + 2 → family_of (big_number 2 (drop (front_size shape) octets)) ≡ family
-    → Spells (λ front more. FrontSpelled seconds size shape front (part ++ more)) (family_in spot start size (time_of shape seconds octets) shape family)
+    → Spells (λ front more. FrontSpelled seconds size shape front (part ++ more)) (family_in spot start size (time_of shape seconds octets) (asn_of shape octets) shape family)
 family_spells spot start seconds size shape octets part None most same long told_so =
     fails_spells (λ front more. FrontSpelled seconds size shape front (part ++ more)) WrongFamily start
 family_spells spot start seconds size shape octets part (Some family) most same long told_so =
     needs_spells (λ front more. FrontSpelled seconds size shape front (part ++ more)) (nat_le (ends_size shape family + states_size shape) size) Length spot
-    (gives (record { time = time_of shape seconds octets; family = family }))
+    (gives (front_of (time_of shape seconds octets) (asn_of shape octets) family))
     (λ test.
-    gives_spells (λ front more. FrontSpelled seconds size shape front (part ++ more)) (record { time = time_of shape seconds octets; family = family }) (found test))
+    gives_spells (λ front more. FrontSpelled seconds size shape front (part ++ more)) (front_of (time_of shape seconds octets) (asn_of shape octets) family) (found test))
   where
     found : nat_le (ends_size shape family + states_size shape) size ≡ true
-        → FrontSpelled seconds size shape (record { time = time_of shape seconds octets; family = family }) (part ++ [])
+        → FrontSpelled seconds size shape (front_of (time_of shape seconds octets) (asn_of shape octets) family) (part ++ [])
     found test =
         let a = cut_at (if shape.timed then 4 else 0) part (omega (arith, long)) in
         let b = cut_at ((if shape.wide then 8 else 4) + 2) a.rest (omega (arith, long, a.rest_size)) in
@@ -162,7 +162,7 @@ family_spells spot start seconds size shape octets part (Some family) most same 
           most = most;
         }
 
-front_spells : (spot seconds size : ℕ) (shape : RecordShape) → Spells (FrontSpelled seconds size shape) (front_in spot seconds size shape)
+pub front_spells : (spot seconds size : ℕ) (shape : RecordShape) → Spells (FrontSpelled seconds size shape) (front_in spot seconds size shape)
 front_spells spot seconds size shape place =
     needs_spells (FrontSpelled seconds size shape) (nat_le (front_size shape + 2) size && nat_le size 65536) Length spot
     (and (field (front_size shape + 2) whole) (front_behind spot place seconds size shape))
@@ -406,10 +406,10 @@ module _ (peers : List Peer) (moment spot seconds size : ℕ) (shape : RecordSha
   parts_size = omega (arith, long, length-append first (body.addresses ++ body.said), length-append body.addresses body.said, first_size, is.addresses)
 
   abbrev front : Front
-  front = record { time = time_of shape seconds body.micros; family = family }
+  front = front_of (time_of shape seconds body.micros) (asn_of shape first) family
 
   abbrev family_at : ℕ → ℕ × Option Family → Scanner Front DumpReason
-  family_at start told_so = family_in spot start size told_so.0 shape told_so.1
+  family_at start told_so = family_in spot start size told_so.0 (asn_of shape first) shape told_so.1
 
   family_read : (start : ℕ) → Reads (family_at start (time_of shape seconds first, family_of (big_number 2 (drop (front_size shape) first)))) [] front
   family_read start =

@@ -4,3 +4,5 @@ pub mod Record
 pub mod Dump
 pub mod Written
 pub mod Laws
+pub mod Notes
+pub mod Fault

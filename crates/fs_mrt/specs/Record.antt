@@ -67,14 +67,21 @@ ends_in peers moment size shape front =
 abbrev pub time_of : RecordShape → (seconds : ℕ) → List ℕ → ℕ
 time_of shape seconds octets = seconds * 1000000000 + (if shape.timed then big_number 4 octets * 1000 else 0)
 
-abbrev pub family_in : (spot start size time : ℕ) → RecordShape → Option Family → Scanner Front DumpReason
-family_in spot start size time shape None = fails WrongFamily start
-family_in spot start size time shape (Some family) =
-    needs (nat_le (ends_size shape family + states_size shape) size) Length spot (gives (record { time = time; family = family }))
+-- the peer's AS number
+abbrev pub asn_of : RecordShape → List ℕ → ℕ
+asn_of shape octets = big_number (if shape.wide then 4 else 2) (drop (if shape.timed then 4 else 0) octets)
+
+abbrev pub front_of : (time asn : ℕ) → Family → Front
+front_of time asn family = record { time = time; asn = asn; family = family }
+
+abbrev pub family_in : (spot start size time asn : ℕ) → RecordShape → Option Family → Scanner Front DumpReason
+family_in spot start size time asn shape None = fails WrongFamily start
+family_in spot start size time asn shape (Some family) =
+    needs (nat_le (ends_size shape family + states_size shape) size) Length spot (gives (front_of time asn family))
 
 abbrev pub front_behind : (spot start seconds size : ℕ) → RecordShape → List ℕ → Scanner Front DumpReason
 front_behind spot start seconds size shape octets =
-    family_in spot (start + front_size shape) size (time_of shape seconds octets) shape
+    family_in spot (start + front_size shape) size (time_of shape seconds octets) (asn_of shape octets) shape
     (family_of (big_number 2 (drop (front_size shape) octets)))
 
 -- The fields up to the address family. The record's length, which stands at `spot`, is judged before them, and again

@@ -17,7 +17,7 @@ pub(crate) fn number_at(peers: &[Peer], address: Address) -> Option<u16>
     found
 }
 
-fn is_same(one: Address, other: Address) -> bool
+pub(crate) fn is_same(one: Address, other: Address) -> bool
     ensures { result ≡ is_same one other }
 {
     match (one, other) {

@@ -2,7 +2,7 @@
 ghost use Rattle.std.specs.{Prelude.{◌≡◌, ◌≤◌, ◌<◌, ◌+◌, ◌*◌, ◌-◌, [], ℕ, IfOk, IfSome, length, max}, Option.{option_map}};
 ghost use Rattle.byteorder.specs.Endian.{big_number};
 ghost use Rattle.fs_input.specs.{Reads.{Scans}, Scan.{field}};
-ghost use Rattle.fs_mrt.specs.{Dump.{IsWithin, spoken_from}, Record.{body_in, ends_size, family_in, front_in, heard_in, time_of}, Shape.{address_of, address_size, front_size, states_size}, declared.fault.DumpReason.TheVariants.{Cut}};
+ghost use Rattle.fs_mrt.specs.{Dump.{IsWithin, spoken_from}, Record.{asn_of, body_in, ends_size, family_in, front_in, heard_in, time_of}, Shape.{address_of, address_size, front_size, states_size}, declared.fault.DumpReason.TheVariants.{Cut}};
 
 use crate::fault::{DumpFault, DumpReason};
 use crate::fields::{take_part, take_said};
@@ -13,11 +13,12 @@ use byteorder::{BigEndian, ByteOrder};
 use fs_base::{Address, Counted, Family, Files, Peer};
 use fs_input::skip_octets;
 
-/// What the fields before a record's addresses tell: its time, in nanoseconds since the start of 1970, and the family
-/// of the addresses.
+/// What the fields before a record's addresses tell: its time, in nanoseconds since the start of 1970, the peer's AS
+/// number, and the family of the addresses.
 #[derive(Clone, Copy, Debug, PartialEq, Eq, Drop)]
 pub(crate) struct Front {
     pub(crate) time: u64,
+    pub(crate) asn: u32,
     pub(crate) family: Family,
 }
 
@@ -32,14 +33,14 @@ pub(crate) struct Head {
 
 /// What is left of a body that is read, behind its addresses: so many octets, of this shape, at this moment.
 #[derive(Clone, Copy, Debug, PartialEq, Eq, Drop)]
-struct Rest {
-    moment: u64,
-    size: usize,
-    shape: Shape,
+pub(crate) struct Rest {
+    pub(crate) moment: u64,
+    pub(crate) size: usize,
+    pub(crate) shape: Shape,
 }
 
 /// The octets in front of the message or the states.
-fn ends_size(shape: Shape, family: Family) -> usize
+pub(crate) fn ends_size(shape: Shape, family: Family) -> usize
     ensures exact { result ≡ ends_size shape family }
     ensures few { result ≤ 48 }
 {
@@ -59,8 +60,21 @@ fn time_of(shape: Shape, seconds: u32, octets: &[u8]) -> u64
     seconds as u64 * 1_000_000_000 + micros
 }
 
+/// The peer's AS number, which stands behind the microseconds.
+fn asn_of(shape: Shape, octets: &[u8]) -> u32
+    requires { 8 ≤ length octets.now }
+    ensures { result ≡ asn_of shape octets.now }
+{
+    let first = if shape.timed { 4 } else { 0 };
+    if shape.wide {
+        BigEndian::read_u32(&octets[first..])
+    } else {
+        u32::from(BigEndian::read_u16(&octets[first..]))
+    }
+}
+
 /// Reads the fields up to the address family, and judges the record's length.
-fn take_front<F: Files>(
+pub(crate) fn take_front<F: Files>(
     head: Head,
     shape: Shape,
     counted: &mut Counted,
@@ -100,12 +114,13 @@ fn take_front<F: Files>(
     }
     Ok(Front {
         time: time_of(shape, head.seconds, &octets),
+        asn: asn_of(shape, &octets),
         family,
     })
 }
 
 /// Reads both addresses, and answers the first, which is the peer's.
-fn take_address<F: Files>(
+pub(crate) fn take_address<F: Files>(
     family: Family,
     counted: &mut Counted,
     files: &mut F,
@@ -124,7 +139,7 @@ fn take_address<F: Files>(
 }
 
 /// Reads what stands behind the addresses; skips it where the peer isn't configured.
-fn take_heard<F: Files>(
+pub(crate) fn take_heard<F: Files>(
     rest: Rest,
     peer: Option<u16>,
     counted: &mut Counted,

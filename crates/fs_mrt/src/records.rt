@@ -14,7 +14,7 @@ use fs_input::Parts;
 use std::marker::Model;
 
 /// The octets of a record's head.
-const HEAD_SIZE: usize = 12;
+pub(crate) const HEAD_SIZE: usize = 12;
 
 /// Where the records of a dump stand: the moment of the last one of a configured peer, 0 before the first.
 #[derive(Drop)]
@@ -107,7 +107,7 @@ impl Parts for Records {
 }
 
 /// What the octets of a head say whose length stands at this place.
-fn read_head(spot: u64, octets: &[u8]) -> Head
+pub(crate) fn read_head(spot: u64, octets: &[u8]) -> Head
     requires { 12 ≤ length octets.now }
     ensures { result ≡ head_of spot octets.now }
 {

@@ -11,8 +11,8 @@ returns-clause-reads g c =
     let some : front_size c.args.shape + 2 ≤ c.args.head.size = search rules in
     let most : c.args.head.size ≤ 65536 = search rules in
     let room : ends_size c.args.shape c.in-Some.family + states_size c.args.shape ≤ c.args.head.size = search rules in
-    front_reads c.args.head.spot c.args.head.seconds c.args.head.size c.args.shape octets c.in-Some.family c.time_of.result four some most
-    (subst (λ n. family_of (big_number 2 (drop n octets)) ≡ Some c.in-Some.family) first says) room c.time_of.ensures
+    front_reads c.args.head.spot c.args.head.seconds c.args.head.size c.args.shape octets c.in-Some.family c.time_of.result c.asn_of.result four some most
+    (subst (λ n. family_of (big_number 2 (drop n octets)) ≡ Some c.in-Some.family) first says) room c.time_of.ensures c.asn_of.ensures
     (subst
     (λ n. Reads g.F.Files.tells (calls_of g.F.Files c.args.files.now) (calls_of g.F.Files c.take_part.new.files)
     (g.F.Files.left c.args.files.now) (g.F.Files.left c.take_part.new.files)
