@@ -124,8 +124,8 @@ returns-in_err-judge_packet-clause-judged g c = λ told work same_config s f.
     (leaves_as _ _ (until c.in-Some.caught.moment work.items) player.desk.held same_config (c.is_due.ensures.still c.if-is_due.false work.items (behind 1) later))
     sent.err.0 (rose_earlier _ _ _ (le_trans c.packets.invariant.sink_later c.in_ok-leave.ensures.later) sent.err.1)))
 
-pub returns-clause-judged : goal.returns-clause-judged
-returns-clause-judged g c = λ told work same_config s f. (
+pub returns-in_default-clause-judged : goal.returns-in_default-clause-judged
+returns-in_default-clause-judged g c = λ told work same_config s f. (
   tt,
   followed_read _
       (subst (λ (n : ℕ). coming c.packets.capture (g.F.Files.left c.packets.files n) ≡ ([], done)) c.packets.invariant.reads.slot (rw c.in_default.is at (c.in_ok-caught.ensures.gives told)))
