@@ -24,6 +24,9 @@ WORDS = '\n[[rule]]\ntext = "v6 dst 2001:db8:0:0:0:0:0:0/32 proto =17 sport =53 
 RULES = SENDER + OCTETS + WORDS
 TAPE = b"FSTAPE1\n" + bytes.fromhex("01000100000000")
 DUMP = bytes.fromhex("6553f10000100005 00000018 0000fde9 0000fde8 0000 0001 c6336401 c6336402 0005 0006")
+MESSAGE = bytes.fromhex("6553f100 0010 0001 00000023 fde9 fde8 0000 0001 c6336401 c6336402" + "ff" * 16 + "0013 04")
+TABLE = bytes.fromhex("6553f100 000d 0001 00000004 00000000")
+GZIP = gzip.compress(DUMP, mtime=0)
 CAPTURE = bytes.fromhex("a1b2c3d4 0002 0004 00000000 00000000 00040000 00000065")
 PACKET = bytes.fromhex("00000007 0000000b 00000001 00000001 45")
 EARLIER = PACKET.replace(b"\0\0\0\7", b"\0\0\0\6")
@@ -145,6 +148,22 @@ CAPTURES = [
 ]
 
 
+DUMPS = [
+    ("nothing wrong", DUMP + MESSAGE, 0, "peer 198.51.100.1 as 65001 number 1 messages 1"),
+    ("a dump of another neighbour", MESSAGE.replace(b"\xc6\x33\x64\1", b"\xc6\x33\x64\7"), 0,
+     "peer 198.51.100.7 as 65001 unknown messages 1"),
+    ("a dump of a neighbour with another AS", MESSAGE.replace(b"\xfd\xe9", b"\xfd\xef"), 0,
+     "peer 198.51.100.1 as 65007 number 1 messages 1"),
+    ("a table dump", TABLE * 2, 0, "skipped 13/1 2"),
+    ("a dump compressed by gzip", GZIP, 10, f"dump Cut at {len(GZIP)}"),
+    ("a tape for a dump", TAPE, 10, "dump Cut at 15"),
+    ("a capture for a dump", CAPTURE, 10, "skipped 2/4 1\ndump Cut at 24"),
+    ("a dump that was copied while it was written", DUMP + MESSAGE + TABLE[:-1], 10,
+     "peer 198.51.100.1 as 65001 number 1 messages 1\ndump Cut at 98"),
+    ("a message with another length than its record", MESSAGE[:-3] + b"\0\x14\4", 10, "dump Message at 28"),
+]
+
+
 def written(folder, name, content):
     path = folder / name
     path.write_bytes(content if isinstance(content, bytes) else content.encode())
@@ -168,6 +187,9 @@ def answers(program, folder):
     for mistake, content, status, lines in CAPTURES:
         capture = written(folder, "capture", content)
         yield mistake, (status, lines + "\n"), answer_of(program, ["check", "capture", capture])
+    for mistake, content, status, lines in DUMPS:
+        dump = written(folder, "dump", content)
+        yield mistake, (status, lines + "\n"), answer_of(program, ["check", "dump", config, dump])
 
 
 def main():

@@ -4,8 +4,9 @@ use Rattle.cmd_stages.proofs.Stages.{answers_for}
 use Rattle.std.specs.Prelude.{IfOk, MatchResult}
 use Rattle.fs_base.specs.Files.{one_opening}
 use Rattle.cmd_stages.specs.Refusal.{IsOfFile}
+use Rattle.cmd_convert.specs.{Command.{IsOfDump}, Survey.{dump_verdict, IsUnsaid as IsDumpUnsaid}, declared.survey.DumpSaid.{DumpSaid}}
 use Rattle.cmd_enforce.specs.{Judge.{IsOfCapture}, Stamps.{IsUnsaid}, Survey.{capture_verdict}, declared.survey.CaptureSaid.{CaptureSaid}}
-use Rattle.fs_cli.specs.{FileCheck.{ChecksFileSo, FileForm, IsDue, OfCapture, OfConfig, OfRules, Unsaid, file_openings, file_statuses}, declared.file_check.Said.{Said}}
+use Rattle.fs_cli.specs.{FileCheck.{ChecksFileSo, FileForm, IsDue, OfCapture, OfConfig, OfDump, OfRules, Unsaid, file_openings, file_statuses}, declared.file_check.Said.{Said}}
 
 -- nothing was said
 pub file_unsaid : (limit : ℕ) (holds : Names) (form : FileForm) (failed other : Type 0) (a : Option (List ℕ)) (refusal : Refusal)
@@ -63,11 +64,26 @@ capture_possible (Err Memory) p a = inr (inr (inr (inl refl)))
 capture_possible (Err Limit) p a = inr (inr (inr (inr (inl refl))))
 capture_possible (Err Session) p a = absurd (p.0.2 refl)
 
+pub dump_possible : (result : Result DumpSaid Refusal) → IsOfDump (answered result) × (answered result ≢ 10)
+    → IfOk result (λ said. (said.status ≡ 0) ⊎ (said.status ≡ 10))
+    → MatchResult result (λ said. IsOneOf (0 ∷ 1 ∷ 3 ∷ 6 ∷ 7 ∷ 10 ∷ []) said.status) (λ refusal. IsOneOf (0 ∷ 1 ∷ 3 ∷ 6 ∷ 7 ∷ 10 ∷ []) (status_of refusal))
+dump_possible (Ok said) p (inl h) = inl h
+dump_possible (Ok said) p (inr h) = inr (inr (inr (inr (inr (inl h)))))
+dump_possible (Err Outside) p a = inr (inl refl)
+dump_possible (Err Rejected) p a = inr (inr (inl refl))
+dump_possible (Err (Tape reason place)) p a = absurd (p.0.0 refl)
+dump_possible (Err Capture) p a = absurd (p.0.1 refl)
+dump_possible (Err Dump) p a = absurd (p.1 refl)
+dump_possible (Err Memory) p a = inr (inr (inr (inl refl)))
+dump_possible (Err Limit) p a = inr (inr (inr (inr (inl refl))))
+dump_possible (Err Session) p a = absurd (p.0.2 refl)
+
 -- a call on the outside may fail in each
 outside_possible : (form : FileForm) (answer : ℕ) → answer ≡ 1 → IsOneOf (file_statuses form) answer
 outside_possible (OfConfig config) answer h = inr (inl h)
 outside_possible (OfRules config sending) answer h = inr (inl h)
 outside_possible (OfCapture capture) answer h = inr (inl h)
+outside_possible (OfDump config dump) answer h = inr (inl h)
 
 -- what is said is written, or a call on the outside failed
 pub said_possible : (form : FileForm) (status answer : ℕ) → IsOneOf (file_statuses form) status → (answer ≡ status) ⊎ (answer ≡ 1) → IsOneOf (file_statuses form) answer
@@ -85,6 +101,7 @@ never_two form answer p = λ h. two form (none_else (file_statuses form) answer 
     two (OfConfig config) p = search (rules, p)
     two (OfRules config sending) p = search (rules, p)
     two (OfCapture capture) p = search (rules, p)
+    two (OfDump config dump) p = search (rules, p)
 
 -- what was opened where something is said, and it is written or a call on the outside failed
 pub opens_said : (openings : Openings) (before now : Option (List Opened)) (status answer : ℕ) → OpensFront openings before now 0
@@ -120,3 +137,10 @@ never_quiet status answer other (inl h) (inl three) = absurd (other.0 (sym h ∙
 never_quiet status answer other (inl h) (inr six) = absurd (other.1 (sym h ∙ six))
 never_quiet status answer other (inr h) (inl three) = let wrong : 1 ≡ 3 = sym h ∙ three in absurd cc
 never_quiet status answer other (inr h) (inr six) = let wrong : 1 ≡ 6 = sym h ∙ six in absurd cc
+
+-- nothing is said of a dump
+pub dump_unsaid : (limit : ℕ) (holds : Names) (config dump : List ℕ) (failed : Type 0) (refusal : Refusal)
+    → IsDumpUnsaid (dump_verdict limit holds config dump) failed refusal → Unsaid (IsDue limit holds (OfDump config dump)) failed refusal
+dump_unsaid limit holds config dump failed refusal (inl h) = inl h
+dump_unsaid limit holds config dump failed refusal (inr (inl h)) = inr (inl h)
+dump_unsaid limit holds config dump failed refusal (inr (inr h)) = inr (inr h)

@@ -2,8 +2,9 @@
 use Rattle.std.specs.Prelude.{◌≡◌, ◌≢◌, ◌⊎◌, ℕ, List, [], ◌∷◌, ◌++◌, length, codes, decimal, Option, Some, None, string_bytes}
 use Rattle.fs_base.specs.{Happened.{Happened, FilesFailed, SinkFailed, Wrote}, Sink.{Grew}, Files.{one_opening}, declared.config.Config.{Config}}
 use Rattle.fs_conf.specs.{Config.{config_of}, Fault.{IsFirstFault, fault_text}, declared.fault.ConfigFault.{ConfigFault, TheVariants.{Memory as NoMemory}}}
+use Rattle.cmd_convert.specs.Survey.{dump_verdict}
 use Rattle.cmd_enforce.specs.Survey.{capture_verdict}
-use Rattle.fs_cli.specs.declared.file_check.{CheckedFile.{CheckedFile, TheVariants.{Config as ConfigFile, Rules as RulesFile, Capture as CaptureFile}}, Said.{Said}}
+use Rattle.fs_cli.specs.declared.file_check.{CheckedFile.{CheckedFile, TheVariants.{Config as ConfigFile, Rules as RulesFile, Capture as CaptureFile, Dump as DumpFile}}, Said.{Said}}
 use Rattle.fs_cli.specs.RulesCheck.{JudgesRules}
 use Rattle.cmd_stages.specs.{Load.{Names, Openings, config_alone, config_stage, config_then, fetch}, Refusal.{Answers, Verdict, verdict_with, Stage, Found, Stopped, status_of}, declared.refusal.Refusal.{Refusal, TheVariants.{Memory, Outside}}}
 
@@ -12,12 +13,14 @@ pub data FileForm : Type 0 where
   OfConfig : (config : List ℕ) → FileForm
   OfRules : (config rules : List ℕ) → FileForm
   OfCapture : (capture : List ℕ) → FileForm
+  OfDump : (config dump : List ℕ) → FileForm
 
 -- what a parsed word for it says
 abbrev pub file_shown : CheckedFile → FileForm
 file_shown (ConfigFile config) = OfConfig config.now
 file_shown (RulesFile config rules) = OfRules config.now rules.now
 file_shown (CaptureFile capture) = OfCapture capture.now
+file_shown (DumpFile config dump) = OfDump config.now dump.now
 
 -- how many peers a configuration has; or its first fault
 abbrev pub config_line : Config → List ℕ
@@ -49,6 +52,7 @@ IsDue limit holds (OfConfig config) verdict = Due JudgesConfig (fetch limit hold
 IsDue limit holds (OfRules config rules) verdict =
     Due (λ accepted. Due (JudgesRules accepted) (fetch limit holds rules)) (config_stage limit holds config) verdict
 IsDue limit holds (OfCapture capture) verdict = verdict ≡ capture_verdict limit holds capture
+IsDue limit holds (OfDump config dump) verdict = verdict ≡ dump_verdict limit holds config dump
 
 -- why nothing is said of a file: it calls for that, memory was wanting, or a call on the outside failed
 abbrev pub Unsaid : (Verdict → Type 0) → Type 0 → Refusal → Type 0
@@ -77,6 +81,7 @@ abbrev pub file_statuses : FileForm → List ℕ
 file_statuses (OfConfig config) = 0 ∷ 1 ∷ 6 ∷ 7 ∷ 9 ∷ []
 file_statuses (OfRules config rules) = 0 ∷ 1 ∷ 3 ∷ 6 ∷ 7 ∷ 9 ∷ []
 file_statuses (OfCapture capture) = 0 ∷ 1 ∷ 5 ∷ 6 ∷ 7 ∷ []
+file_statuses (OfDump config dump) = 0 ∷ 1 ∷ 3 ∷ 6 ∷ 7 ∷ 10 ∷ []
 
 -- a capture, in slot 2
 abbrev pub capture_alone : List ℕ → Openings
@@ -86,6 +91,7 @@ abbrev pub file_openings : FileForm → Openings
 file_openings (OfConfig config) = config_alone config
 file_openings (OfRules config rules) = config_then 1 config rules
 file_openings (OfCapture capture) = capture_alone capture
+file_openings (OfDump config dump) = config_then 1 config dump
 
 -- the status and the text that the file calls for were answered and written
 pub record FileChecked (limit : ℕ) (holds : Names) (form : FileForm) (call : Happened) (answer : ℕ) : Type 0 where

@@ -6,6 +6,7 @@ ghost use Rattle.cmd_stages.specs.{Load.{OpensFront}, Refusal.{Answers, IsOfFile
 ghost use Rattle.fs_cli.specs.{FileCheck.{ChecksFile, IsDue, JudgesConfig, OfConfig, Unsaid, file_openings, file_shown, file_statuses, said_shown}, Program.{IsOneOf}};
 
 use crate::capture_check::say_of_capture;
+use crate::dump_check::say_of_dump;
 use crate::rules_check::say_of_rules;
 use cmd_stages::{CONFIG_SLOT, Refusal, load_file, status};
 use fs_base::{Failed, Files, Memory, Sink, write_all};
@@ -21,6 +22,8 @@ pub enum CheckedFile<'w> {
     Rules { config: &'w str, rules: &'w str },
     /// A capture.
     Capture(&'w str),
+    /// A dump, beside a configuration.
+    Dump { config: &'w str, dump: &'w str },
 }
 
 /// What is said of a file, and the status: 0, or that of a fault.
@@ -91,6 +94,7 @@ fn say_of_file<F: Files>(
         CheckedFile::Config(config) => say_of_config(alloc, files, config, limit),
         CheckedFile::Rules { config, rules } => say_of_rules(alloc, files, config, rules, limit),
         CheckedFile::Capture(capture) => say_of_capture(alloc, files, capture, limit),
+        CheckedFile::Dump { config, dump } => say_of_dump(alloc, files, config, dump, limit),
     }
 }
 

@@ -4,6 +4,7 @@
 mod capture_check;
 mod changes;
 mod command;
+mod dump_check;
 mod file_check;
 mod laws;
 mod live;

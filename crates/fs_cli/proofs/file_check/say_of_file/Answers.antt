@@ -27,3 +27,12 @@ returns-in-Capture-clause-said g c = rw c.in-Capture.is c.say_of_capture.ensures
 
 pub returns-in-Capture-clause-opens : goal.returns-in-Capture-clause-opens
 returns-in-Capture-clause-opens g c = rw c.in-Capture.is c.say_of_capture.ensures.opens
+
+pub returns-in-Dump-clause-possible : goal.returns-in-Dump-clause-possible
+returns-in-Dump-clause-possible g c = rw c.in-Dump.is c.say_of_dump.ensures.possible
+
+pub returns-in-Dump-clause-said : goal.returns-in-Dump-clause-said
+returns-in-Dump-clause-said g c = rw c.in-Dump.is c.say_of_dump.ensures.said
+
+pub returns-in-Dump-clause-opens : goal.returns-in-Dump-clause-opens
+returns-in-Dump-clause-opens g c = rw c.in-Dump.is c.say_of_dump.ensures.opens
