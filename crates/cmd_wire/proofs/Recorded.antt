@@ -1,11 +1,13 @@
 -- What a recorder did, event by event.
-use Rattle.cmd_wire.proofs.{Words.{◌≡◌, ◌∙◌, ◌<◌, ℕ, List, [], ◌∷◌, ◌++◌, Option, Some, None, Result, Ok, Err, length, append_assoc, arith, ap, refl, sym, subst, inr, Grew, Grew-trans, Config}, Folding.{recorded_more, stands_more, timed_at, turns_at, turns_more}}
-use Rattle.std.{specs.Prelude.{OnErr, OnOk, flat_map, max, take, ◌^◌}, proofs.{lemmas.Grind.{flat_map-append}, Math.Seq.{take-append_seam}}}
+use Rattle.cmd_wire.proofs.{Words.{◌≡◌, ◌∙◌, ◌<◌, ◌≤◌, ◌+◌, ◌⊎◌, inl, ℕ, List, [], ◌∷◌, ◌++◌, Option, Some, None, Result, Ok, Err, length, length-append, append_assoc, arith, ap, refl, sym, subst, inr, Grew, Grew-trans, Config}, Folding.{recorded_more, stands_more, timed_at, turns_at, turns_more}}
+use Rattle.std.{specs.Prelude.{OnErr, OnOk, flat_map, max, take, ◌^◌, ◌-◌}, proofs.{lemmas.Grind.{flat_map-append}, Math.Seq.{take-append_seam}}}
 use Rattle.fs_base.{specs.{Gate.{Turn, What, came}, Language.{IsOctets}}, proofs.Grew.{Grew-refl}}
 use Rattle.fs_input.specs.Parts.{AllFrom}
 use Rattle.fs_tape.{proofs.ReadsBack.{reads_back}, specs.{Laws.{Fits, after, item_text, tape_text}, Magic.{magic_of}, Tape.{Timed, stands}, declared.magic.Version.TheVariants.{Two}}}
+use Rattle.std.specs.Result.{IsErrAnd}
+use Rattle.fs_recorder.specs.declared.stop.Stop.{Stop, TheVariants.{Failed, Limit as TooLong}}
 use Rattle.fs_recorder.specs.{Books.{Agrees}, Deeds.{AreKnown, Recording, StayKnown, asked_in, items_of, passing, text_at, told_at}, Steps.{Between, Happening, at_first, empty_station, hears, recorded, stands_from, step_at, swept_after, turns_from}, Tapes.{Scribed, begun}, Works.{BreaksAt, BreaksSo, DidHear, DoesStep, Stands}}
-use Rattle.cmd_wire.specs.Recording.{Breaks, BreaksOne, Continues, Hears, HearsOne, Records, RecordsAll, StandsAt, TellsAll, begun_text, begun_turns}
+use Rattle.cmd_wire.specs.Recording.{Breaks, BreaksOne, Continues, Fills, Hears, HearsOne, IsFull, Records, RecordsAll, StandsAt, TellsAll, begun_text, begun_turns, due_text}
 
 -- the clock on the wall says another moment
 agrees_passed : (config : Config) (told : List Timed) (moment : ℕ) → moment < 2 ^ 64 → (old : Recording) → Agrees config told old.books
@@ -56,20 +58,21 @@ module _ (old new : Recording) (moment time : ℕ) (what : What) (small : moment
           };
           gate = Grew-trans t t1 t2 (came moment time what ∷ []) (asked_in (step_at config between event).deeds) tells d.does.gate;
           tape = subst (λ (n : ℕ). Grew w w' (text_at n (items_of (step_at config between event).deeds))) at d.does.tape;
+          limit_is = d.does.limit_is;
           agrees = λ told a.
               subst (λ (n : ℕ). Agrees config (told ++ told_at n (items_of (step_at config between event).deeds)) new.books) at
               (d.does.agrees config told (agrees_passed config told moment small old a));
         },
       )
 
-  pub breaks_of : BreaksSo (hears old.books.desk.config old.swept time what) (passing moment old) t1 t2 w w' → BreaksOne old t t2 w w'
-  breaks_of broke config between s =
-      let b : BreaksAt (hears old.books.desk.config old.swept time what between.station).deeds (passing moment old).books t1 t2 w w' =
+  pub breaks_of : {L : Type 0} → BreaksSo L (hears old.books.desk.config old.swept time what) (passing moment old) t1 t2 w w' → BreaksOne L old t t2 w w'
+  breaks_of {L} broke config between s =
+      let b : BreaksAt L (hears old.books.desk.config old.swept time what between.station).deeds (passing moment old).books t1 t2 w w' =
       broke between.station (passed_stands between s.stands) in
-      let b : BreaksAt (hears config old.swept time what between.station).deeds (passing moment old).books t1 t2 w w' =
-      subst (λ (c : Config). BreaksAt (hears c old.swept time what between.station).deeds (passing moment old).books t1 t2 w w') s.config_is b in
-      let b : BreaksAt (step_at config between event).deeds (passing moment old).books t1 t2 w w' =
-      subst (λ (n : ℕ). BreaksAt (hears config n time what between.station).deeds (passing moment old).books t1 t2 w w') s.swept_is b in
+      let b : BreaksAt L (hears config old.swept time what between.station).deeds (passing moment old).books t1 t2 w w' =
+      subst (λ (c : Config). BreaksAt L (hears c old.swept time what between.station).deeds (passing moment old).books t1 t2 w w') s.config_is b in
+      let b : BreaksAt L (step_at config between event).deeds (passing moment old).books t1 t2 w w' =
+      subst (λ (n : ℕ). BreaksAt L (hears config n time what between.station).deeds (passing moment old).books t1 t2 w w') s.swept_is b in
       let at : max old.books.scribe.moment moment ≡ max between.moment moment = ap (λ (n : ℕ). max n moment) s.moment_is in
       let front : b.asked ≡ take (length b.asked) (asked_in (step_at config between event).deeds) =
       sym (take-append_seam b.asked b.later) ∙ ap (take (length b.asked)) b.front in
@@ -80,31 +83,38 @@ module _ (old new : Recording) (moment time : ℕ) (what : What) (small : moment
             (Grew-trans t t1 t2 (came moment time what ∷ []) b.asked tells b.gate);
         told = b.part.0;
         tape = subst (λ (n : ℕ). Grew w w' (take b.part.0 (text_at n (items_of (step_at config between event).deeds)))) at b.part.1;
+        full = λ limited.
+            subst (λ (n : ℕ). old.books.scribe.limit ≤ old.books.scribe.written + length (text_at n (items_of (step_at config between event).deeds))) at (b.full limited);
       }
 
 -- no event came
-pub breaks_before : (old : Recording) (t t' : Option (List Turn)) (w : Option (List ℕ)) → Grew t t' [] → BreaksOne old t t' w w
-breaks_before old t t' w none config between s = record { last = None; asked = 0; gate = none; told = 0; tape = Grew-refl w }
+pub breaks_before : {L : Type 0} → (old : Recording) (t t' : Option (List Turn)) (w : Option (List ℕ)) → Grew t t' [] → (L → ⊥) → BreaksOne L old t t' w w
+breaks_before {L} old t t' w none never config between s =
+    record { last = None; asked = 0; gate = none; told = 0; tape = Grew-refl w; full = λ limited. absurd (never limited) }
 
 -- Behind so many events since the first.
-pub record Heard (config : Config) (recording : Recording) (turns turns' : Option (List Turn)) (before now : Option (List ℕ)) : Type 0 where
+pub record Heard (count limit : ℕ) (config : Config) (recording : Recording) (turns turns' : Option (List Turn)) (before now : Option (List ℕ)) : Type 0 where
   pub events : List Happening
+  pub count_is : length events ≡ count
+  pub limit_is : recording.books.scribe.limit ≡ limit
   pub stands : StandsAt config (stands_from config at_first events) recording
   pub agrees : Agrees config (recorded config events) recording.books
   pub gate : Grew turns turns' (turns_from config at_first events)
   pub tape : Grew before now (flat_map (item_text Two) (recorded config events))
 
 pub heard_none : (config : Config) (recording : Recording) (turns : Option (List Turn)) (written : Option (List ℕ)) → StandsAt config at_first recording
-    → Agrees config [] recording.books → Heard config recording turns turns written written
-heard_none config recording turns written s a = record { events = []; stands = s; agrees = a; gate = Grew-refl turns; tape = Grew-refl written }
+    → Agrees config [] recording.books → Heard 0 recording.books.scribe.limit config recording turns turns written written
+heard_none config recording turns written s a = record { events = []; count_is = refl; limit_is = refl; stands = s; agrees = a; gate = Grew-refl turns; tape = Grew-refl written }
 
-pub heard_more : (config : Config) (old new : Recording) (t t1 t2 : Option (List Turn)) (w w1 w2 : Option (List ℕ))
-    → Heard config old t t1 w w1 → HearsOne old new t1 t2 w1 w2 → Heard config new t t2 w w2
-heard_more config old new t t1 t2 w w1 w2 h one =
+pub heard_more : (count limit : ℕ) (config : Config) (old new : Recording) (t t1 t2 : Option (List Turn)) (w w1 w2 : Option (List ℕ))
+    → Heard count limit config old t t1 w w1 → HearsOne old new t1 t2 w1 w2 → Heard (count + 1) limit config new t t2 w w2
+heard_more count limit config old new t t1 t2 w w1 w2 h one =
     let now : Between = stands_from config at_first h.events in
     let o : (event : Happening) × Hears config now event old new t1 t2 w1 w2 = one config now h.stands in
     record {
       events = h.events ++ o.0 ∷ [];
+      count_is = omega (arith, h.count_is, length-append h.events (o.0 ∷ []));
+      limit_is = o.1.limit_is ∙ h.limit_is;
       stands = subst (λ (between : Between). StandsAt config between new) (sym (stands_more config at_first h.events o.0)) o.1.stands;
       agrees = subst (λ (told : List Timed). Agrees config told new.books) (sym (recorded_more config at_first h.events o.0))
           (o.1.agrees (recorded config h.events) h.agrees);
@@ -115,11 +125,11 @@ heard_more config old new t t1 t2 w w1 w2 h one =
           (Grew-trans w w1 w2 (flat_map (item_text Two) (recorded config h.events)) (flat_map (item_text Two) (timed_at config now o.0)) h.tape o.1.tape));
     }
 
-pub broken_behind : (config : Config) (old : Recording) (t t1 t2 : Option (List Turn)) (w w1 w2 : Option (List ℕ))
-    → Heard config old t t1 w w1 → BreaksOne old t1 t2 w1 w2 → Continues config t t2 w w2
-broken_behind config old t t1 t2 w w1 w2 h broke =
+pub broken_behind : {L M : Type 0} → (count limit : ℕ) (config : Config) (old : Recording) (t t1 t2 : Option (List Turn)) (w w1 w2 : Option (List ℕ))
+    → (M → L) → Heard count limit config old t t1 w w1 → BreaksOne L old t1 t2 w1 w2 → Continues M limit config t t2 w w2
+broken_behind {L} {M} count limit config old t t1 t2 w w1 w2 named h broke =
     let now : Between = stands_from config at_first h.events in
-    let b : Breaks config now t1 t2 w1 w2 = broke config now h.stands in
+    let b : Breaks L config now old.books.scribe t1 t2 w1 w2 = broke config now h.stands in
     record {
       earlier = h.events;
       last = b.last;
@@ -128,11 +138,21 @@ broken_behind config old t t1 t2 w w1 w2 h broke =
       fit = h.agrees.fit;
       told = b.told;
       tape = Grew-trans w w1 w2 (flat_map (item_text Two) (recorded config h.events)) (begun_text config now b.last b.told) h.tape b.tape;
+      full = λ limited. inl (let short = b.full (named limited) in omega (arith, short, h.limit_is, h.agrees.long));
     }
 
-pub ended_behind : (config : Config) (recording : Recording) (t t1 : Option (List Turn)) (w w1 : Option (List ℕ)) → Heard config recording t t1 w w1 → Continues config t t1 w w1
-ended_behind config recording t t1 w w1 h =
-    broken_behind config recording t t1 t1 w w1 w1 h (breaks_before recording t1 t1 w1 (Grew-refl t1))
+pub ended_behind : {L : Type 0} → (count limit : ℕ) (config : Config) (recording : Recording) (t t1 : Option (List Turn)) (w w1 : Option (List ℕ))
+    → count ≡ 2 ^ 64 - 1 → Heard count limit config recording t t1 w w1 → Continues L limit config t t1 w w1
+ended_behind {L} count limit config recording t t1 w w1 many h = record {
+  earlier = h.events;
+  last = None;
+  asked = 0;
+  gate = Grew-trans t t1 t1 (turns_from config at_first h.events) [] h.gate (Grew-refl t1);
+  fit = h.agrees.fit;
+  told = 0;
+  tape = Grew-trans w w1 w1 (flat_map (item_text Two) (recorded config h.events)) [] h.tape (Grew-refl w1);
+  full = λ limited. inr (h.count_is ∙ many);
+}
 
 told_all : (config : Config) (items : List Timed) → AllFrom Fits after (stands config Two 0) items → (limit : ℕ) → IsOctets (tape_text Two items)
     → TellsAll config limit items
@@ -143,9 +163,9 @@ told_all config items fit limit are =
     )
 
 -- behind the magic
-pub records_of : (config : Config) (t t' : Option (List Turn)) (w w1 w2 : Option (List ℕ)) → Grew w w1 (magic_of Two) → Continues config t t' w1 w2
+pub records_of : {L : Type 0} → (limit : ℕ) (config : Config) (t t' : Option (List Turn)) (w w1 w2 : Option (List ℕ)) → Grew w w1 (magic_of Two) → Continues L limit config t t' w1 w2
     → Records config t t' w w2
-records_of config t t' w w1 w2 magic c =
+records_of {L} limit config t t' w w1 w2 magic c =
     let now : Between = stands_from config at_first c.earlier in
     record {
       earlier = c.earlier;
@@ -173,6 +193,11 @@ pub err_to : {T E X Y : Type 0} (result : Result T E) → OnErr result X → (X 
 err_to (Ok t) x f = tt
 err_to (Err e) x f = f x
 
+-- an error of the gate doesn't name the limit
+pub never_failed : {T : Type 0} (result : Result T Stop) → IsErrAnd result (λ e. e ≡ Failed) → result ≡ Err TooLong → ⊥
+never_failed (Ok t) same limited = same
+never_failed (Err e) same limited = (let is : e ≡ TooLong = cc in let no : Failed ≡ TooLong = sym same ∙ is in absurd cc)
+
 -- A recorder that has just begun.
 pub begins_at : (config : Config) (recording : Recording) (limit : ℕ) → recording.books.desk.config ≡ config → recording.books.scribe ≡ begun limit
     → recording.seats ≡ [] → Stands empty_station recording → recording.swept ≡ 0 → StandsAt recording.books.desk.config at_first recording
@@ -185,7 +210,21 @@ begins_at config recording limit config_is scribe_is seats_are stands swept_is =
 }
 
 -- what follows the magic, of the configuration with which it began
-pub recorded_behind : (config : Config) (recording : Recording) (t t' : Option (List Turn)) (w w1 w2 : Option (List ℕ)) → recording.books.desk.config ≡ config
-    → Grew w w1 (magic_of Two) → Continues recording.books.desk.config t t' w1 w2 → RecordsAll config t t' w w2
-recorded_behind config recording t t' w w1 w2 is magic c =
-    inr (records_of config t t' w w1 w2 magic (subst (λ (c : Config). Continues c t t' w1 w2) is c))
+pub recorded_behind : {L : Type 0} → (limit : ℕ) (config : Config) (recording : Recording) (t t' : Option (List Turn)) (w w1 w2 : Option (List ℕ)) → recording.books.desk.config ≡ config
+    → Grew w w1 (magic_of Two) → Continues L limit recording.books.desk.config t t' w1 w2 → RecordsAll config t t' w w2
+recorded_behind {L} limit config recording t t' w w1 w2 is magic c =
+    inr (records_of limit config t t' w w1 w2 magic (subst (λ (c : Config). Continues L limit c t t' w1 w2) is c))
+
+-- and where the limit was named, it was met
+pub filled_behind : {L : Type 0} → (limit : ℕ) (config : Config) (recording : Recording) (t t' : Option (List Turn)) (w1 w2 : Option (List ℕ))
+    → recording.books.desk.config ≡ config → recording.books.scribe ≡ begun limit → Continues L recording.books.scribe.limit recording.books.desk.config t t' w1 w2
+    → L → Fills limit config t t'
+filled_behind {L} limit config recording t t' w1 w2 is begins c limited =
+    let all : Continues L limit config t t' w1 w2 =
+    subst (λ (n : ℕ). Continues L n config t t' w1 w2) (ap (λ (s : Scribed). s.limit) begins)
+    (subst (λ (k : Config). Continues L recording.books.scribe.limit k t t' w1 w2) is c) in
+    record { earlier = all.earlier; last = all.last; asked = all.asked; gate = all.gate; full = all.full limited }
+
+-- where the magic alone is as long as the limit
+pub filled_by_magic : (limit : ℕ) (config : Config) (t : Option (List Turn)) → limit ≤ 8 → Fills limit config t t
+filled_by_magic limit config t short = record { earlier = []; last = None; asked = 0; gate = Grew-refl t; full = inl short }

@@ -4,7 +4,7 @@ use Rattle.fs_base.{specs.{Gate.{Turn}, Happened.{FilesFailed}, Sink.{GrewPart}}
 use Rattle.fs_tape.specs.{Magic.{magic_of}, declared.magic.Version.TheVariants.{Two}}
 use Rattle.fs_recorder.specs.declared.stop.Stop.{Stop, TheVariants.{Failed, Memory as NoMemory, Limit as TooLong}}
 use Rattle.cmd_stages.specs.Refusal.{IsOfFile}
-use Rattle.cmd_wire.specs.Recording.{AtGate, EndsRecording, IsOfRecording, RecordsAll, RecordsSo, SomeFailed, refusal_by}
+use Rattle.cmd_wire.specs.Recording.{AtGate, EndsRecording, Fills, IsOfRecording, RecordsAll, RecordsSo, SomeFailed, refusal_by}
 
 -- the statuses
 
@@ -37,10 +37,11 @@ ends_config limit holds config call gate failed refusal (inr (inl h)) f = inr (i
 ends_config limit holds config call gate failed refusal (inr (inr h)) f = inr (inr (inl (ap status_of h.0, inl (f h.1))))
 
 pub ends_stop : (limit : ℕ) (holds : Names) (config : List ℕ) (call : Happened) (gate : AtGate) (accepted : Config) (stop : Stop)
-    → config_stage limit holds config ≡ Found accepted → (stop ≡ Failed → SomeFailed call gate) → EndsRecording limit holds config call gate (status_of (refusal_by stop))
-ends_stop limit holds config call gate accepted Failed found f = inr (inr (inl (refl, f refl)))
-ends_stop limit holds config call gate accepted NoMemory found f = inr (inl refl)
-ends_stop limit holds config call gate accepted TooLong found f = inr (inr (inr (accepted, found, refl)))
+    → config_stage limit holds config ≡ Found accepted → (stop ≡ Failed → SomeFailed call gate)
+    → (stop ≡ TooLong → Fills limit accepted gate.turns gate.turns_now) → EndsRecording limit holds config call gate (status_of (refusal_by stop))
+ends_stop limit holds config call gate accepted Failed found f full = inr (inr (inl (refl, f refl)))
+ends_stop limit holds config call gate accepted NoMemory found f full = inr (inl refl)
+ends_stop limit holds config call gate accepted TooLong found f full = inr (inr (inr (accepted, found, refl, full refl)))
 
 -- a gate that was opened in between
 pub some_failed : (s s' g g1 g2 : ℕ) (files : Type 0) → g ≤ g1 → Rose s s' ⊎ Rose g1 g2 → files ⊎ (Rose s s' ⊎ Rose g g2)
@@ -67,6 +68,15 @@ opened_first config t t1 t2 w w' opened (inr r) = inr (record {
   told = r.told;
   tape = r.tape;
 })
+
+pub opened_full : (limit : ℕ) (config : Config) (t t1 t2 : Option (List Turn)) → Grew t t1 [] → Fills limit config t1 t2 → Fills limit config t t2
+opened_full limit config t t1 t2 opened f = record {
+  earlier = f.earlier;
+  last = f.last;
+  asked = f.asked;
+  gate = Grew-trans t t1 t2 [] _ opened f.gate;
+  full = f.full;
+}
 
 -- of the configuration that was accepted
 pub records_so : (limit : ℕ) (holds : Names) (config : List ℕ) (accepted : Config) (call : Happened) (gate : AtGate) → config_stage limit holds config ≡ Found accepted

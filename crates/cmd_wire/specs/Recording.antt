@@ -1,10 +1,10 @@
 -- What `record` answers, what it asks of its gate, and what it writes.
-use Rattle.std.specs.Prelude.{ℕ, List, [], ◌∷◌, ◌++◌, Option, Some, None, ◌≡◌, ◌⊎◌, ◌↔◌, ◌<◌, flat_map, length, take, max}
+use Rattle.std.specs.Prelude.{ℕ, List, [], ◌∷◌, ◌++◌, Option, Some, None, ◌≡◌, ◌⊎◌, ◌↔◌, ◌<◌, ◌≤◌, ◌+◌, ◌-◌, ◌^◌, flat_map, length, take, max}
 use Rattle.fs_base.specs.{Gate.{Turn, came, what_from}, Happened.{Happened, FilesFailed, SinkFailed}, Language.{IsOctets}, Outside.{Rose}, Sink.{Grew, GrewPart}, declared.config.Config.{Config}, declared.Event.{Event}}
 use Rattle.fs_base.specs.declared.Gate as gate
 use Rattle.fs_input.specs.{Parts.{AllFrom}, Records.{done}}
 use Rattle.fs_tape.specs.{Laws.{Fits, after, item_text, tape_text}, Magic.{magic_of}, Tape.{Timed, stands, tape_of}, declared.magic.Version.TheVariants.{Two}}
-use Rattle.fs_recorder.specs.{Books.{Agrees}, Deeds.{AreKnown, Recording, asked_in, items_of, text_at, told_at}, Steps.{Between, Happening, at_first, behind, recorded, stands_from, step_at, turns_from}, Works.{Stands}, declared.stop.Stop.{Stop, TheVariants.{Failed, Memory as NoMemory, Limit as TooLong}}}
+use Rattle.fs_recorder.specs.{Books.{Agrees}, Deeds.{AreKnown, Recording, asked_in, items_of, text_at, told_at}, Steps.{Between, Happening, at_first, behind, recorded, stands_from, step_at, turns_from}, Tapes.{Scribed}, Works.{Stands}, declared.stop.Stop.{Stop, TheVariants.{Failed, Memory as NoMemory, Limit as TooLong}}}
 use Rattle.cmd_stages.specs.{Load.{Names, config_stage}, Refusal.{Found, Stopped, status_of}, declared.refusal.Refusal.{Refusal, TheVariants.{Outside, Memory, Limit}}}
 
 -- What a gate tells before a call and behind it. Clauses take it as one argument.
@@ -33,11 +33,15 @@ begun_turns config now None count = []
 begun_turns config now (Some event) count =
     came event.moment event.time event.what ∷ take count (asked_in (step_at config now event).deeds)
 
--- and so many octets of the records that it tells
+-- the records that are due for it
+abbrev pub due_text : Config → Between → Option Happening → List ℕ
+due_text config now None = []
+due_text config now (Some event) = text_at (max now.moment event.moment) (items_of (step_at config now event).deeds)
+
+-- and so many octets of them
 abbrev pub begun_text : Config → Between → Option Happening → (count : ℕ) → List ℕ
 begun_text config now None count = []
-begun_text config now (Some event) count =
-    take count (text_at (max now.moment event.moment) (items_of (step_at config now event).deeds))
+begun_text config now (Some event) count = take count (due_text config now (Some event))
 
 -- a reader of the tape of these items is given them, and is done, exactly where the tape lies below its limit
 abbrev pub TellsAll : Config → (limit : ℕ) → List Timed → Type 0
@@ -55,6 +59,21 @@ pub record Records (config : Config) (turns turns' : Option (List Turn)) (before
   -- Whoever reads the tape of what was told until then is given exactly that, where it lies below the reader's limit.
   pub read_back : (limit : ℕ) → IsOctets (tape_text Two (recorded config earlier)) → TellsAll config limit (recorded config earlier)
 
+-- These events were heard, and perhaps one more came: with the records of all of them the tape is as long as the limit, or
+-- 2^64 - 1 were heard.
+abbrev pub IsFull : (limit : ℕ) → Config → (earlier : List Happening) → (last : Option Happening) → Type 0
+IsFull limit config earlier last =
+    (limit ≤ length (tape_text Two (recorded config earlier)) + length (due_text config (stands_from config at_first earlier) last))
+    ⊎ (length earlier ≡ 2 ^ 64 - 1)
+
+-- So of the events that the gate has told.
+pub record Fills (limit : ℕ) (config : Config) (turns turns' : Option (List Turn)) : Type 0 where
+  pub earlier : List Happening
+  pub last : Option Happening
+  pub asked : ℕ
+  pub gate : Grew turns turns' (turns_from config at_first earlier ++ begun_turns config (stands_from config at_first earlier) last asked)
+  pub full : IsFull limit config earlier last
+
 -- Nothing came yet, and at most a front of the magic was written.
 pub record IsUnbegun (turns turns' : Option (List Turn)) (before now : Option (List ℕ)) : Type 0 where
   pub gate : Grew turns turns' []
@@ -70,13 +89,14 @@ RecordsSo limit holds config call gate =
     (accepted : Config) → config_stage limit holds config ≡ Found accepted
     → RecordsAll accepted gate.turns gate.turns_now call.before.written call.now.written
 
--- Why it ended: the configuration isn't accepted, memory was wanting, a call on the outside failed, or the tape would become
--- too long.
+-- Why it ended: the configuration isn't accepted, memory was wanting, a call on the outside failed, or the records of what
+-- came make the tape as long as the limit (or more came than can be counted).
 abbrev pub EndsRecording : (limit : ℕ) (holds : Names) → (config : List ℕ) → Happened → AtGate → ℕ → Type 0
 EndsRecording limit holds config call gate answer =
     ((refusal : Refusal) × (config_stage limit holds config ≡ Stopped refusal) × (answer ≡ status_of refusal))
     ⊎ (answer ≡ 6) ⊎ ((answer ≡ 1) × SomeFailed call gate)
-    ⊎ ((accepted : Config) × (config_stage limit holds config ≡ Found accepted) × (answer ≡ 7))
+    ⊎ ((accepted : Config) × (config_stage limit holds config ≡ Found accepted) × (answer ≡ 7)
+    × Fills limit accepted gate.turns gate.turns_now)
 
 -- a status that it may end with
 abbrev pub IsOfRecording : ℕ → Type 0
@@ -96,6 +116,7 @@ pub record Hears (config : Config) (now : Between) (event : Happening) (old new 
   pub stands : StandsAt config (behind config now event) new
   pub gate : Grew turns turns' (came event.moment event.time event.what ∷ asked_in (step_at config now event).deeds)
   pub tape : Grew before now' (text_at (max now.moment event.moment) (items_of (step_at config now event).deeds))
+  pub limit_is : new.books.scribe.limit ≡ old.books.scribe.limit
   pub agrees : (told : List Timed) → Agrees config told old.books
       → Agrees config (told ++ told_at (max now.moment event.moment) (items_of (step_at config now event).deeds)) new.books
 
@@ -113,20 +134,23 @@ turn_of event into = came event.moment event.time (what_from event.came into)
 abbrev pub BehindTurn : Turn → Option (List Turn) → (Option (List Turn) → Type 0) → Type 0
 BehindTurn turn now P = (before : Option (List Turn)) → Grew before now (turn ∷ []) → P before
 
--- It was broken off at an event, or before one came.
-pub record Breaks (config : Config) (between : Between) (turns turns' : Option (List Turn)) (before now : Option (List ℕ)) : Type 0 where
+-- It was broken off at an event, or before one came; and where the limit was named, the records of the event would make the
+-- tape as long as it.
+pub record Breaks (limited : Type 0) (config : Config) (between : Between) (scribe : Scribed) (turns turns' : Option (List Turn)) (before now : Option (List ℕ)) : Type 0 where
   pub last : Option Happening
   pub asked : ℕ
   pub gate : Grew turns turns' (begun_turns config between last asked)
   pub told : ℕ
   pub tape : Grew before now (begun_text config between last told)
+  pub full : limited → scribe.limit ≤ scribe.written + length (due_text config between last)
 
-abbrev pub BreaksOne : Recording → (turns turns' : Option (List Turn)) → (before now : Option (List ℕ)) → Type 0
-BreaksOne old turns turns' before now =
-    (config : Config) (between : Between) → StandsAt config between old → Breaks config between turns turns' before now
+abbrev pub BreaksOne : (limited : Type 0) → Recording → (turns turns' : Option (List Turn)) → (before now : Option (List ℕ)) → Type 0
+BreaksOne limited old turns turns' before now =
+    (config : Config) (between : Between) → StandsAt config between old → Breaks limited config between old.books.scribe turns turns' before now
 
--- Behind the magic, and before the first event, so many events came, and perhaps one more.
-pub record Continues (config : Config) (turns turns' : Option (List Turn)) (before now : Option (List ℕ)) : Type 0 where
+-- Behind the magic, and before the first event, so many events came, and perhaps one more; and where the limit was named, it
+-- was met.
+pub record Continues (limited : Type 0) (limit : ℕ) (config : Config) (turns turns' : Option (List Turn)) (before now : Option (List ℕ)) : Type 0 where
   pub earlier : List Happening
   pub last : Option Happening
   pub asked : ℕ
@@ -134,6 +158,7 @@ pub record Continues (config : Config) (turns turns' : Option (List Turn)) (befo
   pub fit : AllFrom Fits after (stands config Two 0) (recorded config earlier)
   pub told : ℕ
   pub tape : Grew before now (flat_map (item_text Two) (recorded config earlier) ++ begun_text config (stands_from config at_first earlier) last told)
+  pub full : limited → IsFull limit config earlier last
 
 -- the refusal that ends a command where recording ends so
 abbrev pub refusal_by : Stop → Refusal

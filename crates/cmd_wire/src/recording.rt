@@ -4,7 +4,7 @@ ghost use Rattle.std.specs.{Prelude.{◌≡◌, ◌≤◌, ◌<◌, ◌⊎◌, [
 ghost use Rattle.fs_base.specs.{Gate.{FitsIn, Tells}, Happened.{happened}, Outside.{HasCause, Rose}};
 ghost use Rattle.fs_recorder.specs.{Books.{Agrees}, Deeds.{AreKnown}, Steps.{at_first}};
 ghost use Rattle.cmd_stages.specs.{Load.{OpensFront, config_alone, config_stage}, Refusal.{Stopped, answered}, declared.refusal.Refusal.{Refusal as Cause}};
-ghost use Rattle.cmd_wire.specs.Recording.{BehindTurn, BreaksOne, Continues, EndsRecording, HearsOne, IsOfRecording, RecordsAll, RecordsSo, StandsAt, at_gate, refusal_by, turn_of};
+ghost use Rattle.cmd_wire.specs.Recording.{BehindTurn, BreaksOne, Continues, EndsRecording, Fills, HearsOne, IsOfRecording, RecordsAll, RecordsSo, StandsAt, at_gate, refusal_by, turn_of};
 
 use cmd_stages::{Refusal, load_config};
 use fs_base::{Config, Event, Failed, Files, Gate, Sink};
@@ -84,6 +84,7 @@ fn follow<G: Gate, S: Sink>(
         → Rose (S.faults sink.old) (S.faults sink.new) ⊎ Rose (G.faults gate.old) (G.faults gate.new) }
     ensures records { RecordsAll config.now
         (G.turns gate.old) (G.turns gate.new) (S.written sink.old) (S.written sink.new) }
+    ensures full { IsErrOf result Stop.Limit → Fills limit config.now (G.turns gate.old) (G.turns gate.new) }
 {
     let mut buffer = vec![in alloc; 0u8; HEAD_SIZE + LONGEST_PAYLOAD]?;
     let mut recorder = Recorder::begin(alloc, config, limit, sink)?;
@@ -104,7 +105,7 @@ fn hear_all<G: Gate, S: Sink>(
     ensures later { (G.faults gate.old ≤ G.faults gate.new) × (S.faults sink.old ≤ S.faults sink.new) }
     ensures failed { IsErrOf result Stop.Failed
         → Rose (S.faults sink.old) (S.faults sink.new) ⊎ Rose (G.faults gate.old) (G.faults gate.new) }
-    ensures continues { Continues recorder.old.books.desk.config
+    ensures continues { Continues (IsErrOf result Stop.Limit) recorder.old.books.scribe.limit recorder.old.books.desk.config
         (G.turns gate.old) (G.turns gate.new) (S.written sink.old) (S.written sink.new) }
 {
     for _ in 0..u64::MAX {
@@ -128,7 +129,7 @@ fn hear_next<G: Gate, S: Sink>(
         → Rose (S.faults sink.old) (S.faults sink.new) ⊎ Rose (G.faults gate.old) (G.faults gate.new) }
     ensures hears { OnOk result (HearsOne recorder.old recorder.new
         (G.turns gate.old) (G.turns gate.new) (S.written sink.old) (S.written sink.new)) }
-    ensures breaks { OnErr result (BreaksOne recorder.old
+    ensures breaks { OnErr result (BreaksOne (IsErrOf result Stop.Limit) recorder.old
         (G.turns gate.old) (G.turns gate.new) (S.written sink.old) (S.written sink.new)) }
 {
     let event = next_event(buffer, gate)?;
@@ -164,7 +165,7 @@ fn hear_one<G: Gate, S: Sink>(
     ensures hears { OnOk result (BehindTurn (turn_of event (drop 15 buffer.old)) (G.turns gate.old) (λ before.
         HearsOne recorder.old recorder.new before (G.turns gate.new) (S.written sink.old) (S.written sink.new))) }
     ensures breaks { OnErr result (BehindTurn (turn_of event (drop 15 buffer.old)) (G.turns gate.old) (λ before.
-        BreaksOne recorder.old before (G.turns gate.new) (S.written sink.old) (S.written sink.new))) }
+        BreaksOne (IsErrOf result Stop.Limit) recorder.old before (G.turns gate.new) (S.written sink.old) (S.written sink.new))) }
 {
     recorder.hear(event, buffer, gate, sink)
 }

@@ -1,5 +1,5 @@
 use Rattle.fs_base.{proofs.Grew.{Grew-refl}, specs.Happened.{happened}}
-use Rattle.cmd_wire.{specs.Recording.{IsOfRecording, at_gate}, proofs.{Words.{Err, Outside, answered_err, ap, arith, config_alone, inl, opened_due, refl, sym, status_of, ◌∙◌}, Statuses.{not_stopped}, RecordingEnds.{config_status, ends_stop, ends_unopened, ends_unread, never_three, opened_first, records_so, some_failed, stop_status, unbegun}}}
+use Rattle.cmd_wire.{specs.Recording.{IsOfRecording, at_gate}, proofs.{Words.{Err, Outside, answered_err, ap, arith, config_alone, inl, opened_due, refl, sym, status_of, ◌∙◌}, Statuses.{not_stopped}, RecordingEnds.{config_status, ends_stop, ends_unopened, ends_unread, never_three, opened_first, opened_full, records_so, some_failed, stop_status, unbegun}}}
 use Rattle.cmd_wire.proofs.recording.record_sessions.Goals as goal
 
 -- the configuration stopped it
@@ -68,7 +68,9 @@ returns-clause-ends g c = λ told.
     (happened g.F.Files g.S.Sink c.args.files.now c.load_config.new.files c.args.sink.now c.follow.new.sink) (at_gate g.G.Gate c.args.gate.now c.follow.new.gate)
     c.in_ok-config.config c.in-Err.stop (c.in_ok-config.ensures.reaches told)
     (λ e. some_failed _ _ _ (g.G.Gate.faults c.open.new.self) _ _ c.in_ok-open.ensures.cause.later
-    (c.follow.ensures.failed (c.in-Err.is ∙ ap Err e))))
+    (c.follow.ensures.failed (c.in-Err.is ∙ ap Err e)))
+    (λ e. opened_full c.args.order.now.limit c.in_ok-config.config _ (g.G.Gate.turns c.open.new.self) _ c.in_ok-open.ensures.opened
+    (c.follow.ensures.full (c.in-Err.is ∙ ap Err e))))
 
 pub returns-clause-records : goal.returns-clause-records
 returns-clause-records g c = λ told.
