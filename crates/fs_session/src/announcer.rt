@@ -35,7 +35,7 @@ impl<'a> Model for Announcer<'a> {
 
 impl<'a> Announcer<'a> {
     ghost use Rattle.std.specs.Prelude.{◌≡◌, ◌<◌, ◌≤◌, length, false, IfOk, IfSome};
-    ghost use Rattle.fs_session.specs.{Announcer.{announcing, with_line, machine_in, counted, without_update, StaysEnded, StartsOpen, SaysOpen, FeedsEnd, TicksEnd, CanSend}, Line.{fresh, state_in, closed_after}, Sending.{sender_of}};
+    ghost use Rattle.fs_session.specs.{Announcer.{announcing, with_line, machine_in, counted, without_update, StaysEnded, StartsOpen, SaysOpen, FeedsEnd, TicksEnd, CanSend}, Line.{fresh, state_in, closed_after}, Sending.{needs_of, sender_of}, Transition.{terms_of}};
 
     /// The end of the peer with the lowest number, before its OPEN.
     pub fn new(alloc: Global, config: &'a Config, sending: Sending) -> Result<Announcer<'a>, Memory>
@@ -145,6 +145,21 @@ impl<'a> Announcer<'a> {
                 Err(Closed::Memory)
             }
         }
+    }
+
+    /// The terms on which it writes UPDATEs (RFC 6793, section 4.1), as the other's OPEN has them; before it AS numbers
+    /// have two octets.
+    pub fn terms(&self) -> Terms
+        ensures { result ≡ terms_of self.now.config self.now.peer self.now.line.phase.four }
+    {
+        terms(self.config, &self.peer, self.line.four())
+    }
+
+    /// The families that the other's OPEN has to have.
+    pub fn needs(&self) -> Needs
+        ensures { result ≡ needs_of self.now.sending.rules }
+    {
+        self.needs
     }
 
     /// What has closed the end; None while it is open.

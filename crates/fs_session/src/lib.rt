@@ -15,6 +15,7 @@ pub use announcer::Announcer;
 pub use laws::{
     pieces_join, rules_arrive, rules_come_back, steps_make_the_session, steps_make_what_is_handed,
 };
-pub use sending::{Sending, Sent, SentList, sender};
+pub use sending::{Sending, Sent, SentList, append_rule, sender};
 pub use session::Session;
+pub use side::Needs;
 pub use state::{Closed, Fed, Standing, State};

@@ -117,8 +117,9 @@ fn are_positive(numbers: &[u32]) -> bool
     numbers.iter().all(|asn| 0 < *asn)
 }
 
-/// Appends the UPDATE of a rule that fits. After `Memory` `out` is as it was.
-pub(crate) fn append_rule(
+/// Appends the UPDATE of a rule that fits, as it is sent on these terms under these AS numbers. After `Memory` `out` is as
+/// it was.
+pub fn append_rule(
     terms: &Terms,
     numbers: &Numbers,
     sent: &Sent,
