@@ -295,6 +295,19 @@ def case_shared(folder):
         judge(recorder, routers, routers)
 
 
+def case_told_apart(folder):
+    """Two peers of one address: a connection is the one's whose AS its OPEN names, and one that says nothing is no one's."""
+    first, second = peers_of(2, 10)
+    with Recorder(folder, [first, second._replace(address=first.address)], "127.0.10.254") as recorder:
+        routers = recorder.routers()
+        with recorder.connect(first.address):
+            for number, router in enumerate(reversed(routers)):
+                router.comes_up()
+                router.announces(number)
+            waits_for(lambda: all(router.is_recorded() for router in routers), "all that was said is on the tape")
+        judge(recorder, routers, routers)
+
+
 def floods(router):
     """Rules and rules, until the recorder goes."""
     try:
@@ -526,6 +539,7 @@ CASES = {
     "routers": case_routers,
     "replaced": case_replaced,
     "shared": case_shared,
+    "told apart": case_told_apart,
     "killed": case_killed,
     "full": case_full,
     "refused": case_refused,

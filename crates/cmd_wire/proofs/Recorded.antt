@@ -6,7 +6,7 @@ use Rattle.fs_input.specs.Parts.{AllFrom}
 use Rattle.fs_tape.{proofs.ReadsBack.{reads_back}, specs.{Laws.{Fits, after, item_text, tape_text}, Magic.{magic_of}, Tape.{Timed, stands}, declared.magic.Version.TheVariants.{Two}}}
 use Rattle.std.specs.Result.{IsErrAnd}
 use Rattle.fs_recorder.specs.declared.stop.Stop.{Stop, TheVariants.{Failed, Limit as TooLong}}
-use Rattle.fs_recorder.specs.{Books.{Agrees}, Deeds.{AreKnown, Recording, StayKnown, asked_in, items_of, passing, text_at, told_at}, Steps.{Between, Happening, at_first, empty_station, hears, recorded, stands_from, step_at, swept_after, turns_from}, Tapes.{Scribed, begun}, Works.{BreaksAt, BreaksSo, DidHear, DoesStep, Stands}}
+use Rattle.fs_recorder.specs.{Books.{Agrees}, Deeds.{AreKnown, Recording, StayKnown, asked_in, items_of, passing, text_at, told_at}, Door.{AtDoor, empty_door}, Steps.{Between, Happening, at_first, behind, door_after, empty_station, hears, recorded, stands_from, step_at, turns_from}, Tapes.{Scribed, begun}, Works.{BreaksAt, BreaksSo, DidHear, DoesStep, Stands}, declared.seats.Seat.{Seat}}
 use Rattle.cmd_wire.specs.Recording.{Breaks, BreaksOne, Continues, Fills, Hears, HearsOne, IsFull, Records, RecordsAll, StandsAt, TellsAll, begun_text, begun_turns, due_text}
 
 -- the clock on the wall says another moment
@@ -36,22 +36,24 @@ module _ (old new : Recording) (moment time : ℕ) (what : What) (small : moment
     known = s.known;
   }
 
-  pub hears_of : DidHear (swept_after old.swept time) (hears old.books.desk.config old.swept time what) (passing moment old) new t1 t2 w w'
+  pub hears_of : DidHear (door_after old.books.desk.config time what old.seats old.door) (hears old.books.desk.config old.door time what) (passing moment old) new t1 t2 w w'
       → StayKnown (passing moment old) new → HearsOne old new t t2 w w'
   hears_of did stay config between s =
-      let d : DoesStep (swept_after old.swept time) (hears old.books.desk.config old.swept time what between.station) (passing moment old) new t1 t2 w w' =
+      let d : DoesStep (door_after old.books.desk.config time what old.seats old.door) (hears old.books.desk.config old.door time what between.station) (passing moment old) new t1 t2 w w' =
       did between.station (passed_stands between s.stands) in
-      let d : DoesStep (swept_after old.swept time) (hears config old.swept time what between.station) (passing moment old) new t1 t2 w w' =
-      subst (λ (c : Config). DoesStep (swept_after old.swept time) (hears c old.swept time what between.station) (passing moment old) new t1 t2 w w') s.config_is d in
-      let d : DoesStep (swept_after between.swept time) (step_at config between event) (passing moment old) new t1 t2 w w' =
-      subst (λ (n : ℕ). DoesStep (swept_after n time) (hears config n time what between.station) (passing moment old) new t1 t2 w w') s.swept_is d in
+      let d : DoesStep (door_after config time what old.seats old.door) (hears config old.door time what between.station) (passing moment old) new t1 t2 w w' =
+      subst (λ (c : Config). DoesStep (door_after c time what old.seats old.door) (hears c old.door time what between.station) (passing moment old) new t1 t2 w w') s.config_is d in
+      let d : DoesStep (door_after config time what old.seats between.door) (step_at config between event) (passing moment old) new t1 t2 w w' =
+      subst (λ (door : AtDoor). DoesStep (door_after config time what old.seats door) (hears config door time what between.station) (passing moment old) new t1 t2 w w') s.door_is d in
+      let d : DoesStep (behind config between event).door (step_at config between event) (passing moment old) new t1 t2 w w' =
+      subst (λ (seats : List Seat). DoesStep (door_after config time what seats between.door) (step_at config between event) (passing moment old) new t1 t2 w w') s.stands.seats_are d in
       let at : max old.books.scribe.moment moment ≡ max between.moment moment = ap (λ (n : ℕ). max n moment) s.moment_is in (
         event,
         record {
           stands = record {
             config_is = d.does.config_is ∙ s.config_is;
             stands = d.stands;
-            swept_is = d.swept_is;
+            door_is = d.door_is;
             moment_is = d.does.moment_is ∙ at;
             known = subst (λ (c : Config). AreKnown c new.seats) (d.does.config_is ∙ s.config_is)
                 (stay (subst (λ (c : Config). AreKnown c old.seats) (sym s.config_is) s.known));
@@ -65,14 +67,14 @@ module _ (old new : Recording) (moment time : ℕ) (what : What) (small : moment
         },
       )
 
-  pub breaks_of : {L : Type 0} → BreaksSo L (hears old.books.desk.config old.swept time what) (passing moment old) t1 t2 w w' → BreaksOne L old t t2 w w'
+  pub breaks_of : {L : Type 0} → BreaksSo L (hears old.books.desk.config old.door time what) (passing moment old) t1 t2 w w' → BreaksOne L old t t2 w w'
   breaks_of {L} broke config between s =
-      let b : BreaksAt L (hears old.books.desk.config old.swept time what between.station).deeds (passing moment old).books t1 t2 w w' =
+      let b : BreaksAt L (hears old.books.desk.config old.door time what between.station).deeds (passing moment old).books t1 t2 w w' =
       broke between.station (passed_stands between s.stands) in
-      let b : BreaksAt L (hears config old.swept time what between.station).deeds (passing moment old).books t1 t2 w w' =
-      subst (λ (c : Config). BreaksAt L (hears c old.swept time what between.station).deeds (passing moment old).books t1 t2 w w') s.config_is b in
+      let b : BreaksAt L (hears config old.door time what between.station).deeds (passing moment old).books t1 t2 w w' =
+      subst (λ (c : Config). BreaksAt L (hears c old.door time what between.station).deeds (passing moment old).books t1 t2 w w') s.config_is b in
       let b : BreaksAt L (step_at config between event).deeds (passing moment old).books t1 t2 w w' =
-      subst (λ (n : ℕ). BreaksAt L (hears config n time what between.station).deeds (passing moment old).books t1 t2 w w') s.swept_is b in
+      subst (λ (door : AtDoor). BreaksAt L (hears config door time what between.station).deeds (passing moment old).books t1 t2 w w') s.door_is b in
       let at : max old.books.scribe.moment moment ≡ max between.moment moment = ap (λ (n : ℕ). max n moment) s.moment_is in
       let front : b.asked ≡ take (length b.asked) (asked_in (step_at config between event).deeds) =
       sym (take-append_seam b.asked b.later) ∙ ap (take (length b.asked)) b.front in
@@ -200,11 +202,11 @@ never_failed (Err e) same limited = (let is : e ≡ TooLong = cc in let no : Fai
 
 -- A recorder that has just begun.
 pub begins_at : (config : Config) (recording : Recording) (limit : ℕ) → recording.books.desk.config ≡ config → recording.books.scribe ≡ begun limit
-    → recording.seats ≡ [] → Stands empty_station recording → recording.swept ≡ 0 → StandsAt recording.books.desk.config at_first recording
-begins_at config recording limit config_is scribe_is seats_are stands swept_is = record {
+    → recording.seats ≡ [] → Stands empty_station recording → recording.door ≡ empty_door → StandsAt recording.books.desk.config at_first recording
+begins_at config recording limit config_is scribe_is seats_are stands door_is = record {
   config_is = refl;
   stands = stands;
-  swept_is = swept_is;
+  door_is = door_is;
   moment_is = ap (λ (s : Scribed). s.moment) scribe_is;
   known = subst (AreKnown recording.books.desk.config) (sym seats_are) tt;
 }

@@ -106,7 +106,7 @@ IsOfRecording answer = (answer ≡ 1) ⊎ (answer ≡ 3) ⊎ (answer ≡ 6) ⊎ 
 pub record StandsAt (config : Config) (now : Between) (recording : Recording) : Type 0 where
   pub config_is : recording.books.desk.config ≡ config
   pub stands : Stands now.station recording
-  pub swept_is : recording.swept ≡ now.swept
+  pub door_is : recording.door ≡ now.door
   pub moment_is : recording.books.scribe.moment ≡ now.moment
   pub known : AreKnown config recording.seats
 

@@ -1,5 +1,5 @@
 -- Of each peer the items come in turn.
-use Rattle.fs_recorder.proofs.{PlaceWords.{Bool, List, None, Option, Some, eqb-true, [], ap, false, not, refl, subst, sym, true, ℕ, ◌++◌, ◌==◌, ◌∙◌, ◌∷◌, ◌≡◌, map-append, AllByRecursion, filter, find, if◌then◌else◌, map, Address, Config, Point, Item, received, was_lost, Deed, items_of, leaves, says, shuts, tells, What, ended, gave, made, nothing, taken, Place, Station, Step, checks, checks_peer, doing, ends, expires, follows, handed_point, hears, hears_octets, hurries, hurries_where_late, is_due, is_early, is_established, moved, peer_for, peers_at, place_for, place_of, places_without, receives, replaces, replies_to, resting, seat_at, seats_one, settles, speaks, sweeps, sweeps_all, sweeps_where_due, taken_by, takes, then_do, vacates, wakes, woken, is_closed, standing_of, AreApart}, Doing.{items_both, says_items}, Places.{apart_left, eq_flip, others_left, peers_moved}, Placing.{Apart, IsOther, apart_more, others_of_none}, Recorded.{items_told}}
+use Rattle.fs_recorder.proofs.{PlaceWords.{Bool, List, None, Option, Some, eqb-true, [], ap, false, not, refl, subst, sym, true, ℕ, ◌++◌, ◌==◌, ◌∙◌, ◌∷◌, ◌≡◌, map-append, AllByRecursion, filter, find, if◌then◌else◌, map, Address, Config, Point, Item, received, was_lost, Deed, items_of, leaves, says, shuts, tells, What, ended, gave, made, nothing, taken, AtDoor, Guest, door_after, door_with, guest_of, has_time, late_lines, said_as, swept_at, swept_where_due, with_guest, without_guest, Place, Station, Step, admits, checks, checks_peer, doing, ends, expires, follows, handed_point, hears, hears_octets, hurries, hurries_where_late, is_due, is_early, is_established, moved, peer_for, peers_at, place_for, place_of, places_without, receives, replaces, replies_to, resting, seat_at, seats_one, settles, speaks, sweeps, sweeps_all, sweeps_where_due, taken_by, takes, then_do, turns_away, vacates, waits, wakes, woken, is_closed, standing_of, AreApart}, Doing.{items_both, says_items, shuts_items}, Places.{apart_left, eq_flip, others_left, peers_moved}, Placing.{Apart, IsOther, apart_more, found_is, more_are, others_of_none}, Recorded.{items_told}}
 use Rattle.std.proofs.Common.{inl, inr, ◌⊎◌, ◌||◌}
 use Rattle.std.specs.Prelude.{max}
 use Rattle.fs_base.proofs.NumberTests.{eq_itself}
@@ -275,11 +275,23 @@ module _ (P : ℕ → Type 0) where
         turn_then station (checks_peer time peer station) (sweeps time peers) first
         (turn_sweeps peers (checks_peer time peer station).station (behind_step station (checks_peer time peer station) first))
 
-    turn_where_due : (swept : ℕ) (station : Station) → Good P station → TurnStep P station (sweeps_where_due swept time station)
-    turn_where_due swept station good = by (is_due swept time)
+    turn_away : (guests : List Guest) (station : Station) → Good P station → TurnStep P station (turns_away time guests station)
+    turn_away guests station good =
+        let none = shuts_items (late_lines time guests) in
+        record {
+          turns = subst (Turns (peers_at station.places)) (sym none) tt;
+          up_is = ap (ups (peers_at station.places)) none;
+          orderly = good.orderly;
+          each = good.each;
+        }
+
+    turn_where_due : (door : AtDoor) (station : Station) → Good P station → TurnStep P station (sweeps_where_due door time station)
+    turn_where_due door station good = by (is_due door.swept time)
       where
-        by : (b : Bool) → TurnStep P station (if b then sweeps_all time station else resting station)
-        by true = turn_sweeps (peers_at station.places) station good
+        by : (b : Bool) → TurnStep P station (if b then then_do (turns_away time door.guests station) (sweeps_all time) else resting station)
+        by true =
+            turn_then station (turns_away time door.guests station) (sweeps_all time) (turn_away door.guests station good)
+            (turn_sweeps (peers_at station.places) station good)
         by false = turn_rests station good
 
     turn_speaks : (config : Config) (place : Place) (piece : List ℕ) (station : Station) → Sits place.line place.peer station.places → Good P station
@@ -363,68 +375,221 @@ turn_replaces P line peer time station good one others =
       each = lines_more P places place first.each one;
     })
 
-turn_takes : (P : ℕ → Type 0) (config : Config) (line : ℕ) (from : Address) (time : ℕ) (station : Station) → Good P station → P line
-    → AllByRecursion (λ (other : ℕ). (other == line) ≡ false) (lines_at station.places) → TurnStep P station (takes config line from time station)
-turn_takes P config line from time station good one others = by (peer_for config from (map seat_at station.places))
+turn_takes : (P : ℕ → Type 0) (config : Config) (line : ℕ) (from : Address) (told : Option ℕ) (since : ℕ) (station : Station) → Good P station → P line
+    → AllByRecursion (λ (other : ℕ). (other == line) ≡ false) (lines_at station.places) → TurnStep P station (takes config line from told since station)
+turn_takes P config line from told since station good one others = by (peer_for config from told (map seat_at station.places))
   where
     by : (found : Option ℕ)
-        → TurnStep P station (elim found [ None ↦ doing (shuts line ∷ []) station.places station | Some peer ↦ replaces line peer time station ])
+        → TurnStep P station (elim found [ None ↦ doing (shuts line ∷ []) station.places station | Some peer ↦ replaces line peer since station ])
     by None = record { turns = tt; up_is = refl; orderly = good.orderly; each = good.each }
-    by (Some peer) = turn_replaces P line peer time station good one others
+    by (Some peer) = turn_replaces P line peer since station good one others
 
--- lines that were taken before are others than a new one
-others_of_new : (line : ℕ) (used lines : List ℕ) → is_in line used ≡ false → AllByRecursion (IsAmong used) lines
-    → AllByRecursion (λ (other : ℕ). (other == line) ≡ false) lines
-others_of_new line used [] new all = tt
-others_of_new line used (first ∷ lines) new all = (by (first == line) refl, others_of_new line used lines new all.1)
+-- the line of one that is found
+found_line : (line : ℕ) (guests : List Guest) (guest : Guest) → guest_of line guests ≡ Some guest → guest.line ≡ line
+found_line line [] guest e = absurd cc
+found_line line (first ∷ guests) guest e = by (first.line == line) refl (found_line line guests guest) e
   where
-    by : (b : Bool) → (first == line) ≡ b → b ≡ false
-    by true e =
-        let here : is_in line used ≡ true = subst (λ n. is_in n used ≡ true) (eqb-true first line e) all.0 in
-        let both : true ≡ false = sym here ∙ new in
-        both
+    by : (b : Bool) → (first.line == line) ≡ b → (guest_of line guests ≡ Some guest → guest.line ≡ line)
+        → (if b then Some first else guest_of line guests) ≡ Some guest → guest.line ≡ line
+    by true is rest f = let same : first ≡ guest = cc in ap (λ (g : Guest). g.line) (sym same) ∙ eqb-true first.line line is
+    by false is rest f = rest f
+
+-- A line that was taken before, and waits no more.
+record IsPlaced (used : List ℕ) (guests : List Guest) (line : ℕ) : Type 0 where
+  among : IsAmong used line
+  others : AllByRecursion (λ (guest : Guest). (line == guest.line) ≡ false) guests
+
+-- those that wait were taken before
+abbrev Wait : List ℕ → List Guest → Type 0
+Wait used guests = AllByRecursion (λ (guest : Guest). IsAmong used guest.line) guests
+
+among_more : (line : ℕ) (used : List ℕ) (other : ℕ) → IsAmong used other → IsAmong (line ∷ used) other
+among_more line used other is = or_true (line == other) (is_in other used) is
+
+among_one : (line : ℕ) (used : List ℕ) → IsAmong (line ∷ used) line
+among_one line used = subst (λ (b : Bool). (b || is_in line used) ≡ true) (sym (eq_itself line)) refl
+
+all_to : {X : Type 0} (P Q : X → Type 0) (xs : List X) → ((x : X) → P x → Q x) → AllByRecursion P xs → AllByRecursion Q xs
+all_to P Q [] f all = tt
+all_to P Q (x ∷ xs) f all = (f x all.0, all_to P Q xs f all.1)
+
+all_left : {X : Type 0} (P : X → Type 0) (test : X → Bool) (xs : List X) → AllByRecursion P xs → AllByRecursion P (filter test xs)
+all_left P test [] all = tt
+all_left {X} P test (x ∷ xs) all = by (test x) (all_left P test xs all.1)
+  where
+    by : (b : Bool) → AllByRecursion P (filter test xs) → AllByRecursion P (if b then x ∷ filter test xs else filter test xs)
+    by true later = (all.0, later)
+    by false later = later
+
+-- a line that isn't among those that were taken before is another one
+other_line : (line : ℕ) (used : List ℕ) (other : ℕ) → is_in line used ≡ false → IsAmong used other → (line == other) ≡ false
+other_line line used other new is = by (line == other) refl
+  where
+    by : (b : Bool) → (line == other) ≡ b → b ≡ false
+    by true e = sym (subst (IsAmong used) (sym (eqb-true line other e)) is) ∙ new
     by false e = refl
 
-among_more : (line : ℕ) (used lines : List ℕ) → AllByRecursion (IsAmong used) lines → AllByRecursion (IsAmong (line ∷ used)) lines
-among_more line used [] all = tt
-among_more line used (first ∷ lines) all = (or_true (line == first) (is_in first used) all.0, among_more line used lines all.1)
+placed_more : (line : ℕ) (used : List ℕ) (guests : List Guest) (other : ℕ) → IsPlaced used guests other → IsPlaced (line ∷ used) guests other
+placed_more line used guests other is = record { among = among_more line used other is.among; others = is.others }
+
+placed_left : (used : List ℕ) (test : Guest → Bool) (guests : List Guest) (other : ℕ) → IsPlaced used guests other
+    → IsPlaced used (filter test guests) other
+placed_left used test guests other is = record {
+  among = is.among;
+  others = all_left (λ (guest : Guest). (other == guest.line) ≡ false) test guests is.others;
+}
+
+-- the line that waits no more is another one than those that wait
+called : (line : ℕ) (guests : List Guest)
+    → AllByRecursion (λ (guest : Guest). (line == guest.line) ≡ false) (filter (λ (guest : Guest). not (guest.line == line)) guests)
+called line [] = tt
+called line (guest ∷ guests) = by (guest.line == line) refl (called line guests)
+  where
+    by : (b : Bool) → (guest.line == line) ≡ b
+        → AllByRecursion (λ (other : Guest). (line == other.line) ≡ false) (filter (λ (other : Guest). not (other.line == line)) guests)
+        → AllByRecursion (λ (other : Guest). (line == other.line) ≡ false)
+        (if not b then guest ∷ filter (λ (other : Guest). not (other.line == line)) guests else filter (λ (other : Guest). not (other.line == line)) guests)
+    by true e rest = rest
+    by false e rest = (eq_flip guest.line line e, rest)
+
+good_to : (P Q : ℕ → Type 0) (station : Station) → ((line : ℕ) → P line → Q line) → Good P station → Good Q station
+good_to P Q station f good = record { orderly = good.orderly; each = all_to P Q (lines_at station.places) f good.each }
+
+turn_to : (P Q : ℕ → Type 0) (station : Station) (step : Step) → ((line : ℕ) → P line → Q line) → TurnStep P station step → TurnStep Q station step
+turn_to P Q station step f turn = record {
+  turns = turn.turns;
+  up_is = turn.up_is;
+  orderly = turn.orderly;
+  each = all_to P Q (lines_at step.station.places) f turn.each;
+}
+
+abbrev guest_at : (line : ℕ) → (from : Address) → (time : ℕ) → Guest
+guest_at line from time = record { line = line; from = from; since = time }
+
+-- What a step leaves of connections that wait, beside what it tells.
+record TurnEvent (used : List ℕ) (door : AtDoor) (station : Station) (step : Step) : Type 0 where
+  turn : TurnStep (IsPlaced used door.guests) station step
+  wait : Wait used door.guests
 
 module _ (config : Config) (time : ℕ) where
-  turn_follows : (used : List ℕ) (what : What) (station : Station) → Good (IsAmong used) station → IsNewLine used what
-      → TurnStep (IsAmong (lines_with used what)) station (follows config time what station)
-  turn_follows used (taken line from) station good new =
-      turn_takes (IsAmong (line ∷ used)) config line from time station
-      (record { orderly = good.orderly; each = among_more line used (lines_at station.places) good.each })
-      (subst (λ (b : Bool). (b || is_in line used) ≡ true) (sym (eq_itself line)) refl)
-      (others_of_new line used (lines_at station.places) new good.each)
-  turn_follows used (gave line piece) station good new = turn_octets (IsAmong used) config line time piece station good
-  turn_follows used (ended line) station good new = turn_ends (IsAmong used) line station good
-  turn_follows used (made line) station good new = turn_rests (IsAmong used) station good
-  turn_follows used nothing station good new = turn_rests (IsAmong used) station good
+  -- the octets of one that waits
+  turn_admits : (used : List ℕ) (line : ℕ) (piece : List ℕ) (door : AtDoor) (station : Station) → Good (IsPlaced used door.guests) station
+      → Wait used door.guests → TurnStep (IsPlaced used (without_guest line door).guests) station (admits config line piece door.guests station)
+  turn_admits used line piece door station good wait = by (guest_of line door.guests) refl
+    where
+      less : Good (IsPlaced used (without_guest line door).guests) station
+      less = good_to (IsPlaced used door.guests) (IsPlaced used (without_guest line door).guests) station
+          (placed_left used (λ (guest : Guest). not (guest.line == line)) door.guests) good
 
-  turn_hears : (used : List ℕ) (swept : ℕ) (what : What) (station : Station) → Good (IsAmong used) station → IsNewLine used what
-      → TurnStep (IsAmong (lines_with used what)) station (hears config swept time what station)
-  turn_hears used swept what station good new =
-      let first = turn_follows used what station good new in
-      turn_then (IsAmong (lines_with used what)) station (follows config time what station) (sweeps_where_due swept time) first
-      (turn_where_due (IsAmong (lines_with used what)) time swept (follows config time what station).station
-      (behind_step (IsAmong (lines_with used what)) station (follows config time what station) first))
+      others : (guest : Guest) → guest_of line door.guests ≡ Some guest → AllByRecursion (λ (other : ℕ). (other == line) ≡ false) (lines_at station.places)
+      others guest e =
+          all_to (IsPlaced used door.guests) (λ (other : ℕ). (other == line) ≡ false) (lines_at station.places)
+          (λ other is. subst (λ n. (other == n) ≡ false) (found_line line door.guests guest e)
+          (found_is (λ (one : Guest). (other == one.line) ≡ false) (λ (g : Guest). g.line == line) door.guests guest is.others e)) good.each
 
-turns_from : (config : Config) (used : List ℕ) (now : Between) (events : List Happening) → Good (IsAmong used) now.station
-    → AllFrom IsNew lines_after used events → Turns (peers_at now.station.places) (items_in (recorded_from config now events))
-turns_from config used now [] good new = tt
-turns_from config used now (event ∷ later) good new =
-    let turn = turn_hears config event.time used now.swept event.what now.station good new.0 in
+      by : (found : Option Guest) → guest_of line door.guests ≡ found
+          → TurnStep (IsPlaced used (without_guest line door).guests) station
+          (elim found [ None ↦ resting station | Some guest ↦ takes config line guest.from (said_as piece) guest.since station ])
+      by None e = turn_rests (IsPlaced used (without_guest line door).guests) station less
+      by (Some guest) e =
+          turn_takes (IsPlaced used (without_guest line door).guests) config line guest.from (said_as piece) guest.since station less
+          (record {
+            among = subst (IsAmong used) (found_line line door.guests guest e) (found_is (λ (one : Guest). IsAmong used one.line) (λ (g : Guest). g.line == line) door.guests guest wait e);
+            others = called line door.guests;
+          })
+          (others guest e)
+
+  turn_follows : (used : List ℕ) (door : AtDoor) (what : What) (station : Station) → Good (IsPlaced used door.guests) station → Wait used door.guests
+      → IsNewLine used what
+      → TurnEvent (lines_with used what) (door_with config time what (map seat_at station.places) door) station (follows config door.guests time what station)
+  turn_follows used door (taken line from) station good wait new = by (waits config from (map seat_at station.places) door.guests)
+    where
+      more : Wait (line ∷ used) door.guests
+      more = all_to (λ (guest : Guest). IsAmong used guest.line) (λ (guest : Guest). IsAmong (line ∷ used) guest.line) door.guests
+          (λ guest is. among_more line used guest.line is) wait
+
+      by : (b : Bool)
+          → TurnEvent (line ∷ used) (if b then with_guest (guest_at line from time) door else door) station (if b then resting station else takes config line from None time station)
+      by true = record {
+        turn = turn_rests (IsPlaced (line ∷ used) (with_guest (guest_at line from time) door).guests) station
+            (good_to (IsPlaced used door.guests) (IsPlaced (line ∷ used) (with_guest (guest_at line from time) door).guests) station
+            (λ other is. record {
+              among = among_more line used other is.among;
+              others = more_are (λ (guest : Guest). (other == guest.line) ≡ false) door.guests (guest_at line from time) is.others
+                  (eq_flip line other (other_line line used other new is.among));
+            }) good);
+        wait = more_are (λ (guest : Guest). IsAmong (line ∷ used) guest.line) door.guests (guest_at line from time) more (among_one line used);
+      }
+      by false = record {
+        turn = turn_takes (IsPlaced (line ∷ used) door.guests) config line from None time station
+            (good_to (IsPlaced used door.guests) (IsPlaced (line ∷ used) door.guests) station (placed_more line used door.guests) good)
+            (record {
+              among = among_one line used;
+              others = all_to (λ (guest : Guest). IsAmong used guest.line) (λ (guest : Guest). (line == guest.line) ≡ false) door.guests
+                  (λ guest is. other_line line used guest.line new is) wait;
+            })
+            (all_to (IsPlaced used door.guests) (λ (other : ℕ). (other == line) ≡ false) (lines_at station.places)
+            (λ other is. eq_flip line other (other_line line used other new is.among)) good.each);
+        wait = more;
+      }
+  turn_follows used door (gave line piece) station good wait new =
+      let kept = IsPlaced used (without_guest line door).guests in
+      let first = turn_admits used line piece door station good wait in
+      record {
+        turn = turn_then kept station (admits config line piece door.guests station) (hears_octets config line time piece) first
+            (turn_octets kept config line time piece (admits config line piece door.guests station).station
+            (behind_step kept station (admits config line piece door.guests station) first));
+        wait = all_left (λ (guest : Guest). IsAmong used guest.line) (λ (guest : Guest). not (guest.line == line)) door.guests wait;
+      }
+  turn_follows used door (ended line) station good wait new = record {
+    turn = turn_ends (IsPlaced used (without_guest line door).guests) line station
+        (good_to (IsPlaced used door.guests) (IsPlaced used (without_guest line door).guests) station
+        (placed_left used (λ (guest : Guest). not (guest.line == line)) door.guests) good);
+    wait = all_left (λ (guest : Guest). IsAmong used guest.line) (λ (guest : Guest). not (guest.line == line)) door.guests wait;
+  }
+  turn_follows used door (made line) station good wait new = record { turn = turn_rests (IsPlaced used door.guests) station good; wait = wait }
+  turn_follows used door nothing station good wait new = record { turn = turn_rests (IsPlaced used door.guests) station good; wait = wait }
+
+  -- the clock of all, behind an event
+  turn_swept : (used : List ℕ) (door : AtDoor) (station : Station) (step : Step) → TurnEvent used door station step
+      → TurnEvent used (swept_where_due time door) station (then_do step (sweeps_where_due door time))
+  turn_swept used door station step event =
+      let all = turn_then (IsPlaced used door.guests) station step (sweeps_where_due door time) event.turn
+      (turn_where_due (IsPlaced used door.guests) time door step.station (behind_step (IsPlaced used door.guests) station step event.turn)) in
+      by all (is_due door.swept time)
+    where
+      by : TurnStep (IsPlaced used door.guests) station (then_do step (sweeps_where_due door time)) → (b : Bool)
+          → TurnEvent used (if b then swept_at time door else door) station (then_do step (sweeps_where_due door time))
+      by all true = record {
+        turn = turn_to (IsPlaced used door.guests) (IsPlaced used (swept_at time door).guests) station (then_do step (sweeps_where_due door time))
+            (placed_left used (λ (guest : Guest). has_time time guest) door.guests) all;
+        wait = all_left (λ (guest : Guest). IsAmong used guest.line) (λ (guest : Guest). has_time time guest) door.guests event.wait;
+      }
+      by all false = record { turn = all; wait = event.wait }
+
+  turn_hears : (used : List ℕ) (door : AtDoor) (what : What) (station : Station) → Good (IsPlaced used door.guests) station → Wait used door.guests
+      → IsNewLine used what
+      → TurnEvent (lines_with used what) (door_after config time what (map seat_at station.places) door) station (hears config door time what station)
+  turn_hears used door what station good wait new =
+      turn_swept (lines_with used what) (door_with config time what (map seat_at station.places) door) station (follows config door.guests time what station)
+      (turn_follows used door what station good wait new)
+
+turns_from : (config : Config) (used : List ℕ) (now : Between) (events : List Happening) → Good (IsPlaced used now.door.guests) now.station
+    → Wait used now.door.guests → AllFrom IsNew lines_after used events → Turns (peers_at now.station.places) (items_in (recorded_from config now events))
+turns_from config used now [] good wait new = tt
+turns_from config used now (event ∷ later) good wait new =
+    let one = turn_hears config event.time used now.door event.what now.station good wait new.0 in
+    let turn = one.turn in
     let items = items_of (step_at config now event).deeds in
     let rest = recorded_from config (behind config now event) later in
     subst (Turns (peers_at now.station.places)) (sym (items_told (max now.moment event.moment) items rest))
     (turns_both (peers_at now.station.places) items (items_in rest) turn.turns
     (subst (λ up. Turns up (items_in rest)) (sym turn.up_is)
     (turns_from config (lines_after used event) (behind config now event) later
-    (behind_step (IsAmong (lines_after used event)) now.station (step_at config now event) turn) new.1)))
+    (behind_step (IsPlaced (lines_after used event) (behind config now event).door.guests) now.station (step_at config now event) turn) one.wait new.1)))
 
 nothing_placed : Orderly []
 nothing_placed = record { apart = tt; lines = tt }
 
 pub alternates : Alternates
-alternates config events new = turns_from config [] at_first events (record { orderly = nothing_placed; each = tt }) new
+alternates config events new = turns_from config [] at_first events (record { orderly = nothing_placed; each = tt }) tt new

@@ -1,5 +1,5 @@
 -- One step behind another, and what stands behind a seat that was taken or left.
-use Rattle.fs_recorder.proofs.{PlaceWords.{List, None, Option, Some, [], ap, append-nil, map-append, refl, subst, sym, ℕ, ◌++◌, ◌==◌, ◌∙◌, ◌∷◌, ◌≡◌, AllByRecursion, IsSome, Err, Ok, OnOk, Result, option_map, Grew, peer_of, Turn, shut, Address, Config, Peer, IsNumbered, IsWritable, came_up, was_lost, begins, fresh, live, Desked, KeepsOthers, Played, nobody, session_at, Booked, Tells, TellsPart, Does, Recording, leaves, shuts, tells, seat_for, seat_of, Place, Station, Step, checks, checks_peer, doing, ends, peer_for, peers_at, place_for, place_of, places_without, replaces, resting, seat_at, seats_one, taken_by, takes, vacates, BreaksAt, BreaksIn, BreaksQuietly, BreaksSo, DidAt, DidQuietly, DidSeat, DidSo, DoesStep, IsOpenAt, Left, Stands, Seat}, Doing.{breaks_more, breaks_tell, breaks_where, does_ask, does_tell}, Places.{FoundAt, found_at, found_none, open_left, others_left, place_found, place_is}, Placing.{apart_more, more_are, none_of_others, others_of_none, peers_more}, Settling.{stands_gone}, Stepping.{breaks_both, does_both, does_rest}}
+use Rattle.fs_recorder.proofs.{PlaceWords.{List, None, Option, Some, [], ap, append-nil, map-append, refl, subst, sym, ℕ, ◌++◌, ◌==◌, ◌∙◌, ◌∷◌, ◌≡◌, AllByRecursion, IsSome, Err, Ok, OnOk, Result, option_map, Grew, peer_of, Turn, shut, Address, Config, Peer, IsNumbered, IsWritable, came_up, was_lost, begins, fresh, live, AtDoor, Desked, KeepsOthers, Played, nobody, session_at, Booked, Tells, TellsPart, Does, Recording, leaves, shuts, tells, seat_for, seat_of, Place, Station, Step, checks, checks_peer, doing, ends, peer_for, peers_at, place_for, place_of, places_without, replaces, resting, seat_at, seats_one, taken_by, takes, vacates, BreaksAt, BreaksIn, BreaksQuietly, BreaksSo, DidAt, DidQuietly, DidSeat, DidSo, DoesStep, IsOpenAt, Left, Stands, Seat}, Doing.{breaks_more, breaks_tell, breaks_where, does_ask, does_tell}, Places.{FoundAt, found_at, found_none, open_left, others_left, place_found, place_is}, Placing.{apart_more, more_are, none_of_others, others_of_none, peers_more}, Settling.{stands_gone}, Stepping.{breaks_both, does_both, does_rest}}
 
 -- what two clauses say of a success
 pub ok_both : {T E : Type 0} {X Y Z : Type 0} (result : Result T E) → OnOk result X → OnOk result Y → (X → Y → Z) → OnOk result Z
@@ -23,8 +23,8 @@ fresh_open config desk seat (Some peer) known e =
 pub did_seat : (seat : Seat) (old new : Recording) (before now : Option (List ℕ)) → Tells (came_up seat.peer) old.books new.books before now
     → session_at seat.peer new.books.desk.sessions ≡ begins old.books.desk.config seat.peer
     → KeepsOthers seat.peer old.books.desk new.books.desk → IsSome (peer_of seat.peer old.books.desk.config.peers)
-    → new.seats ≡ old.seats ++ seat ∷ [] → new.swept ≡ old.swept → DidSeat seat old new before now
-did_seat seat old new before now told begun others known seats swept turns station stands none = record {
+    → new.seats ≡ old.seats ++ seat ∷ [] → new.door ≡ old.door → DidSeat seat old new before now
+did_seat seat old new before now told begun others known seats door turns station stands none = record {
   does = does_tell (came_up seat.peer) old.books new.books turns before now told nobody;
   stands = record {
     played = subst (λ config. Played config (station.told ++ came_up seat.peer ∷ []) new.books.desk) (sym told.config_is)
@@ -38,7 +38,7 @@ did_seat seat old new before now told begun others known seats swept turns stati
     known = subst (λ config. AllByRecursion (IsNumbered config) (peers_at (station.places ++ taken_by seat ∷ []))) (sym told.config_is)
         (peers_more (IsNumbered old.books.desk.config) station.places (taken_by seat) stands.known told.writable);
   };
-  swept_is = swept;
+  door_is = door;
 }
 
 -- so where it was broken off
@@ -75,11 +75,11 @@ abbrev losing : Place → Station → Step
 losing place station = doing (tells (was_lost place.peer) ∷ []) (places_without place.line station.places) station
 
 -- it was found
-pub did_found : (step : Place → Station → Step) (station : Station) (found : Option Place) (place : Place) (swept : ℕ) (old new : Recording)
-    (t t1 : Option (List Turn)) (w w1 : Option (List ℕ)) → found ≡ Some place → DoesStep swept (step place station) old new t t1 w w1
-    → DoesStep swept (at_place step station found) old new t t1 w w1
-did_found step station found place swept old new t t1 w w1 e does =
-    subst (λ f. DoesStep swept (at_place step station f) old new t t1 w w1) (sym e) does
+pub did_found : (step : Place → Station → Step) (station : Station) (found : Option Place) (place : Place) (door : AtDoor) (old new : Recording)
+    (t t1 : Option (List Turn)) (w w1 : Option (List ℕ)) → found ≡ Some place → DoesStep door (step place station) old new t t1 w w1
+    → DoesStep door (at_place step station found) old new t t1 w w1
+did_found step station found place door old new t t1 w w1 e does =
+    subst (λ f. DoesStep door (at_place step station f) old new t t1 w w1) (sym e) does
 
 pub breaks_found : {L : Type 0} → (step : Place → Station → Step) (station : Station) (found : Option Place) (place : Place) (old : Booked)
     (t t1 : Option (List Turn)) (w w1 : Option (List ℕ)) → found ≡ Some place → BreaksAt L (step place station).deeds old t t1 w w1
@@ -89,9 +89,9 @@ breaks_found {L} step station found place old t t1 w w1 e breaks =
 
 -- it wasn't
 pub did_not_find : (step : Place → Station → Step) (station : Station) (found : Option Place) (old : Recording) (t : Option (List Turn))
-    (w : Option (List ℕ)) → found ≡ None → Stands station old → DoesStep old.swept (at_place step station found) old old t t w w
+    (w : Option (List ℕ)) → found ≡ None → Stands station old → DoesStep old.door (at_place step station found) old old t t w w
 did_not_find step station found old t w e stands =
-    subst (λ f. DoesStep old.swept (at_place step station f) old old t t w w) (sym e) (does_rest station old t w stands)
+    subst (λ f. DoesStep old.door (at_place step station f) old old t t w w) (sym e) (does_rest station old t w stands)
 
 -- the connection that speaks for a peer was closed
 
@@ -101,12 +101,12 @@ pub did_vacate : (peer : ℕ) (seat : Seat) (old new : Recording) (t t1 : Option
 did_vacate peer seat old new t t1 w w1 found does left station stands =
     let has = place_has old station stands peer seat found in
     did_found leaving
-    station (place_for peer station.places) has.place old.swept old new t t1 w w1 has.found
+    station (place_for peer station.places) has.place old.door old new t t1 w w1 has.found
     (record {
       does = subst (λ s. Does nobody nobody (leaves s) old.books new.books t t1 w w1) (sym has.seated) does;
       stands = stands_gone has.place station old new stands (own_place peer station.places has.place has.found)
           (subst (λ s. Left s old new) (sym has.seated) left) does.config_is;
-      swept_is = left.swept_is;
+      door_is = left.door_is;
     })
 
 pub breaks_vacate : {L : Type 0} → (peer : ℕ) (seat : Seat) (old : Recording) (t t1 : Option (List Turn)) (w w1 : Option (List ℕ))
@@ -140,13 +140,13 @@ pub did_end : (line : ℕ) (seat : Seat) (old new : Recording) (w w1 : Option (L
 did_end line seat old new w w1 found told left turns station stands =
     let has = line_has old station stands line seat found in
     did_found losing
-    station (place_of line station.places) has.place old.swept old new turns turns w w1 has.found
+    station (place_of line station.places) has.place old.door old new turns turns w w1 has.found
     (record {
       does = subst (λ (s : Seat). Does nobody nobody (tells (was_lost s.peer) ∷ []) old.books new.books turns turns w w1) (sym has.seated)
           (does_tell (was_lost seat.peer) old.books new.books turns w w1 told nobody);
       stands = stands_gone has.place station old new stands (place_found line station.places has.place stands.apart has.found)
           (subst (λ s. Left s old new) (sym has.seated) left) told.config_is;
-      swept_is = left.swept_is;
+      door_is = left.door_is;
     })
 
 pub breaks_end : {L : Type 0} → (line : ℕ) (seat : Seat) (old : Recording) (w w1 : Option (List ℕ)) → seat_of line old.seats ≡ Some seat
@@ -188,32 +188,32 @@ breaks_replace_early {L} {M} line peer time old t t1 w w1 writable named breaks 
     breaks_more (vacates peer station).deeds (tells (came_up peer) ∷ []) old.books t t1 w w1 (writable, tt) (breaks_where named (breaks station stands))
 
 -- a connection was taken
-module _ (config : Config) (line : ℕ) (from : Address) (time : ℕ) (old : Recording) (t t1 : Option (List Turn)) (w w1 : Option (List ℕ)) where
+module _ (config : Config) (line : ℕ) (from : Address) (told : Option ℕ) (time : ℕ) (old : Recording) (t t1 : Option (List Turn)) (w w1 : Option (List ℕ)) where
   abbrev takes_for : Station → Option ℕ → Step
   takes_for station found =
       elim found [ None ↦ doing (shuts line ∷ []) station.places station | Some peer ↦ replaces line peer time station ]
 
-  pub did_take : (peer : ℕ) (new : Recording) → peer_for config from old.seats ≡ Some peer → DidSo (replaces line peer time) old new t t1 w w1
-      → DidSo (takes config line from time) old new t t1 w w1
+  pub did_take : (peer : ℕ) (new : Recording) → peer_for config from told old.seats ≡ Some peer → DidSo (replaces line peer time) old new t t1 w w1
+      → DidSo (takes config line from told time) old new t t1 w w1
   did_take peer new e did station stands =
-      subst (λ found. DoesStep old.swept (takes_for station found) old new t t1 w w1)
-      (sym (ap (peer_for config from) (sym stands.seats_are) ∙ e)) (did station stands)
+      subst (λ found. DoesStep old.door (takes_for station found) old new t t1 w w1)
+      (sym (ap (peer_for config from told) (sym stands.seats_are) ∙ e)) (did station stands)
 
-  pub breaks_take : {L : Type 0} → (peer : ℕ) → peer_for config from old.seats ≡ Some peer → BreaksSo L (replaces line peer time) old t t1 w w1
-      → BreaksSo L (takes config line from time) old t t1 w w1
+  pub breaks_take : {L : Type 0} → (peer : ℕ) → peer_for config from told old.seats ≡ Some peer → BreaksSo L (replaces line peer time) old t t1 w w1
+      → BreaksSo L (takes config line from told time) old t t1 w w1
   breaks_take {L} peer e breaks station stands =
       subst (λ found. BreaksAt L (takes_for station found).deeds old.books t t1 w w1)
-      (sym (ap (peer_for config from) (sym stands.seats_are) ∙ e)) (breaks station stands)
+      (sym (ap (peer_for config from told) (sym stands.seats_are) ∙ e)) (breaks station stands)
 
-  pub did_take_none : peer_for config from old.seats ≡ None → Grew t t1 (shut line ∷ [])
-      → DidSo (takes config line from time) old old t t1 w w
+  pub did_take_none : peer_for config from told old.seats ≡ None → Grew t t1 (shut line ∷ [])
+      → DidSo (takes config line from told time) old old t t1 w w
   did_take_none e closed station stands =
-      subst (λ found. DoesStep old.swept (takes_for station found) old old t t1 w w)
-      (sym (ap (peer_for config from) (sym stands.seats_are) ∙ e))
+      subst (λ found. DoesStep old.door (takes_for station found) old old t t1 w w)
+      (sym (ap (peer_for config from told) (sym stands.seats_are) ∙ e))
       (record {
         does = does_ask nobody (shuts line ∷ []) old.books t t1 w refl closed;
         stands = stands_quiet station old stands;
-        swept_is = refl;
+        door_is = refl;
       })
 
 -- the clock of a peer
@@ -222,7 +222,7 @@ pub did_check_peer : (peer time : ℕ) (seat : Seat) (old new : Recording) (t t1
     → seat_for peer old.seats ≡ Some seat → DidAt seat (checks time) old new t t1 w w1 → DidSo (checks_peer time peer) old new t t1 w w1
 did_check_peer peer time seat old new t t1 w w1 found did station stands =
     let has = place_has old station stands peer seat found in
-    did_found (checks time) station (place_for peer station.places) has.place old.swept old new t t1 w w1 has.found
+    did_found (checks time) station (place_for peer station.places) has.place old.door old new t t1 w w1 has.found
     (did station stands has.place
     (subst (λ (s : Seat). place_for s.peer station.places ≡ Some has.place) has.seated (own_place peer station.places has.place has.found)) has.seated)
 

@@ -1,5 +1,5 @@
 -- Deeds, one after the other.
-use Rattle.fs_recorder.proofs.{Words.{ℕ, Bool, List, [], ◌∷◌, ◌++◌, Option, ◌≡◌, refl, ap, sym, subst, ◌∙◌, append-nil, append_assoc, AllByRecursion, Turn, said, shut, Grew, Grew-refl, Grew-trans, part_more, part_then, GrewPart, take, IsWritable, item_text, Item, timed, Two, expired_after, nobody, AgreesBut, Booked, Tells, TellsPart, BreaksAt, Deed, Does, asked_in, items_of, leaves, says, sends, shuts, tells, text_at, text_now, told_at, Seat, was_lost, Result, Ok, Err, IfOk, OnErr, OnOk, arith, length, length-append, ◌+◌, ◌≤◌}, Telling.{told_on}}
+use Rattle.fs_recorder.proofs.{Words.{ℕ, Bool, List, [], ◌∷◌, ◌++◌, Option, ◌≡◌, map, refl, ap, sym, subst, ◌∙◌, append-nil, append_assoc, AllByRecursion, Turn, said, shut, Grew, Grew-refl, Grew-trans, part_more, part_then, GrewPart, take, IsWritable, item_text, Item, timed, Two, expired_after, nobody, AgreesBut, Booked, Tells, TellsPart, BreaksAt, Deed, Does, asked_in, items_of, leaves, says, sends, shuts, tells, text_at, text_now, told_at, Seat, was_lost, Result, Ok, Err, IfOk, OnErr, OnOk, arith, length, length-append, ◌+◌, ◌≤◌}, Telling.{told_on}}
 use Rattle.std.specs.Result.{IsErrAnd, IsErrOf}
 use Rattle.fs_recorder.specs.declared.stop.Stop.{Stop, TheVariants.{Limit, Memory}}
 
@@ -14,6 +14,16 @@ asked_both [] later = refl
 asked_both (tells item ∷ first) later = asked_both first later
 asked_both (sends line octets ∷ first) later = ap (λ turns. said line octets ∷ turns) (asked_both first later)
 asked_both (shuts line ∷ first) later = ap (λ turns. shut line ∷ turns) (asked_both first later)
+
+-- lines are closed
+
+pub shuts_items : (lines : List ℕ) → items_of (map shuts lines) ≡ []
+shuts_items [] = refl
+shuts_items (line ∷ lines) = shuts_items lines
+
+pub shuts_asked : (lines : List ℕ) → asked_in (map shuts lines) ≡ map shut lines
+shuts_asked [] = refl
+shuts_asked (line ∷ lines) = ap (λ turns. shut line ∷ turns) (shuts_asked lines)
 
 told_both : (moment : ℕ) (first later : List Item) → told_at moment (first ++ later) ≡ told_at moment first ++ told_at moment later
 told_both moment [] later = refl

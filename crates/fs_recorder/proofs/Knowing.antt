@@ -1,5 +1,5 @@
 -- What a step tells is of configured peers.
-use Rattle.fs_recorder.proofs.{PlaceWords.{Bool, List, None, Option, Some, [], ap, append-nil, append_assoc, false, not, refl, subst, sym, true, ℕ, ◌++◌, ◌==◌, ◌≤◌, ◌∙◌, ◌∷◌, ◌≡◌, length, AllByRecursion, if◌then◌else◌, map, Address, Config, Point, IsNumbered, IsWritable, longest_payload, came_up, received, was_lost, items_of, leaves, says, shuts, tells, What, ended, gave, made, nothing, taken, Place, Station, Step, checks, checks_peer, doing, ends, expires, follows, handed_point, hears_octets, hurries, hurries_where_late, hurries_where_new, is_due, is_early, is_established, peer_for, peers_at, place_for, place_of, places_without, receives, replaces, replies_to, resting, seat_at, seats_one, settles, speaks, sweeps, sweeps_all, sweeps_where_due, taken_by, takes, then_do, vacates, wakes, woken, is_closed, standing_of}, Doing.{items_both, says_items}, Places.{at_found, peers_all, peers_left, peers_moved}, Placing.{both_are, last_is, peers_more}}
+use Rattle.fs_recorder.proofs.{PlaceWords.{Bool, List, None, Option, Some, [], ap, append-nil, append_assoc, false, not, refl, subst, sym, true, ℕ, ◌++◌, ◌==◌, ◌≤◌, ◌∙◌, ◌∷◌, ◌≡◌, length, AllByRecursion, if◌then◌else◌, map, Address, Config, Point, IsNumbered, IsWritable, longest_payload, came_up, received, was_lost, items_of, leaves, says, shuts, tells, What, ended, gave, made, nothing, taken, AtDoor, Guest, guest_of, late_lines, said_as, Place, Station, Step, admits, checks, checks_peer, comes, doing, ends, expires, follows, handed_point, hears_octets, hurries, hurries_where_late, hurries_where_new, is_due, is_early, is_established, peer_for, peers_at, place_for, place_of, places_without, receives, replaces, replies_to, resting, seat_at, seats_one, settles, speaks, sweeps, sweeps_all, sweeps_where_due, taken_by, takes, then_do, turns_away, vacates, waits, wakes, woken, is_closed, standing_of}, Doing.{items_both, says_items, shuts_items}, Places.{at_found, peers_all, peers_left, peers_moved}, Placing.{both_are, front_are, last_is, peers_more}}
 use Rattle.fs_recorder.specs.Laws.{IsShort}
 
 -- the peers that connections speak for are configured
@@ -94,22 +94,34 @@ module _ (config : Config) (time : ℕ) where
       let first = known_checks_peer peer station known in
       known_then config station (checks_peer time peer station) (sweeps time peers) first (known_sweeps peers (checks_peer time peer station).station first.known)
 
-  pub known_where_due : (swept : ℕ) (station : Station) → Known config station → KnownStep config station (sweeps_where_due swept time station)
-  known_where_due swept station known = by (is_due swept time)
+  known_away : (guests : List Guest) (station : Station) → Known config station → KnownStep config station (turns_away time guests station)
+  known_away guests station known = record {
+    writable = subst (AllByRecursion (IsWritable config)) (sym (shuts_items (late_lines time guests))) tt;
+    known = known;
+    told_is = sym (ap (λ items. station.told ++ items) (shuts_items (late_lines time guests)) ∙ append-nil station.told);
+  }
+
+  pub known_where_due : (door : AtDoor) (station : Station) → Known config station → KnownStep config station (sweeps_where_due door time station)
+  known_where_due door station known = by (is_due door.swept time)
     where
-      by : (b : Bool) → KnownStep config station (if b then sweeps_all time station else resting station)
-      by true = known_sweeps (peers_at station.places) station known
+      by : (b : Bool) → KnownStep config station (if b then then_do (turns_away time door.guests station) (sweeps_all time) else resting station)
+      by true =
+          known_then config station (turns_away time door.guests station) (sweeps_all time) (known_away door.guests station known)
+          (known_sweeps (peers_at station.places) station known)
       by false = known_rests config station known
 
 -- what came
 
 -- a peer that is to be spoken for is configured
-abbrev pub NewKnown : Config → What → Station → Type 0
-NewKnown config (taken line from) station = (peer : ℕ) → peer_for config from (map seat_at station.places) ≡ Some peer → IsNumbered config peer
-NewKnown config (gave line piece) station = Unit {0}
-NewKnown config (ended line) station = Unit {0}
-NewKnown config (made line) station = Unit {0}
-NewKnown config nothing station = Unit {0}
+abbrev pub MayTake : Config → (from : Address) → (told : Option ℕ) → Station → Type 0
+MayTake config from told station = (peer : ℕ) → peer_for config from told (map seat_at station.places) ≡ Some peer → IsNumbered config peer
+
+abbrev pub NewKnown : Config → List Guest → What → Station → Type 0
+NewKnown config guests (taken line from) station = waits config from (map seat_at station.places) guests ≡ false → MayTake config from None station
+NewKnown config guests (gave line piece) station = (guest : Guest) → guest_of line guests ≡ Some guest → MayTake config guest.from (said_as piece) station
+NewKnown config guests (ended line) station = Unit {0}
+NewKnown config guests (made line) station = Unit {0}
+NewKnown config guests nothing station = Unit {0}
 
 module _ (config : Config) where
   pub known_vacates : (peer : ℕ) (station : Station) → Known config station → KnownStep config station (vacates peer station)
@@ -135,14 +147,48 @@ module _ (config : Config) where
         told_is = refl;
       })
 
-  pub known_takes : (line : ℕ) (from : Address) (time : ℕ) (station : Station) → Known config station → NewKnown config (taken line from) station
-      → KnownStep config station (takes config line from time station)
-  known_takes line from time station known new = by (peer_for config from (map seat_at station.places)) refl
+  known_takes : (line : ℕ) (from : Address) (told : Option ℕ) (since : ℕ) (station : Station) → Known config station → MayTake config from told station
+      → KnownStep config station (takes config line from told since station)
+  known_takes line from told since station known may = by (peer_for config from told (map seat_at station.places)) refl
     where
-      by : (found : Option ℕ) → peer_for config from (map seat_at station.places) ≡ found
-          → KnownStep config station (elim found [ None ↦ doing (shuts line ∷ []) station.places station | Some peer ↦ replaces line peer time station ])
+      by : (found : Option ℕ) → peer_for config from told (map seat_at station.places) ≡ found
+          → KnownStep config station (elim found [ None ↦ doing (shuts line ∷ []) station.places station | Some peer ↦ replaces line peer since station ])
       by None e = record { writable = tt; known = known; told_is = refl }
-      by (Some peer) e = known_replaces line peer time station (new peer e) known
+      by (Some peer) e = known_replaces line peer since station (may peer e) known
+
+  -- what is told where a connection speaks for a peer tells that it is configured
+  took_known : (line : ℕ) (from : Address) (told : Option ℕ) (since : ℕ) (station : Station)
+      → AllByRecursion (IsWritable config) (items_of (takes config line from told since station).deeds) → MayTake config from told station
+  took_known line from told since station writable peer e =
+      last_is (IsWritable config) (items_of (vacates peer station).deeds) (came_up peer)
+      (subst (AllByRecursion (IsWritable config)) (items_both (vacates peer station).deeds (tells (came_up peer) ∷ []))
+      (subst (λ found. AllByRecursion (IsWritable config) (items_of (let step : Step = (elim found [ None ↦ doing (shuts line ∷ []) station.places station | Some peer ↦ replaces line peer since station ]) in step.deeds)))
+      e writable))
+
+  known_comes : (line : ℕ) (from : Address) (time : ℕ) (guests : List Guest) (station : Station) → Known config station
+      → NewKnown config guests (taken line from) station → KnownStep config station (comes config line from time guests station)
+  known_comes line from time guests station known new = by (waits config from (map seat_at station.places) guests) refl
+    where
+      by : (b : Bool) → waits config from (map seat_at station.places) guests ≡ b
+          → KnownStep config station (if b then resting station else takes config line from None time station)
+      by true e = known_rests config station known
+      by false e = known_takes line from None time station known (new e)
+
+  pub known_admits : (line : ℕ) (piece : List ℕ) (guests : List Guest) (station : Station) → Known config station
+      → NewKnown config guests (gave line piece) station → KnownStep config station (admits config line piece guests station)
+  known_admits line piece guests station known new = by (guest_of line guests) refl
+    where
+      by : (found : Option Guest) → guest_of line guests ≡ found
+          → KnownStep config station (elim found [ None ↦ resting station | Some guest ↦ takes config line guest.from (said_as piece) guest.since station ])
+      by None e = known_rests config station known
+      by (Some guest) e = known_takes line guest.from (said_as piece) guest.since station known (new guest e)
+
+  pub admits_told : (line : ℕ) (piece : List ℕ) (guests : List Guest) (station : Station)
+      → AllByRecursion (IsWritable config) (items_of (admits config line piece guests station).deeds) → NewKnown config guests (gave line piece) station
+  admits_told line piece guests station writable guest e =
+      took_known line guest.from (said_as piece) guest.since station
+      (subst (λ found. AllByRecursion (IsWritable config) (items_of (let step : Step = (elim found [ None ↦ resting station | Some guest ↦ takes config line guest.from (said_as piece) guest.since station ]) in step.deeds)))
+      e writable)
 
   known_receives : (place : Place) (piece : List ℕ) (station : Station) → IsNumbered config place.peer → length piece ≤ longest_payload
       → Known config station → KnownStep config station (receives config place piece station)
@@ -164,7 +210,7 @@ module _ (config : Config) where
       by false = known_then config station (wakes time place station) (receives config (woken time place) piece) (known_wakes config time place station numbered known)
           (known_receives (woken time place) piece (wakes time place station).station numbered short (known_wakes config time place station numbered known).known)
 
-  known_octets : (line time : ℕ) (piece : List ℕ) (station : Station) → length piece ≤ longest_payload → Known config station
+  pub known_octets : (line time : ℕ) (piece : List ℕ) (station : Station) → length piece ≤ longest_payload → Known config station
       → KnownStep config station (hears_octets config line time piece station)
   known_octets line time piece station short known = by (place_of line station.places) refl
     where
@@ -188,23 +234,28 @@ module _ (config : Config) where
       }
 
   -- an event
-  pub known_follows : (time : ℕ) (what : What) (station : Station) → Known config station → IsShort what → NewKnown config what station
-      → KnownStep config station (follows config time what station)
-  known_follows time (taken line from) station known short new = known_takes line from time station known new
-  known_follows time (gave line piece) station known short new = known_octets line time piece station short known
-  known_follows time (ended line) station known short new = known_ends line station known
-  known_follows time (made line) station known short new = known_rests config station known
-  known_follows time nothing station known short new = known_rests config station known
+  pub known_follows : (guests : List Guest) (time : ℕ) (what : What) (station : Station) → Known config station → IsShort what
+      → NewKnown config guests what station → KnownStep config station (follows config guests time what station)
+  known_follows guests time (taken line from) station known short new = known_comes line from time guests station known new
+  known_follows guests time (gave line piece) station known short new =
+      let first = known_admits line piece guests station known new in
+      known_then config station (admits config line piece guests station) (hears_octets config line time piece) first
+      (known_octets line time piece (admits config line piece guests station).station short first.known)
+  known_follows guests time (ended line) station known short new = known_ends line station known
+  known_follows guests time (made line) station known short new = known_rests config station known
+  known_follows guests time nothing station known short new = known_rests config station known
 
-  -- what is told where a connection speaks for a peer tells that it is configured
-  pub new_told : (time : ℕ) (what : What) (station : Station) → AllByRecursion (IsWritable config) (items_of (follows config time what station).deeds)
-      → NewKnown config what station
-  new_told time (taken line from) station writable = λ peer e.
-      last_is (IsWritable config) (items_of (vacates peer station).deeds) (came_up peer)
-      (subst (AllByRecursion (IsWritable config)) (items_both (vacates peer station).deeds (tells (came_up peer) ∷ []))
-      (subst (λ found. AllByRecursion (IsWritable config) (items_of (let step : Step = (elim found [ None ↦ doing (shuts line ∷ []) station.places station | Some peer ↦ replaces line peer time station ]) in step.deeds)))
-      e writable))
-  new_told time (gave line piece) station writable = tt
-  new_told time (ended line) station writable = tt
-  new_told time (made line) station writable = tt
-  new_told time nothing station writable = tt
+  pub new_told : (guests : List Guest) (time : ℕ) (what : What) (station : Station)
+      → AllByRecursion (IsWritable config) (items_of (follows config guests time what station).deeds) → NewKnown config guests what station
+  new_told guests time (taken line from) station writable = λ e.
+      took_known line from None time station
+      (subst (λ (b : Bool). AllByRecursion (IsWritable config) (items_of (if b then resting station else takes config line from None time station).deeds)) e writable)
+  new_told guests time (gave line piece) station writable =
+      let first = admits config line piece guests station in
+      let later = hears_octets config line time piece first.station in
+      admits_told line piece guests station
+      (front_are (IsWritable config) (items_of first.deeds) (items_of later.deeds)
+      (subst (AllByRecursion (IsWritable config)) (items_both first.deeds later.deeds) writable))
+  new_told guests time (ended line) station writable = tt
+  new_told guests time (made line) station writable = tt
+  new_told guests time nothing station writable = tt

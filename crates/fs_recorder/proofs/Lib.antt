@@ -11,6 +11,7 @@ mod PlaceWords
 pub mod Placing
 pub mod Connecting
 pub mod Knowing
+pub mod Waiting
 pub mod Sweeping
 pub mod Recorded
 pub mod Alternating

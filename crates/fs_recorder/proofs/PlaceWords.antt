@@ -4,4 +4,4 @@ pub use Rattle.fs_base.{proofs.NumberTests.{eq_itself}, specs.{Config.{peer_of},
 pub use Rattle.fs_tape.specs.{Header.{longest_payload}, Laws.{IsNumbered, IsWritable}, Tape.{Item, came_up, received, was_lost}}
 pub use Rattle.fs_speaker.specs.{Handed.{Point}, Line.{fresh}, Session.{begins, live}}
 pub use Rattle.fs_desk.specs.{Desk.{Desked, KeepsOthers, Played, PlayedBut, session_at, standing_of}, Leaves.{nobody}}
-pub use Rattle.fs_recorder.specs.{Books.{Booked, Tells, TellsPart}, Deeds.{Deed, Does, Recording, is_closed, items_of, leaves, says, shuts, tells}, Seats.{seat_for, seat_of}, Steps.{Place, Station, Step, checks, checks_peer, doing, ends, expires, follows, handed_point, hears, hears_octets, hurries, hurries_where_late, hurries_where_new, is_due, is_early, is_established, moved, peer_for, peers_at, peers_in, place_for, place_of, places_without, receives, replaces, replies_to, resting, seat_at, seats_one, settles, speaks, swept_after, sweeps, sweeps_all, sweeps_where_due, taken_by, takes, then_do, vacates, wakes, woken}, Works.{AreApart, BreaksAt, BreaksIn, BreaksQuietly, BreaksSo, DidAt, DidHear, DidQuietly, DidSeat, DidSo, DoesStep, IsOpenAt, Left, Stands}, declared.seats.Seat.{Seat}}
+pub use Rattle.fs_recorder.specs.{Books.{Booked, Tells, TellsPart}, Deeds.{Deed, Does, Recording, is_closed, items_of, leaves, says, shuts, tells}, Seats.{seat_for, seat_of}, Door.{AtDoor, guest_of, has_time, is_due, late_lines, said_as, swept_at, swept_where_due, with_guest, without_guest}, Steps.{Place, Station, Step, admits, checks, checks_peer, comes, doing, door_after, door_with, ends, expires, follows, gives, handed_point, hears, hears_octets, hurries, hurries_where_late, hurries_where_new, is_early, is_established, moved, peer_for, peers_at, peers_in, place_for, place_of, places_without, receives, replaces, replies_to, resting, seat_at, seats_one, settles, speaks, sweeps, sweeps_all, sweeps_where_due, taken_by, takes, then_do, turns_away, vacates, waits, wakes, woken}, Works.{AreApart, BreaksAt, BreaksIn, BreaksQuietly, BreaksSo, DidAt, DidHear, DidQuietly, DidSeat, DidSo, DoesStep, IsOpenAt, Left, Stands}, declared.{door.Guest.{Guest}, seats.Seat.{Seat}}}

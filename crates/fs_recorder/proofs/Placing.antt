@@ -18,6 +18,10 @@ pub both_are : {X : Type 0} (P : X → Type 0) (xs ys : List X) → AllByRecursi
 both_are P [] ys a b = b
 both_are P (first ∷ xs) ys a b = (a.0, both_are P xs ys a.1 b)
 
+pub front_are : {X : Type 0} (P : X → Type 0) (xs ys : List X) → AllByRecursion P (xs ++ ys) → AllByRecursion P xs
+front_are P [] ys all = tt
+front_are P (x ∷ xs) ys all = (all.0, front_are P xs ys all.1)
+
 pub last_is : {X : Type 0} (P : X → Type 0) (xs : List X) (x : X) → AllByRecursion P (xs ++ x ∷ []) → P x
 last_is P [] x all = all.0
 last_is P (first ∷ xs) x all = last_is P xs x all.1

@@ -1,10 +1,10 @@
 -- What is told of the tape of a recorder, whatever happens.
-use Rattle.fs_recorder.proofs.{PlaceWords.{Bool, List, None, Option, Some, [], ap, append-nil, append_assoc, arith, false, map, refl, subst, sym, true, ℕ, ◌++◌, ◌<◌, ◌==◌, ◌≤◌, ◌∙◌, ◌∷◌, ◌≡◌, AllByRecursion, find, if◌then◌else◌, Address, Config, Peer, IsNumbered, IsWritable, Item, Played, nobody, items_of, What, ended, gave, made, nothing, taken, Station, follows, hears, peer_for, seat_at, sweeps_where_due, Seat}, Knowing.{Known, KnownStep, NewKnown, known_follows, known_then, known_where_due}, Placing.{found_is}, Seating.{found_peer}}
+use Rattle.fs_recorder.proofs.{PlaceWords.{Bool, List, None, Option, Some, [], ap, append-nil, append_assoc, arith, false, map, refl, subst, sym, true, ℕ, ◌++◌, ◌<◌, ◌==◌, ◌≤◌, ◌∙◌, ◌∷◌, ◌≡◌, AllByRecursion, find, if◌then◌else◌, Address, Config, Peer, IsNumbered, IsWritable, Item, Played, nobody, items_of, What, ended, gave, made, nothing, taken, Station, AtDoor, Guest, door_with, said_as, follows, hears, peer_for, seat_at, sweeps_where_due, Seat}, Knowing.{Known, KnownStep, NewKnown, known_follows, known_then, known_where_due}, Placing.{found_is}, Seating.{FoundBy, found_by, found_peer}}
 use Rattle.std.specs.Prelude.{◌^◌, max}
 use Rattle.fs_input.specs.Parts.{AllFrom}
 use Rattle.fs_tape.specs.{Laws.{Fits, ReadsBack, after, tape_text}, Tape.{Timed, stands}, declared.magic.Version.TheVariants.{Two}}
 use Rattle.fs_desk.specs.Desk.{Desked, PlayedBut, standing_at_desk}
-use Rattle.fs_recorder.specs.{Deeds.{told_at}, Laws.{AreNumbered, IsRecordable, IsShort, ReadsBackRecorded, Replays}, Seats.{first_peer, free_peer}, Steps.{Between, Happening, at_first, behind, recorded, recorded_from, stands_from, step_at}, Tapes.{items_in}}
+use Rattle.fs_recorder.specs.{Deeds.{told_at}, Laws.{AreNumbered, IsRecordable, IsShort, ReadsBackRecorded, Replays}, Seats.{first_peer, free_by}, Steps.{Between, Happening, at_first, behind, recorded, recorded_from, stands_from, step_at}, Tapes.{items_in}}
 
 -- what is told at a moment fits behind what was told before it
 fits_told : (config : Config) (moment : ℕ) (items : List Item) (later : List Timed) → moment < 2 ^ 64 → AllByRecursion (IsWritable config) items
@@ -33,41 +33,45 @@ of_found config None peer f e = cc
 of_found config (Some p) peer f e = subst (IsNumbered config) (let same : p.number ≡ peer = cc in same) (f p refl)
 
 module _ (config : Config) (numbered : AreNumbered config) where
-  of_peer : (from : Address) (seats : List Seat) (peer : ℕ) → peer_for config from seats ≡ Some peer → IsNumbered config peer
-  of_peer from seats peer e = by (free_peer from seats config.peers) refl e
+  of_peer : (from : Address) (told : Option ℕ) (seats : List Seat) (peer : ℕ) → peer_for config from told seats ≡ Some peer → IsNumbered config peer
+  of_peer from told seats peer e = by (free_by from told seats config.peers) refl e
     where
       held : (b : Bool) → (if b then number_of (first_peer from config.peers) else None) ≡ Some peer → IsNumbered config peer
       held true f = of_found config (first_peer from config.peers) peer (λ p g. numbered_peer config _ p numbered g) f
       held false f = cc
 
-      by : (found : Option Peer) → free_peer from seats config.peers ≡ found
+      numbered_by : (p : Peer) → FoundBy config.peers p → IsNumbered config p.number
+      numbered_by p one = numbered_peer config one.test p numbered one.found
+
+      by : (found : Option Peer) → free_by from told seats config.peers ≡ found
           → (elim found as (λ _. Option ℕ) [
             | Some p ↦ Some p.number
             | None ↦ if config.hold_time == 0 then number_of (first_peer from config.peers) else None
           ]) ≡ Some peer
           → IsNumbered config peer
-      by (Some p) g f = subst (IsNumbered config) (let same : p.number ≡ peer = cc in same) (numbered_peer config _ p numbered g)
+      by (Some p) g f = subst (IsNumbered config) (let same : p.number ≡ peer = cc in same) (numbered_by p (found_by from told seats config.peers p g))
       by None g f = held (config.hold_time == 0) f
 
-  pub new_configured : (what : What) (station : Station) → NewKnown config what station
-  new_configured (taken line from) station = λ peer e. of_peer from (map seat_at station.places) peer e
-  new_configured (gave line piece) station = tt
-  new_configured (ended line) station = tt
-  new_configured (made line) station = tt
-  new_configured nothing station = tt
+  pub new_configured : (guests : List Guest) (what : What) (station : Station) → NewKnown config guests what station
+  new_configured guests (taken line from) station = λ _ peer e. of_peer from None (map seat_at station.places) peer e
+  new_configured guests (gave line piece) station = λ guest _ peer e. of_peer guest.from (said_as piece) (map seat_at station.places) peer e
+  new_configured guests (ended line) station = tt
+  new_configured guests (made line) station = tt
+  new_configured guests nothing station = tt
 
-  known_hears : (swept time : ℕ) (what : What) (station : Station) → Known config station → IsShort what
-      → KnownStep config station (hears config swept time what station)
-  known_hears swept time what station known short =
-      let first = known_follows config time what station known short (new_configured what station) in
-      known_then config station (follows config time what station) (sweeps_where_due swept time) first
-      (known_where_due config time swept (follows config time what station).station first.known)
+  known_hears : (door : AtDoor) (time : ℕ) (what : What) (station : Station) → Known config station → IsShort what
+      → KnownStep config station (hears config door time what station)
+  known_hears door time what station known short =
+      let step = follows config door.guests time what station in
+      let behind_it = door_with config time what (map seat_at station.places) door in
+      let first = known_follows config door.guests time what station known short (new_configured door.guests what station) in
+      known_then config station step (sweeps_where_due behind_it time) first (known_where_due config time behind_it step.station first.known)
 
   recorded_fits : (now : Between) (events : List Happening) → Known config now.station → now.moment < 2 ^ 64 → AllByRecursion IsRecordable events
       → (least : ℕ) → least ≤ now.moment → AllFrom Fits after (stands config Two least) (recorded_from config now events)
   recorded_fits now [] known room all least below = tt
   recorded_fits now (event ∷ later) known room all least below =
-      let step = known_hears now.swept event.time event.what now.station known all.0.short in
+      let step = known_hears now.door event.time event.what now.station known all.0.short in
       let roomy : max now.moment event.moment < 2 ^ 64 = omega (arith, room, all.0.room) in
       fits_told config (max now.moment event.moment) (items_of (step_at config now event).deeds)
       (recorded_from config (behind config now event) later) roomy step.writable
@@ -78,7 +82,7 @@ module _ (config : Config) (numbered : AreNumbered config) where
       → (stands_from config now events).station.told ≡ now.station.told ++ items_in (recorded_from config now events)
   told_so now [] known all = sym (append-nil now.station.told)
   told_so now (event ∷ later) known all =
-      let step = known_hears now.swept event.time event.what now.station known all.0.short in
+      let step = known_hears now.door event.time event.what now.station known all.0.short in
       let items = items_of (step_at config now event).deeds in
       let rest = recorded_from config (behind config now event) later in
       told_so (behind config now event) later step.known all.1

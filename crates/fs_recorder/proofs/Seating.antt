@@ -1,5 +1,7 @@
 -- Seats of configured peers.
-use Rattle.fs_recorder.proofs.Words.{ℕ, Bool, true, false, List, [], ◌∷◌, ◌++◌, Some, ◌==◌, ◌≡◌, if◌then◌else◌, filter, find, not, refl, sym, subst, AllByRecursion, Config, Peer, IsSome, eq_itself, peer_of, Seat, AreKnown, IsKnown, Recording, without}
+use Rattle.fs_base.specs.declared.config.Address.{Address}
+use Rattle.fs_recorder.specs.Seats.{free_by, free_peer, free_peer_of}
+use Rattle.fs_recorder.proofs.Words.{ℕ, Bool, true, false, List, [], ◌∷◌, ◌++◌, Some, None, ◌∙◌, ◌==◌, ◌≡◌, if◌then◌else◌, filter, find, not, refl, Option, sym, subst, AllByRecursion, Config, Peer, IsSome, eq_itself, peer_of, Seat, AreKnown, IsKnown, Recording, without}
 
 filtered : (P : Seat → Type 0) (test : Seat → Bool) (seats : List Seat) → AllByRecursion P seats → AllByRecursion P (filter test seats)
 filtered P test [] all = tt
@@ -61,3 +63,18 @@ found_peer test (first ∷ peers) peer e = by (test first) (found_peer test peer
         subst (λ (one : Peer). IsSome (if one.number == peer.number then Some one else peer_of peer.number peers)) (sym same)
         (subst (λ (b : Bool). IsSome (if b then Some peer else peer_of peer.number peers)) (sym (eq_itself peer.number)) refl)
     by false later f = behind (first.number == peer.number) (later f)
+
+-- so is one of those that have no seat
+pub record FoundBy (peers : List Peer) (peer : Peer) : Type 0 where
+  pub test : Peer → Bool
+  pub found : find test peers ≡ Some peer
+
+pub found_by : (from : Address) (told : Option ℕ) (seats : List Seat) (peers : List Peer) (peer : Peer) → free_by from told seats peers ≡ Some peer
+    → FoundBy peers peer
+found_by from None seats peers peer e = record { test = _; found = e }
+found_by from (Some number) seats peers peer e = by (free_peer_of from number seats peers) refl e
+  where
+    by : (found : Option Peer) → free_peer_of from number seats peers ≡ found
+        → (elim found as (λ _. Option Peer) [ None ↦ free_peer from seats peers | Some one ↦ Some one ]) ≡ Some peer → FoundBy peers peer
+    by None g f = record { test = _; found = f }
+    by (Some one) g f = record { test = _; found = g ∙ f }

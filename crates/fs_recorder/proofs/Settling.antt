@@ -77,7 +77,7 @@ pub record Woke (time peer : ℕ) (old mid : Recording) : Type 0 where
   pub config_is : mid.books.desk.config ≡ old.books.desk.config
   pub scribe_is : mid.books.scribe ≡ old.books.scribe
   pub seats_are : mid.seats ≡ old.seats
-  pub swept_is : mid.swept ≡ old.swept
+  pub door_is : mid.door ≡ old.door
 
 pub woke_at : (time : ℕ) (place : Place) (old mid : Recording) (station : Station) → Stands station old → place_for place.peer station.places ≡ Some place
     → Woke time place.peer old mid → Ticked time place old.books.desk mid.books.desk mid.replies
@@ -104,14 +104,14 @@ module _ (time : ℕ) (place : Place) (old mid new : Recording) (turns turns' : 
       w.ticks w.stays w.expired w.so w.config_is w.scribe_is a.closes a.answers)
 
   woke_so : (lives : Bool) → expires time place ≡ not lives → Answered (seat_at place) lives mid new turns turns' before now
-      → DoesStep old.swept (settles (not lives) place to text station) old new turns turns' before now
+      → DoesStep old.door (settles (not lives) place to text station) old new turns turns' before now
   woke_so true e a = record {
     does = woke_does true a;
     stands = subst (λ told. Stands (record { told = told; places = moved place.peer to station.places }) new) (sym (told_says place.line text station.told))
         (stands_moved place to station.told station old mid new stands w.config_is w.seats_are at.others at.session at.session_is (at.made.alive e) (at.made.point_is e)
         (w.stays (ticked_stays time place old.books.desk mid.books.desk mid.replies at e) nobody old.books.desk.config station.told stands.played)
         a.settled.0 a.settled.1.0);
-    swept_is = a.settled.1.1 ∙ w.swept_is;
+    door_is = a.settled.1.1 ∙ w.door_is;
   }
   woke_so false e a =
       let is_open : IsOpenAt old.books.desk place =
@@ -124,7 +124,7 @@ module _ (time : ℕ) (place : Place) (old mid new : Recording) (turns turns' : 
         stands = subst (λ told. Stands (record { told = told; places = places_without place.line station.places }) new) (sym (told_leaves place text station.told))
             (stands_left place station.told (expired_with place.peer nobody) station old mid new stands found w.config_is w.seats_are at.others
             (w.expired other nobody old.books.desk.config station.told stands.played) (none_behind place.peer) a.settled (a.answers nobody).config_is);
-        swept_is = a.settled.swept_is ∙ w.swept_is;
+        door_is = a.settled.door_is ∙ w.door_is;
       }
 
   -- so that it closes, and not otherwise
@@ -132,10 +132,10 @@ module _ (time : ℕ) (place : Place) (old mid new : Recording) (turns turns' : 
   woke_lives lives closes = sym (ticked_shut time place old.books.desk mid.books.desk mid.replies at) ∙ closes
 
   pub woke_step : (lives : Bool) → Answered (seat_at place) lives mid new turns turns' before now
-      → DoesStep old.swept (wakes time place station) old new turns turns' before now
+      → DoesStep old.door (wakes time place station) old new turns turns' before now
   woke_step lives a =
       let e : expires time place ≡ not lives = woke_lives lives a.closes in
-      subst (λ b. DoesStep old.swept (settles b place to text station) old new turns turns' before now) (sym e) (woke_so lives e a)
+      subst (λ b. DoesStep old.door (settles b place to text station) old new turns turns' before now) (sym e) (woke_so lives e a)
 
 -- A piece was written, and heard by a session.
 pub record Received (piece : List ℕ) (peer : ℕ) (old mid : Recording) (before now : Option (List ℕ)) : Type 0 where
@@ -144,7 +144,7 @@ pub record Received (piece : List ℕ) (peer : ℕ) (old mid : Recording) (befor
   pub others : KeepsOthers peer old.books.desk mid.books.desk
   pub replied : RepliesBehind peer old.books.desk piece [] mid.replies
   pub seats_are : mid.seats ≡ old.seats
-  pub swept_is : mid.swept ≡ old.swept
+  pub door_is : mid.door ≡ old.door
 
 module _ (piece : List ℕ) (place : Place) (old mid : Recording) (before now : Option (List ℕ)) (station : Station)
     (stands : Stands station old) (found : place_for place.peer station.places ≡ Some place) (r : Received piece place.peer old mid before now) where
@@ -195,9 +195,9 @@ module _ (piece : List ℕ) (place : Place) (old mid : Recording) (before now : 
         (stands_left place told_now nobody station old mid new stands found r.told.config_is r.seats_are
         (r.others nobody config station.told stands.played) received_played (λ _. refl) a.settled (a.answers nobody).config_is)
 
-    received_swept : (lives : Bool) → Answered (seat_at place) lives mid new turns turns' now later → new.swept ≡ old.swept
-    received_swept true a = a.settled.1.1 ∙ r.swept_is
-    received_swept false a = a.settled.swept_is ∙ r.swept_is
+    received_door : (lives : Bool) → Answered (seat_at place) lives mid new turns turns' now later → new.door ≡ old.door
+    received_door true a = a.settled.1.1 ∙ r.door_is
+    received_door false a = a.settled.door_is ∙ r.door_is
 
     settled_deeds : (lives : Bool) → (settles (not lives) place to_piece said station_now).deeds ≡ answered lives (seat_at place) said
     settled_deeds true = refl
@@ -211,15 +211,15 @@ module _ (piece : List ℕ) (place : Place) (old mid : Recording) (before now : 
         (answered_so place.peer lives (answered lives (seat_at place) mid.replies) mid.books new.books turns turns' now later a.answers)
 
     pub received_step : (lives : Bool) → Answered (seat_at place) lives mid new turns turns' now later
-        → DoesStep old.swept (receives config place piece station) old new turns turns' before later
+        → DoesStep old.door (receives config place piece station) old new turns turns' before later
     received_step lives a =
         let e : shuts_now ≡ not lives = sym received_stands ∙ a.closes in
-        subst (λ b. DoesStep old.swept (then_do (doing (tells (received place.peer piece) ∷ []) station.places station) (settles b place to_piece said)) old new turns turns' before later)
+        subst (λ b. DoesStep old.door (then_do (doing (tells (received place.peer piece) ∷ []) station.places station) (settles b place to_piece said)) old new turns turns' before later)
         (sym e)
         (record {
           does = does_then nobody nobody (tells (received place.peer piece) ∷ []) old.books mid.books turns turns before now
               (does_tell (received place.peer piece) old.books mid.books turns before now r.told nobody)
               nobody (settles (not lives) place to_piece said station_now).deeds new.books turns' later (received_does lives a);
           stands = received_so lives e a;
-          swept_is = received_swept lives a;
+          door_is = received_door lives a;
         })

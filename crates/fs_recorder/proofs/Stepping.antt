@@ -1,5 +1,5 @@
 -- Steps that were taken, and steps that were broken off.
-use Rattle.fs_recorder.proofs.{Words.{nat_tests, longest_payload, length, ◌<◌, ◌≤◌, arith, ℕ, Bool, true, false, List, [], ◌∷◌, ◌++◌, Option, Some, None, ◌==◌, ◌-◌, ◌≡◌, not, refl, ap, sym, subst, ◌∙◌, ◌+◌, true≢false, if◌then◌else◌, nat_lt, AllByRecursion, IsWritable, Grew, Grew-refl, GrewPart, Turn, said, Config, IsNumbered, received, was_lost, HandsPeer, KeepsOthers, RepliesBehind, TicksPeer, StaysPlayed, ExpiresPlayed, ExpiresSo, standing_at_desk, nobody, Point, Booked, Scribed, Tells, TellsPart, Deed, Does, Recording, answered, is_closed, items_of, leaves, says, sends, tells, text_at, stands_established, Place, Station, Step, expires, handed_point, hurries, hurries_where_late, hurries_where_new, is_early, is_established, moved, open_time, place_for, place_of, receives, replies_to, resting, seat_at, settles, then_do, wakes, woken, Seat, seat_of, BreaksAt, BreaksIn, BreaksSo, DidAt, DidSo, DoesStep, IsOpenAt, Left, Stands, WakesSo}, Doing.{breaks_early, breaks_more, breaks_tell, breaks_then, breaks_where, does_ask, does_tell, does_then, items_both, says_items}, Places.{FoundAt, at_found, found_at, found_none, peers_all, place_found, place_is, place_moved}, Sessions.{open_stands}, Settling.{Answered, Received, Woke, received_says, received_stands, received_step, stands_gone, woke_at, woke_lives, woke_step}}
+use Rattle.fs_recorder.proofs.{Words.{longest_payload, length, ◌≤◌, ℕ, Bool, true, false, List, [], ◌∷◌, ◌++◌, Option, Some, None, ◌==◌, ◌-◌, ◌≡◌, not, refl, ap, sym, subst, ◌∙◌, ◌+◌, true≢false, if◌then◌else◌, nat_lt, AllByRecursion, IsWritable, Grew, Grew-refl, GrewPart, Turn, said, Config, IsNumbered, received, was_lost, HandsPeer, KeepsOthers, RepliesBehind, TicksPeer, StaysPlayed, ExpiresPlayed, ExpiresSo, standing_at_desk, nobody, Point, AtDoor, Booked, Scribed, Tells, TellsPart, Deed, Does, Recording, answered, is_closed, items_of, leaves, says, sends, tells, text_at, stands_established, Place, Station, Step, expires, handed_point, hurries, hurries_where_late, hurries_where_new, is_early, is_established, moved, open_time, place_for, place_of, receives, replies_to, resting, seat_at, settles, then_do, wakes, woken, Seat, seat_of, BreaksAt, BreaksIn, BreaksSo, DidAt, DidSo, DoesStep, IsOpenAt, Left, Stands, WakesSo}, Doing.{breaks_early, breaks_more, breaks_tell, breaks_then, breaks_where, does_ask, does_tell, does_then, items_both, says_items}, Places.{FoundAt, at_found, found_at, found_none, peers_all, place_found, place_is, place_moved}, Sessions.{open_stands}, Settling.{Answered, Received, Woke, received_says, received_stands, received_step, stands_gone, woke_at, woke_lives, woke_step}}
 use Rattle.fs_speaker.specs.{declared.{Standing.{TheVariants.{Live as LiveIn}}, State.{State, TheVariants.{WaitOpen, WaitKeep, Established, Closed}}}, End.{ticked}, Side.{notice_text}, State.{standing_by}}
 
 -- the place of a seat, where the seat is seen as its own
@@ -19,27 +19,27 @@ place_known station old stands peer place found =
 
 -- nothing is done
 pub does_rest : (station : Station) (old : Recording) (turns : Option (List Turn)) (written : Option (List ℕ)) → Stands station old
-    → DoesStep old.swept (resting station) old old turns turns written written
+    → DoesStep old.door (resting station) old old turns turns written written
 does_rest station old turns written stands = record {
   does = does_ask nobody [] old.books turns turns written refl (Grew-refl turns);
   stands = stands;
-  swept_is = refl;
+  door_is = refl;
 }
 
 -- one step, and then another one
-pub does_both : (first : Step) (later : Station → Step) (old mid new : Recording) (t t1 t2 : Option (List Turn)) (w w1 w2 : Option (List ℕ))
-    → DoesStep old.swept first old mid t t1 w w1 → DoesStep mid.swept (later first.station) mid new t1 t2 w1 w2
-    → DoesStep old.swept (then_do first later) old new t t2 w w2
+pub does_both : {door : AtDoor} → (first : Step) (later : Station → Step) (old mid new : Recording) (t t1 t2 : Option (List Turn)) (w w1 w2 : Option (List ℕ))
+    → DoesStep door first old mid t t1 w w1 → DoesStep mid.door (later first.station) mid new t1 t2 w1 w2
+    → DoesStep door (then_do first later) old new t t2 w w2
 does_both first later old mid new t t1 t2 w w1 w2 one next = record {
   does = does_then nobody nobody first.deeds old.books mid.books t t1 w w1 one.does nobody (later first.station).deeds new.books t2 w2 next.does;
   stands = next.stands;
-  swept_is = next.swept_is ∙ one.swept_is;
+  door_is = next.door_is ∙ one.door_is;
 }
 
-pub breaks_both : {L : Type 0} → (first : Step) (later : Station → Step) (old mid : Recording) (t t1 t2 : Option (List Turn)) (w w1 w2 : Option (List ℕ))
-    → DoesStep old.swept first old mid t t1 w w1 → BreaksAt L (later first.station).deeds mid.books t1 t2 w1 w2
+pub breaks_both : {L : Type 0} → {door : AtDoor} → (first : Step) (later : Station → Step) (old mid : Recording) (t t1 t2 : Option (List Turn)) (w w1 w2 : Option (List ℕ))
+    → DoesStep door first old mid t t1 w w1 → BreaksAt L (later first.station).deeds mid.books t1 t2 w1 w2
     → BreaksAt L (then_do first later).deeds old.books t t2 w w2
-breaks_both {L} first later old mid t t1 t2 w w1 w2 one next =
+breaks_both {L} {door} first later old mid t t1 t2 w w1 w2 one next =
     breaks_then nobody nobody first.deeds old.books mid.books t t1 w w1 one.does (later first.station).deeds t2 w2 next
 
 -- what a session says and how it settles can be written
@@ -68,9 +68,9 @@ breaks_before {L} deeds old mid t t1 w w1 scribe config breaks = record {
 pub woke_as : (time peer : ℕ) (inside old mid : Recording) (cleared : List ℕ) → inside ≡ old → cleared ≡ []
     → TicksPeer peer time inside.books.desk mid.books.desk cleared mid.replies → StaysPlayed peer inside.books.desk mid.books.desk
     → ExpiresPlayed peer inside.books.desk mid.books.desk → ExpiresSo peer inside.books.desk mid.books.desk
-    → mid.books.desk.config ≡ inside.books.desk.config → mid.books.scribe ≡ inside.books.scribe → mid.seats ≡ inside.seats → mid.swept ≡ inside.swept
+    → mid.books.desk.config ≡ inside.books.desk.config → mid.books.scribe ≡ inside.books.scribe → mid.seats ≡ inside.seats → mid.door ≡ inside.door
     → Woke time peer old mid
-woke_as time peer inside old mid cleared same none ticks stays expired so config_is scribe_is seats_are swept_is =
+woke_as time peer inside old mid cleared same none ticks stays expired so config_is scribe_is seats_are door_is =
     subst (λ (r : Recording). Woke time peer r mid) same
     (record {
       ticks = subst (λ before. TicksPeer peer time inside.books.desk mid.books.desk before mid.replies) none ticks;
@@ -80,7 +80,7 @@ woke_as time peer inside old mid cleared same none ticks stays expired so config
       config_is = config_is;
       scribe_is = scribe_is;
       seats_are = seats_are;
-      swept_is = swept_is;
+      door_is = door_is;
     })
 
 pub did_wake : (time : ℕ) (seat : Seat) (lives : Bool) (old mid new : Recording) (t t1 : Option (List Turn)) (w w1 : Option (List ℕ)) → Woke time seat.peer old mid
@@ -125,8 +125,8 @@ breaks_woken {L} time seat old mid t t1 w w1 woke closes breaks station stands p
 pub received_as : (piece : List ℕ) (peer : ℕ) (inside old mid : Recording) (cleared : List ℕ) (before now : Option (List ℕ)) → inside ≡ old → cleared ≡ []
     → Tells (received peer piece) inside.books mid.books before now → HandsPeer peer inside.books.desk mid.books.desk piece cleared mid.replies
     → KeepsOthers peer inside.books.desk mid.books.desk → RepliesBehind peer inside.books.desk piece cleared mid.replies
-    → mid.seats ≡ inside.seats → mid.swept ≡ inside.swept → Received piece peer old mid before now
-received_as piece peer inside old mid cleared before now same none told hands others replied seats_are swept_is =
+    → mid.seats ≡ inside.seats → mid.door ≡ inside.door → Received piece peer old mid before now
+received_as piece peer inside old mid cleared before now same none told hands others replied seats_are door_is =
     subst (λ (r : Recording). Received piece peer r mid before now) same
     (record {
       told = told;
@@ -134,7 +134,7 @@ received_as piece peer inside old mid cleared before now same none told hands ot
       others = others;
       replied = subst (λ said. RepliesBehind peer inside.books.desk piece said mid.replies) none replied;
       seats_are = seats_are;
-      swept_is = swept_is;
+      door_is = door_is;
     })
 
 pub did_receive : (piece : List ℕ) (seat : Seat) (lives : Bool) (old mid new : Recording) (t t1 : Option (List Turn)) (w w1 w2 : Option (List ℕ)) → Received piece seat.peer old mid w w1
@@ -188,7 +188,7 @@ module _ (time : ℕ) (seat : Seat) (later : Place → Station → Step) where
   pub woken_shut : (old new : Recording) (t t1 : Option (List Turn)) (w w1 : Option (List ℕ)) → WakesSo time seat old false → DidAt seat (wakes time) old new t t1 w w1
       → DidAt seat (wakes_then time later) old new t t1 w w1
   woken_shut old new t t1 w w1 so did station stands place found seated =
-      subst (λ b. DoesStep old.swept (if b then wakes time place station else then_do (wakes time place station) (later (woken time place))) old new t t1 w w1)
+      subst (λ b. DoesStep old.door (if b then wakes time place station else then_do (wakes time place station) (later (woken time place))) old new t t1 w w1)
       (sym (flipped false (expires time place) (so station stands place found)))
       (did station stands place found seated)
 
@@ -197,7 +197,7 @@ module _ (time : ℕ) (seat : Seat) (later : Place → Station → Step) where
     woken_then new next station stands place found seated =
         let e : expires time place ≡ false = flipped true (expires time place) (so station stands place found) in
         let one = did station stands place found seated in
-        subst (λ b. DoesStep old.swept (if b then wakes time place station else then_do (wakes time place station) (later (woken time place))) old new t t2 w w2) (sym e)
+        subst (λ b. DoesStep old.door (if b then wakes time place station else then_do (wakes time place station) (later (woken time place))) old new t t2 w w2) (sym e)
         (does_both (wakes time place station) (later (woken time place)) old mid new t t1 t2 w w1 w2 one
         (next (wakes time place station).station one.stands (woken time place) (at_woken (expires time place) e station place found) seated))
 
@@ -253,7 +253,7 @@ place_est station old stands peer place found =
 pub did_not_hurry : (seat : Seat) (old : Recording) (t : Option (List Turn)) (w : Option (List ℕ)) → stands_established (standing_at_desk old.books.desk seat.peer) ≡ true
     → DidAt seat hurries_where_new old old t t w w
 did_not_hurry seat old t w is station stands place found seated =
-    subst (λ b. DoesStep old.swept (if b then resting station else hurries place station) old old t t w w)
+    subst (λ b. DoesStep old.door (if b then resting station else hurries place station) old old t t w w)
     (sym (place_est station old stands seat.peer place found ∙ is)) (does_rest station old t w stands)
 
 abbrev pub gives_up : Seat → List Deed
@@ -266,13 +266,13 @@ did_hurry seat old new t t1 t2 w w1 is grew does left station stands place found
     let all : Does nobody nobody (gives_up seat) old.books new.books t t2 w w1 =
     does_then nobody nobody (sends seat.line (notice_text 4 0) ∷ []) old.books old.books t t1 w w
     (does_ask nobody (sends seat.line (notice_text 4 0) ∷ []) old.books t t1 w refl grew) nobody (leaves seat) new.books t2 w1 does in
-    subst (λ b. DoesStep old.swept (if b then resting station else hurries place station) old new t t2 w w1)
+    subst (λ b. DoesStep old.door (if b then resting station else hurries place station) old new t t2 w w1)
     (sym (place_est station old stands seat.peer place found ∙ is))
     (record {
       does = subst (λ s. Does nobody nobody (gives_up s) old.books new.books t t2 w w1) (sym seated) all;
       stands = stands_gone place station old new stands (own_found seat station.places place found)
           (subst (λ s. Left s old new) (sym seated) left) does.config_is;
-      swept_is = left.swept_is;
+      door_is = left.door_is;
     })
 
 pub breaks_hurry : {L : Type 0} → (seat : Seat) (old : Recording) (t t1 t2 : Option (List Turn)) (w w1 : Option (List ℕ)) → stands_established (standing_at_desk old.books.desk seat.peer) ≡ false
@@ -286,25 +286,19 @@ breaks_hurry {L} seat old t t1 t2 w w1 is grew breaks station stands place found
 
 -- the time that a session has
 
-pub time_left : (a b : ℕ) → a < b → nat_lt a b ≡ true
-time_left a b less = grind (arith, nat_tests, less)
-
-pub time_up : (a b : ℕ) → b ≤ a → nat_lt a b ≡ false
-time_up a b less = grind (arith, nat_tests, less)
-
 place_early : (time : ℕ) (seat : Seat) (place : Place) → seat_at place ≡ seat → is_early time place ≡ nat_lt (time - seat.since) open_time
 place_early time seat place seated = ap (λ (s : Seat). nat_lt (time - s.since) open_time) seated
 
 pub did_early : (time : ℕ) (seat : Seat) (old : Recording) (t : Option (List Turn)) (w : Option (List ℕ)) → nat_lt (time - seat.since) open_time ≡ true
     → DidAt seat (hurries_where_late time) old old t t w w
 did_early time seat old t w early station stands place found seated =
-    subst (λ b. DoesStep old.swept (if b then resting station else hurries_where_new place station) old old t t w w)
+    subst (λ b. DoesStep old.door (if b then resting station else hurries_where_new place station) old old t t w w)
     (sym (place_early time seat place seated ∙ early)) (does_rest station old t w stands)
 
 pub did_late : (time : ℕ) (seat : Seat) (old new : Recording) (t t1 : Option (List Turn)) (w w1 : Option (List ℕ)) → nat_lt (time - seat.since) open_time ≡ false
     → DidAt seat hurries_where_new old new t t1 w w1 → DidAt seat (hurries_where_late time) old new t t1 w w1
 did_late time seat old new t t1 w w1 late did station stands place found seated =
-    subst (λ b. DoesStep old.swept (if b then resting station else hurries_where_new place station) old new t t1 w w1)
+    subst (λ b. DoesStep old.door (if b then resting station else hurries_where_new place station) old new t t1 w w1)
     (sym (place_early time seat place seated ∙ late)) (did station stands place found seated)
 
 pub breaks_late : {L : Type 0} → (time : ℕ) (seat : Seat) (old : Recording) (t t1 : Option (List Turn)) (w w1 : Option (List ℕ)) → nat_lt (time - seat.since) open_time ≡ false
@@ -333,13 +327,13 @@ did_line line seat step old new t t1 w w1 is did station stands =
     found_at (λ (other : Seat). other.line == line) station.places seat (ap (seat_of line) (sym stands.seats_are) ∙ is) in
     let own : place_for seat.peer station.places ≡ Some at.place =
     subst (λ (s : Seat). place_for s.peer station.places ≡ Some at.place) at.seated (place_found line station.places at.place stands.apart at.found) in
-    subst (λ (found : Option Place). DoesStep old.swept (elim found [ None ↦ resting station | Some place ↦ step place station ]) old new t t1 w w1) (sym at.found)
+    subst (λ (found : Option Place). DoesStep old.door (elim found [ None ↦ resting station | Some place ↦ step place station ]) old new t t1 w w1) (sym at.found)
     (did station stands at.place own at.seated)
 
 pub did_no_line : (line : ℕ) (step : Place → Station → Step) (old : Recording) (t : Option (List Turn)) (w : Option (List ℕ)) → seat_of line old.seats ≡ None
     → DidSo (λ station. elim (place_of line station.places) [ None ↦ resting station | Some place ↦ step place station ]) old old t t w w
 did_no_line line step old t w is station stands =
-    subst (λ (found : Option Place). DoesStep old.swept (elim found [ None ↦ resting station | Some place ↦ step place station ]) old old t t w w)
+    subst (λ (found : Option Place). DoesStep old.door (elim found [ None ↦ resting station | Some place ↦ step place station ]) old old t t w w)
     (sym (found_none (λ (other : Seat). other.line == line) station.places (ap (seat_of line) (sym stands.seats_are) ∙ is)))
     (does_rest station old t w stands)
 

@@ -1,9 +1,9 @@
 -- The clock of each session in turn, and all that is done at an event.
-use Rattle.fs_recorder.proofs.{PlaceWords.{Bool, List, Option, [], ap, append_assoc, false, not, refl, subst, sym, true, ℕ, ◌++◌, ◌∙◌, ◌∷◌, ◌≡◌, AllByRecursion, if◌then◌else◌, Turn, Config, IsWritable, nobody, Recording, items_of, What, Station, Step, checks_peer, follows, hears, is_due, peers_at, peers_in, resting, swept_after, sweeps, sweeps_all, sweeps_where_due, then_do, BreaksAt, BreaksSo, DidHear, DidSo, DoesStep, Stands}, Doing.{breaks_early, breaks_more, breaks_then, breaks_where, does_then}, Knowing.{Known, known_checks_peer, known_follows, known_sweeps, known_where_due, new_told}, Stepping.{breaks_both, does_both, does_rest}}
-use Rattle.fs_recorder.specs.{Books.{Booked}, Deeds.{passing}, Laws.{IsShort}, Steps.{seat_at, Place}}
+use Rattle.fs_recorder.proofs.{PlaceWords.{Bool, List, Option, [], ap, append_assoc, false, refl, subst, sym, true, ℕ, ◌++◌, ◌∙◌, ◌∷◌, ◌≡◌, AllByRecursion, if◌then◌else◌, Grew, Turn, shut, Config, IsWritable, nobody, Recording, items_of, What, Station, Step, checks_peer, follows, hears, AtDoor, door_after, door_with, is_due, late_lines, swept_at, swept_where_due, peers_at, peers_in, resting, seat_at, shuts, sweeps, sweeps_all, sweeps_where_due, then_do, turns_away, BreaksAt, BreaksSo, DidHear, DidSo, DoesStep, Stands}, Doing.{breaks_early, breaks_more, breaks_then, breaks_where, does_ask, does_then, shuts_asked, shuts_items}, Knowing.{Known, known_checks_peer, known_follows, known_sweeps, known_where_due, new_told}, Stepping.{breaks_both, does_both, does_rest}, Waiting.{stands_door}}
+use Rattle.fs_recorder.specs.{Books.{Booked}, Deeds.{Does, passing}, Laws.{IsShort}, Steps.{Place}}
 use Rattle.fs_recorder.specs.declared.seats.Seat.{Seat}
 use Rattle.fs_base.specs.{Gate.{what_from}, declared.Came.{Came, TheVariants.{Ended, Made, Nothing, Octets, Taken}}}
-use Rattle.std.{proofs.{Common.{arith, drop, get_or, length, take, ◌+◌, ◌<◌, ◌≤◌}, lemmas.{Bool.Decides.{nat_tests}, List.{drop_more, length-drop, length-take, map-append, take-append-drop, take_more}}}, specs.Prelude.{map, nat_lt, ◌-◌}}
+use Rattle.std.{proofs.{Common.{arith, drop, get_or, length, take, ◌+◌, ◌<◌, ◌≤◌}, lemmas.{List.{drop_more, length-drop, length-take, map-append, take-append-drop, take_more}}}, specs.Prelude.{map}}
 
 -- some peers, and then others
 pub sweeps_both : (time : ℕ) (front later : List ℕ) (station : Station)
@@ -24,7 +24,7 @@ module _ (time : ℕ) (front : List ℕ) (peer : ℕ) (a b : Recording) (t t1 t2
       let next = later (sweeps time front station).station one.stands in
       let single = does_both (checks_peer time peer (sweeps time front station).station) (sweeps time []) b c c t1 t2 t2 w1 w2 w2 next
       (does_rest (checks_peer time peer (sweeps time front station).station).station c t2 w2 next.stands) in
-      subst (λ step. DoesStep a.swept step a c t t2 w w2) (sym (sweeps_both time front (peer ∷ []) station))
+      subst (λ step. DoesStep a.door step a c t t2 w w2) (sym (sweeps_both time front (peer ∷ []) station))
       (does_both (sweeps time front station) (sweeps time (peer ∷ [])) a b c t t1 t2 w w1 w2 one single)
 
   -- it was broken off at a peer
@@ -51,7 +51,7 @@ module _ (time : ℕ) (old : Recording) (t t1 : Option (List Turn)) (w w1 : Opti
   pub did_sweep : (seats : List Seat) (new : Recording) → seats ≡ old.seats → DidSo (sweeps time (peers_in seats)) old new t t1 w w1
       → DidSo (sweeps_all time) old new t t1 w w1
   did_sweep seats new same did station stands =
-      subst (λ peers. DoesStep old.swept (sweeps time peers station) old new t t1 w w1) (ap peers_in same ∙ peers_are old station stands) (did station stands)
+      subst (λ peers. DoesStep old.door (sweeps time peers station) old new t t1 w w1) (ap peers_in same ∙ peers_are old station stands) (did station stands)
 
   pub breaks_sweep : {L : Type 0} → (seats : List Seat) → seats ≡ old.seats → BreaksSo L (sweeps time (peers_in seats)) old t t1 w w1
       → BreaksSo L (sweeps_all time) old t t1 w w1
@@ -64,71 +64,88 @@ breaks_sweep_early {L} time old t w never station stands =
     breaks_early (sweeps_all time station).deeds old.books t w
     (known_sweeps old.books.desk.config time (peers_at station.places) station stands.known).writable never
 
--- the clock was heard of all at another time
-pub stands_swept : (station : Station) (old : Recording) (time : ℕ) → Stands station old → Stands station (record old { swept = time })
-stands_swept station old time stands = record {
-  played = stands.played;
-  seats_are = stands.seats_are;
-  live = stands.live;
-  apart = stands.apart;
-  known = stands.known;
-}
-
 -- An event.
-module _ (config : Config) (time : ℕ) (what : What) (old mid : Recording) (t t1 t2 : Option (List Turn)) (w w1 w2 : Option (List ℕ)) where
+module _ (config : Config) (time : ℕ) (what : What) (old mid : Recording) (t t1 : Option (List Turn)) (w w1 : Option (List ℕ)) where
+  abbrev behind_event : AtDoor
+  behind_event = door_with config time what old.seats old.door
+
+  abbrev event_step : Station → Step
+  event_step = follows config old.door.guests time what
+
+  -- the clock may be due behind it
   abbrev pub hears_by : Bool → Station → Step
-  hears_by b station = then_do (follows config time what station) (λ at. if b then sweeps_all time at else resting at)
+  hears_by b station =
+      then_do (event_step station) (λ at. if b then then_do (turns_away time mid.door.guests at) (sweeps_all time) else resting at)
+
+  abbrev hears_at : AtDoor → Station → Step
+  hears_at door station = then_do (event_step station) (sweeps_where_due door time)
 
   -- no clock is due
-  pub did_early : is_due mid.swept time ≡ false → DidSo (follows config time what) old mid t t1 w w1
-      → DidHear (swept_after old.swept time) (hears config old.swept time what) old mid t t1 w w1
+  pub did_early : is_due mid.door.swept time ≡ false → DidHear behind_event event_step old mid t t1 w w1
+      → DidHear (door_after config time what old.seats old.door) (hears config old.door time what) old mid t t1 w w1
   did_early e did station stands =
       let one = did station stands in
-      let all = does_both (follows config time what station) resting old mid mid t t1 t1 w w1 w1 one
-      (does_rest (follows config time what station).station mid t1 w1 one.stands) in
-      subst (λ (b : Bool). DoesStep (if b then time else old.swept) (hears_by b station) old mid t t1 w w1) (sym (ap (λ s. is_due s time) (sym one.swept_is) ∙ e))
-      (record { does = all.does; stands = all.stands; swept_is = one.swept_is })
+      let all = does_both (event_step station) resting old mid mid t t1 t1 w w1 w1 one
+      (does_rest (event_step station).station mid t1 w1 one.stands) in
+      subst (λ (seats : List Seat). DoesStep (swept_where_due time behind_event) (hears_at (door_with config time what seats old.door) station) old mid t t1 w w1) stands.seats_are
+      (subst (λ (door : AtDoor). DoesStep (swept_where_due time door) (hears_at door station) old mid t t1 w w1) one.door_is
+      (subst (λ (b : Bool). DoesStep (if b then swept_at time mid.door else mid.door) (hears_by b station) old mid t t1 w w1) (sym e)
+      (record { does = all.does; stands = all.stands; door_is = refl })))
 
   -- the clock is due
-  pub did_due : (new : Recording) → is_due mid.swept time ≡ true → DidSo (follows config time what) old mid t t1 w w1
-      → DidSo (sweeps_all time) (record mid { swept = time }) new t1 t2 w1 w2
-      → DidHear (swept_after old.swept time) (hears config old.swept time what) old new t t2 w w2
-  did_due new e did later station stands =
-      let one = did station stands in
-      let next = later (follows config time what station).station (stands_swept (follows config time what station).station mid time one.stands) in
-      subst (λ (b : Bool). DoesStep (if b then time else old.swept) (hears_by b station) old new t t2 w w2) (sym (ap (λ s. is_due s time) (sym one.swept_is) ∙ e))
-      (record {
-        does = does_then nobody nobody (follows config time what station).deeds old.books mid.books t t1 w w1 one.does nobody
-            (sweeps_all time (follows config time what station).station).deeds new.books t2 w2 next.does;
-        stands = next.stands;
-        swept_is = next.swept_is;
-      })
+  module _ (due : is_due mid.door.swept time ≡ true) (did : DidHear behind_event event_step old mid t t1 w w1) (t2 t3 : Option (List Turn)) (w2 : Option (List ℕ))
+      (away : Grew t1 t2 (map shut (late_lines time mid.door.guests))) where
+    turned_away : Does nobody nobody (map shuts (late_lines time mid.door.guests)) mid.books mid.books t1 t2 w1 w1
+    turned_away =
+        does_ask nobody (map shuts (late_lines time mid.door.guests)) mid.books t1 t2 w1 (shuts_items (late_lines time mid.door.guests))
+        (subst (Grew t1 t2) (sym (shuts_asked (late_lines time mid.door.guests))) away)
 
-  -- it was broken off at the clock
-  pub breaks_due : {L : Type 0} → is_due mid.swept time ≡ true → DidSo (follows config time what) old mid t t1 w w1
-      → BreaksSo L (sweeps_all time) (record mid { swept = time }) t1 t2 w1 w2
-      → BreaksSo L (hears config old.swept time what) old t t2 w w2
-  breaks_due {L} e did later station stands =
-      let one = did station stands in
-      subst (λ (b : Bool). BreaksAt L (hears_by b station).deeds old.books t t2 w w2) (sym (ap (λ s. is_due s time) (sym one.swept_is) ∙ e))
-      (breaks_then nobody nobody (follows config time what station).deeds old.books mid.books t t1 w w1 one.does
-      (sweeps_all time (follows config time what station).station).deeds t2 w2
-      (later (follows config time what station).station (stands_swept (follows config time what station).station mid time one.stands)))
+    pub did_due : (new : Recording) → DidSo (sweeps_all time) (record mid { door = swept_at time mid.door }) new t2 t3 w1 w2
+        → DidHear (door_after config time what old.seats old.door) (hears config old.door time what) old new t t3 w w2
+    did_due new later station stands =
+        let one = did station stands in
+        let next = later (event_step station).station (stands_door (event_step station).station mid (swept_at time mid.door) one.stands) in
+        subst (λ (seats : List Seat). DoesStep (swept_where_due time behind_event) (hears_at (door_with config time what seats old.door) station) old new t t3 w w2) stands.seats_are
+        (subst (λ (door : AtDoor). DoesStep (swept_where_due time door) (hears_at door station) old new t t3 w w2) one.door_is
+        (subst (λ (b : Bool). DoesStep (if b then swept_at time mid.door else mid.door) (hears_by b station) old new t t3 w w2) (sym due)
+        (record {
+          does = does_then nobody nobody (event_step station).deeds old.books mid.books t t1 w w1 one.does nobody
+              (map shuts (late_lines time mid.door.guests) ++ (sweeps_all time (event_step station).station).deeds) new.books t3 w2
+              (does_then nobody nobody (map shuts (late_lines time mid.door.guests)) mid.books mid.books t1 t2 w1 w1 turned_away nobody
+              (sweeps_all time (event_step station).station).deeds new.books t3 w2 next.does);
+          stands = next.stands;
+          door_is = next.door_is;
+        })))
+
+    -- it was broken off at the clock
+    pub breaks_due : {L : Type 0} → BreaksSo L (sweeps_all time) (record mid { door = swept_at time mid.door }) t2 t3 w1 w2
+        → BreaksSo L (hears config old.door time what) old t t3 w w2
+    breaks_due {L} later station stands =
+        let one = did station stands in
+        let next = later (event_step station).station (stands_door (event_step station).station mid (swept_at time mid.door) one.stands) in
+        subst (λ (seats : List Seat). BreaksAt L (hears_at (door_with config time what seats old.door) station).deeds old.books t t3 w w2) stands.seats_are
+        (subst (λ (door : AtDoor). BreaksAt L (hears_at door station).deeds old.books t t3 w w2) one.door_is
+        (subst (λ (b : Bool). BreaksAt L (hears_by b station).deeds old.books t t3 w w2) (sym due)
+        (breaks_then nobody nobody (event_step station).deeds old.books mid.books t t1 w w1 one.does
+        (map shuts (late_lines time mid.door.guests) ++ (sweeps_all time (event_step station).station).deeds) t3 w2
+        (breaks_then nobody nobody (map shuts (late_lines time mid.door.guests)) mid.books mid.books t1 t2 w1 w1 turned_away
+        (sweeps_all time (event_step station).station).deeds t3 w2 next))))
 
 -- it was broken off at the event itself
 pub breaks_follow : {L M : Type 0} → (config : Config) (time : ℕ) (what : What) (old : Recording) (t t1 : Option (List Turn)) (w w1 : Option (List ℕ))
-    → config ≡ old.books.desk.config → IsShort what → (M → L) → BreaksSo L (follows config time what) old t t1 w w1
-    → BreaksSo M (hears config old.swept time what) old t t1 w w1
+    → config ≡ old.books.desk.config → IsShort what → (M → L) → BreaksSo L (follows config old.door.guests time what) old t t1 w w1
+    → BreaksSo M (hears config old.door time what) old t t1 w w1
 breaks_follow {L} {M} config time what old t t1 w w1 same short named breaks station stands =
-    let broken : BreaksAt M (follows config time what station).deeds old.books t t1 w w1 = breaks_where named (breaks station stands) in
+    let first = follows config old.door.guests time what station in
+    let door = door_with config time what (map seat_at station.places) old.door in
+    let broken : BreaksAt M first.deeds old.books t t1 w w1 = breaks_where named (breaks station stands) in
     let known : Known config station = subst (λ c. Known c station) (sym same) stands.known in
-    let writable : AllByRecursion (IsWritable config) (items_of (follows config time what station).deeds) =
-    subst (λ c. AllByRecursion (IsWritable c) (items_of (follows config time what station).deeds)) (sym same) broken.writable in
-    let step = known_follows config time what station known short (new_told config time what station writable) in
-    breaks_more (follows config time what station).deeds (sweeps_where_due old.swept time (follows config time what station).station).deeds
-    old.books t t1 w w1
-    (subst (λ c. AllByRecursion (IsWritable c) (items_of (sweeps_where_due old.swept time (follows config time what station).station).deeds)) same
-    (known_where_due config time old.swept (follows config time what station).station step.known).writable)
+    let writable : AllByRecursion (IsWritable config) (items_of first.deeds) =
+    subst (λ c. AllByRecursion (IsWritable c) (items_of first.deeds)) (sym same) broken.writable in
+    let step = known_follows config old.door.guests time what station known short (new_told config old.door.guests time what station writable) in
+    breaks_more first.deeds (sweeps_where_due door time first.station).deeds old.books t t1 w w1
+    (subst (λ c. AllByRecursion (IsWritable c) (items_of (sweeps_where_due door time first.station).deeds)) same
+    (known_where_due config time door first.station step.known).writable)
     broken
 
 -- the peers of the seats up to one, and of those behind it
@@ -157,10 +174,3 @@ pub passed_as : (moment : ℕ) (inside old : Recording) (books : Booked) → boo
     → ◌≡◌ {A = Recording} (record inside { books = books }) (passing moment old)
 passed_as moment inside old books b e =
     ap (λ (x : Booked). let now : Recording = record inside { books = x } in now) b ∙ ap (passing moment) e
-
-lt_false : (a b : ℕ) → b ≤ a → nat_lt a b ≡ false
-lt_false a b h = let s = h in grind (arith, nat_tests)
-
--- so many milliseconds have passed
-pub due_from : (swept time past : ℕ) → past ≡ time - swept → 500 ≤ past → is_due swept time ≡ true
-due_from swept time past e long = ap not (lt_false (time - swept) 500 (subst (λ n. 500 ≤ n) e long))

@@ -4,7 +4,7 @@ use Rattle.fs_base.specs.{Config.{peer_of}, Gate.{Turn, said, shut}, Sink.{Grew}
 use Rattle.fs_tape.specs.{Laws.{IsWritable, item_text}, Tape.{Item, Timed, timed, was_lost}, declared.magic.Version.TheVariants.{Two}}
 use Rattle.fs_speaker.specs.declared.{Standing.{Standing, TheVariants.{Ended, Live}}, State.TheVariants.{Established}}
 use Rattle.fs_desk.specs.{Desk.{expired_after}}
-use Rattle.fs_recorder.specs.{Books.{AgreesBut, Booked}, Tapes.{passed}, declared.seats.Seat.{Seat}}
+use Rattle.fs_recorder.specs.{Books.{AgreesBut, Booked}, Door.{AtDoor}, Tapes.{passed}, declared.seats.Seat.{Seat}}
 
 -- An item is told, and written as a record at once; octets are sent through a line; a line is closed.
 pub data Deed : Type 0 where
@@ -69,12 +69,12 @@ abbrev pub answered : (lives : Bool) → Seat → List ℕ → List Deed
 answered true seat replies = says seat.line replies
 answered false seat replies = says seat.line replies ++ leaves seat
 
--- Tape and desk, the seats in the order in which they were taken, when the clock was last heard of all, and what a session
--- has just replied.
+-- Tape and desk, the seats in the order in which they were taken, which connections wait, and what a session has just
+-- replied.
 pub record Recording : Type 0 where
   pub books : Booked
   pub seats : List Seat
-  pub swept : ℕ
+  pub door : AtDoor
   pub replies : List ℕ
 
 -- the clock on the wall says this moment

@@ -1,10 +1,10 @@
 -- What a recorder does at each event, by what was told before and by which connections speak for which peers.
-use Rattle.std.specs.Prelude.{ℕ, List, [], ◌∷◌, ◌++◌, ◌-◌, ◌==◌, Bool, true, false, Option, Some, None, drop, find, filter, length, map, max, not, nat_lt, unwrap_or, is_some, if◌then◌else◌}
+use Rattle.std.specs.Prelude.{ℕ, List, [], ◌∷◌, ◌++◌, ◌-◌, ◌==◌, ◌&&◌, Bool, true, false, Option, Some, None, drop, find, filter, length, map, max, not, nat_lt, unwrap_or, is_some, if◌then◌else◌}
 use Rattle.fs_base.specs.{Config.{peer_of}, Gate.{Turn, What, came, ended, gave, made, nothing, taken}, declared.config.{Address.{Address}, Config.{Config}}}
 use Rattle.fs_tape.specs.Tape.{Item, Timed, came_up, received, was_lost}
 use Rattle.fs_speaker.specs.{End.{first_point, ticked}, Handed.{Point, hand}, Side.{notice_text, receiver}, declared.State.{State, TheVariants.{Established}}}
 use Rattle.fs_desk.specs.{Desk.{standing_of}, Life.{life}, Limit.{bounded_replies}}
-use Rattle.fs_recorder.specs.{Deeds.{Deed, asked_in, is_closed, items_of, leaves, says, sends, shuts, tells, told_at}, Seats.{first_peer, free_peer}, declared.seats.Seat.{Seat}}
+use Rattle.fs_recorder.specs.{Deeds.{Deed, asked_in, is_closed, items_of, leaves, says, sends, shuts, tells, told_at}, Door.{AtDoor, empty_door, guest_of, is_due, late_lines, open_time, said_as, swept_where_due, with_guest, without_guest}, Seats.{are_told_apart, first_peer, free_by}, declared.{door.Guest.{Guest}, seats.Seat.{Seat}}}
 
 -- A connection that speaks for a peer, the time in milliseconds when it was taken, and where the session through it stands.
 pub record Place : Type 0 where
@@ -152,35 +152,63 @@ abbrev pub replaces : (line peer time : ℕ) → Station → Step
 replaces line peer time station =
     then_do (vacates peer station) (seats_one (record { line = line; peer = peer; since = time }))
 
--- The peer for which a connection from an address is to speak: the first configured peer of the address for which none
--- speaks; where there is none, and no hold time is configured, the first peer of the address.
-abbrev pub peer_for : Config → (from : Address) → List Seat → Option ℕ
-peer_for config from seats =
-    elim (free_peer from seats config.peers) [
+-- The peer for which a connection from an address is to speak: of the configured peers of the address for which none speaks
+-- the first that has the AS of its OPEN, where one was told, or else the first; where there is none, and no hold time is
+-- configured, the first peer of the address.
+abbrev pub peer_for : Config → (from : Address) → (told : Option ℕ) → List Seat → Option ℕ
+peer_for config from told seats =
+    elim (free_by from told seats config.peers) [
       | Some peer ↦ Some peer.number
       | None ↦ if config.hold_time == 0 then elim (first_peer from config.peers) [ None ↦ None | Some peer ↦ Some peer.number ] else None
     ]
 
--- A connection was taken: it speaks for that peer, in place of one that does; where it is to speak for none it is closed
--- (RFC 4271, section 6.8).
-abbrev pub takes : Config → (line : ℕ) → (from : Address) → (time : ℕ) → Station → Step
-takes config line from time station =
-    elim (peer_for config from (map seat_at station.places)) [
+-- A connection speaks for that peer from now on, in place of one that does; where it is to speak for none it is closed (RFC
+-- 4271, section 6.8).
+abbrev pub takes : Config → (line : ℕ) → (from : Address) → (told : Option ℕ) → (since : ℕ) → Station → Step
+takes config line from told since station =
+    elim (peer_for config from told (map seat_at station.places)) [
       | None ↦ doing (shuts line ∷ []) station.places station
-      | Some peer ↦ replaces line peer time station
+      | Some peer ↦ replaces line peer since station
     ]
 
--- What a recorder does for an event itself.
-abbrev pub follows : Config → (time : ℕ) → What → Station → Step
-follows config time (taken line from) station = takes config line from time station
-follows config time (gave line piece) station = hears_octets config line time piece station
-follows config time (ended line) station = ends line station
-follows config time (made line) station = resting station
-follows config time nothing station = resting station
+-- whether a connection waits for its OPEN: no more do than there are peers
+abbrev pub waits : Config → (from : Address) → List Seat → List Guest → Bool
+waits config from seats guests = are_told_apart from seats config.peers && nat_lt (length guests) (length config.peers)
 
--- A session that isn't established so many milliseconds after its connection was taken closes (RFC 4271, section 8.2.2).
-abbrev pub open_time : ℕ
-open_time = 240000
+-- A connection was taken: it waits, or speaks for a peer at once.
+abbrev pub comes : Config → (line : ℕ) → (from : Address) → (time : ℕ) → List Guest → Station → Step
+comes config line from time guests station =
+    if waits config from (map seat_at station.places) guests then resting station else takes config line from None time station
+
+-- the first octets of one that waits: it waits no more
+abbrev pub admits : Config → (line : ℕ) → (piece : List ℕ) → List Guest → Station → Step
+admits config line piece guests station =
+    elim (guest_of line guests) [
+      | None ↦ resting station
+      | Some guest ↦ takes config line guest.from (said_as piece) guest.since station
+    ]
+
+-- octets of a connection
+abbrev pub gives : Config → (line time : ℕ) → (piece : List ℕ) → List Guest → Station → Step
+gives config line time piece guests station =
+    then_do (admits config line piece guests station) (hears_octets config line time piece)
+
+-- What a recorder does for an event itself.
+abbrev pub follows : Config → List Guest → (time : ℕ) → What → Station → Step
+follows config guests time (taken line from) station = comes config line from time guests station
+follows config guests time (gave line piece) station = gives config line time piece guests station
+follows config guests time (ended line) station = ends line station
+follows config guests time (made line) station = resting station
+follows config guests time nothing station = resting station
+
+-- which connections wait behind it
+abbrev pub door_with : Config → (time : ℕ) → What → List Seat → AtDoor → AtDoor
+door_with config time (taken line from) seats door =
+    if waits config from seats door.guests then with_guest (record { line = line; from = from; since = time }) door else door
+door_with config time (gave line piece) seats door = without_guest line door
+door_with config time (ended line) seats door = without_guest line door
+door_with config time (made line) seats door = door
+door_with config time nothing seats door = door
 
 abbrev pub is_established : State → Bool
 is_established Established = true
@@ -223,13 +251,6 @@ sweeps time (peer ∷ peers) station =
     (checks_peer time peer station)
     (sweeps time peers)
 
--- so many milliseconds lie between the clock's hearings of all sessions
-abbrev pub sweep_time : ℕ
-sweep_time = 500
-
-abbrev pub is_due : (swept time : ℕ) → Bool
-is_due swept time = not (nat_lt (time - swept) sweep_time)
-
 abbrev pub peers_at : List Place → List ℕ
 peers_at places = map (λ (place : Place). place.peer) places
 
@@ -239,16 +260,24 @@ peers_in seats = map (λ (seat : Seat). seat.peer) seats
 abbrev pub sweeps_all : (time : ℕ) → Station → Step
 sweeps_all time station = sweeps time (peers_at station.places) station
 
-abbrev pub sweeps_where_due : (swept time : ℕ) → Station → Step
-sweeps_where_due swept time station = if is_due swept time then sweeps_all time station else resting station
+-- a connection that has waited for its OPEN too long is closed
+abbrev pub turns_away : (time : ℕ) → List Guest → Station → Step
+turns_away time guests station = record { deeds = map shuts (late_lines time guests); station = station }
 
--- when the clock was last heard of all
-abbrev pub swept_after : (swept time : ℕ) → ℕ
-swept_after swept time = if is_due swept time then time else swept
+-- The clock of all connections: of those that wait, and then of those that speak for peers.
+abbrev pub sweeps_where_due : AtDoor → (time : ℕ) → Station → Step
+sweeps_where_due door time station =
+    if is_due door.swept time then then_do (turns_away time door.guests station) (sweeps_all time) else resting station
 
 -- All that a recorder does at an event.
-abbrev pub hears : Config → (swept time : ℕ) → What → Station → Step
-hears config swept time what station = then_do (follows config time what station) (sweeps_where_due swept time)
+abbrev pub hears : Config → AtDoor → (time : ℕ) → What → Station → Step
+hears config door time what station =
+    then_do (follows config door.guests time what station)
+    (sweeps_where_due (door_with config time what (map seat_at station.places) door) time)
+
+-- which connections wait behind all that
+abbrev pub door_after : Config → (time : ℕ) → What → List Seat → AtDoor → AtDoor
+door_after config time what seats door = swept_where_due time (door_with config time what seats door)
 
 -- What came, at a moment of the clock on the wall and at a time of the steady one.
 pub record Happening : Type 0 where
@@ -256,25 +285,24 @@ pub record Happening : Type 0 where
   pub time : ℕ
   pub what : What
 
--- What a recorder stands at between two events: the greatest moment so far, when the clock was last heard of all, and the
--- station.
+-- What a recorder stands at between two events: the greatest moment so far, which connections wait, and the station.
 pub record Between : Type 0 where
   pub moment : ℕ
-  pub swept : ℕ
+  pub door : AtDoor
   pub station : Station
 
 -- before the first event
 abbrev pub at_first : Between
-at_first = record { moment = 0; swept = 0; station = empty_station }
+at_first = record { moment = 0; door = empty_door; station = empty_station }
 
 -- what is done at an event
 abbrev pub step_at : Config → Between → Happening → Step
-step_at config now event = hears config now.swept event.time event.what now.station
+step_at config now event = hears config now.door event.time event.what now.station
 
 abbrev pub behind : Config → Between → Happening → Between
 behind config now event = record {
   moment = max now.moment event.moment;
-  swept = swept_after now.swept event.time;
+  door = door_after config event.time event.what (map seat_at now.station.places) now.door;
   station = (step_at config now event).station;
 }
 

@@ -4,7 +4,7 @@ use Rattle.fs_base.specs.{Gate.{Turn}, Sink.{Grew, GrewPart}}
 use Rattle.fs_tape.specs.{Laws.{IsNumbered, IsWritable}, Tape.{was_lost}}
 use Rattle.fs_speaker.specs.Session.{Live}
 use Rattle.fs_desk.specs.{Desk.{Desked, KeepsOthers, Played, Plays, session_at}, Leaves.{nobody}, Receive.{point_of}}
-use Rattle.fs_recorder.specs.{Books.{Booked}, Deeds.{Deed, Does, Recording, asked_in, items_of, text_at}, Steps.{Place, expires, Station, Step, peers_at, place_for, seat_at, seats_one}, Seats.{without}, declared.seats.Seat.{Seat}}
+use Rattle.fs_recorder.specs.{Books.{Booked}, Door.{AtDoor}, Deeds.{Deed, Does, Recording, asked_in, items_of, text_at}, Steps.{Place, expires, Station, Step, peers_at, place_for, seat_at, seats_one}, Seats.{without}, declared.seats.Seat.{Seat}}
 
 -- The session through a place is open, and stands at the place's point.
 pub record IsOpenAt (desk : Desked) (place : Place) : Type 0 where
@@ -27,50 +27,50 @@ pub record Stands (station : Station) (recording : Recording) : Type 0 where
   pub apart : AreApart (peers_at station.places)
   pub known : AllByRecursion (IsNumbered recording.books.desk.config) (peers_at station.places)
 
--- The deeds of a step were done, and no others, it stands as the step leaves it, and the clock was last heard of all then.
-pub record DoesStep (swept : ℕ) (step : Step) (old new : Recording) (turns turns' : Option (List Turn)) (before now : Option (List ℕ))
+-- The deeds of a step were done, and no others, it stands as the step leaves it, and so do the connections that wait.
+pub record DoesStep (door : AtDoor) (step : Step) (old new : Recording) (turns turns' : Option (List Turn)) (before now : Option (List ℕ))
     : Type 0 where
   pub does : Does nobody nobody step.deeds old.books new.books turns turns' before now
   pub stands : Stands step.station new
-  pub swept_is : new.swept ≡ swept
+  pub door_is : new.door ≡ door
 
 -- from wherever it stood
 abbrev pub DidSo : (Station → Step) → (old new : Recording) → (turns turns' : Option (List Turn)) → (before now : Option (List ℕ)) → Type 0
 DidSo step old new turns turns' before now =
-    (station : Station) → Stands station old → DoesStep old.swept (step station) old new turns turns' before now
+    (station : Station) → Stands station old → DoesStep old.door (step station) old new turns turns' before now
 
 -- so where a seat is a place's
 abbrev pub DidAt : Seat → (Place → Station → Step) → (old new : Recording) → (turns turns' : Option (List Turn)) → (before now : Option (List ℕ)) → Type 0
 DidAt seat step old new turns turns' before now =
     (station : Station) → Stands station old
     → (place : Place) → place_for seat.peer station.places ≡ Some place → seat_at place ≡ seat
-    → DoesStep old.swept (step place station) old new turns turns' before now
+    → DoesStep old.door (step place station) old new turns turns' before now
 
 -- so where a peer takes a seat for which none spoke
 abbrev pub DidSeat : Seat → (old new : Recording) → (before now : Option (List ℕ)) → Type 0
 DidSeat seat old new before now =
     (turns : Option (List Turn)) (station : Station) → Stands station old → place_for seat.peer station.places ≡ None
-    → DoesStep old.swept (seats_one seat station) old new turns turns before now
+    → DoesStep old.door (seats_one seat station) old new turns turns before now
 
 -- so where the gate is asked nothing
 abbrev pub DidQuietly : (Station → Step) → (old new : Recording) → (before now : Option (List ℕ)) → Type 0
 DidQuietly step old new before now = (turns : Option (List Turn)) → DidSo step old new turns turns before now
 
--- so at an event, behind which the clock was last heard of all at a time
-abbrev pub DidHear : (swept : ℕ) → (Station → Step) → (old new : Recording) → (turns turns' : Option (List Turn)) → (before now : Option (List ℕ)) → Type 0
-DidHear swept step old new turns turns' before now =
-    (station : Station) → Stands station old → DoesStep swept (step station) old new turns turns' before now
+-- so where it changes which connections wait
+abbrev pub DidHear : (door : AtDoor) → (Station → Step) → (old new : Recording) → (turns turns' : Option (List Turn)) → (before now : Option (List ℕ)) → Type 0
+DidHear door step old new turns turns' before now =
+    (station : Station) → Stands station old → DoesStep door (step station) old new turns turns' before now
 
 -- A seat went: its peer was lost, and the sessions of other peers stay as they are.
 pub record Left (seat : Seat) (old new : Recording) : Type 0 where
   pub plays : Plays (was_lost seat.peer) old.books.desk new.books.desk
   pub seats_are : new.seats ≡ without seat.line old.seats
   pub others : KeepsOthers seat.peer old.books.desk new.books.desk
-  pub swept_is : new.swept ≡ old.swept
+  pub door_is : new.door ≡ old.door
 
 -- A seat stays, and nothing changes; or it went.
 abbrev pub Settled : (lives : Bool) → Seat → (old new : Recording) → Type 0
-Settled true seat old new = (new.books ≡ old.books) × ((new.seats ≡ old.seats) × (new.swept ≡ old.swept))
+Settled true seat old new = (new.books ≡ old.books) × ((new.seats ≡ old.seats) × (new.door ≡ old.door))
 Settled false seat old new = Left seat old new
 
 -- behind the clock the session is open still, or has expired

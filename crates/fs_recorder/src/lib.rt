@@ -2,6 +2,7 @@
 #![tactic(auto)]
 
 mod books;
+mod door;
 mod laws;
 mod recorder;
 mod scribe;

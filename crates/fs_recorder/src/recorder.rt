@@ -1,26 +1,20 @@
 //! The sessions with all configured peers, each over a connection of its own, and the tape of what they say.
 
 ghost use Rattle.std.specs.{Prelude.{◌≡◌, ◌≤◌, ◌+◌, ℕ, Bool, true, false, [], IfOk, IfSome, IsSome, OnOk, OnErr, drop, length, not}, Result.{IsErrOf}};
-ghost use Rattle.fs_base.specs.{Config.{peer_of}, Gate.{FitsIn, what_from}, Outside.{Rose}, Sink.{Grew, GrewPart}};
+ghost use Rattle.fs_base.specs.{Config.{peer_of}, Gate.{FitsIn, taken, what_from}, Outside.{Rose}, Sink.{Grew, GrewPart}};
 ghost use Rattle.fs_tape.specs.{Magic.{magic_of}, Tape.{was_lost}, declared.magic.Version.TheVariants.{Two}};
 ghost use Rattle.fs_desk.specs.Desk.{expired_after, standing_at_desk};
-ghost use Rattle.fs_recorder.specs.{Books.{Agrees, Tells, TellsPart}, Deeds.{AreKnown, Does, IsKnown, StayKnown, answered, asked_in, behind_answer, is_closed, leaves, passing, says, stands_established}, Steps.{checks, checks_peer, empty_station, ends, follows, hears, hears_octets, hurries_where_new, is_established, peer_for, peers_in, receives, replaces, seats_one, speaks, sweeps, sweeps_all, swept_after, takes, vacates, wakes}, Tapes.{begun}, Works.{BreaksAt, BreaksIn, BreaksQuietly, BreaksSo, DidAt, DidHear, DidQuietly, DidSeat, DidSo, Left, Settled, Stands, WakesSo}};
+ghost use Rattle.fs_recorder.specs.{Books.{Agrees, Tells, TellsPart}, Deeds.{AreKnown, Does, IsKnown, StayKnown, answered, asked_in, behind_answer, is_closed, leaves, passing, says, stands_established}, Door.{empty_door, without_guest}, Steps.{admits, checks, checks_peer, comes, door_after, door_with, empty_station, ends, follows, gives, hears, hears_octets, hurries_where_new, is_established, peer_for, peers_in, receives, replaces, seats_one, speaks, sweeps, sweeps_all, takes, vacates, waits, wakes}, Tapes.{begun}, Works.{BreaksAt, BreaksIn, BreaksQuietly, BreaksSo, DidAt, DidHear, DidQuietly, DidSeat, DidSo, Left, Settled, Stands, WakesSo}};
 
 use crate::books::Books;
+use crate::door::{Door, Guest, has_time, said_as};
 use crate::scribe::HEAD_SIZE;
-use crate::seats::{Seat, add, first_peer, free_peer, remove, seat_for, seat_of};
+use crate::seats::{Seat, add, are_told_apart, first_peer, free_by, remove, seat_for, seat_of};
 use crate::stop::Stop;
 use fs_base::{Address, Came, Config, Event, Gate, Sink};
 use fs_speaker::{Standing, State};
 use std::alloc::Global;
 use std::marker::Model;
-
-/// The clock of each session is heard again where so many milliseconds have passed.
-const SWEEP: u64 = 500;
-
-/// A session that isn't established so many milliseconds after its connection was taken closes (RFC 4271, section 8.2.2: a
-/// large hold time, for which four minutes are suggested).
-const OPEN_TIME: u64 = 240_000;
 
 /// The NOTIFICATION of an expired hold time (RFC 4271, sections 4.5 and 6.5).
 const EXPIRED: [u8; 21] = [
@@ -32,7 +26,7 @@ const EXPIRED: [u8; 21] = [
 pub struct Recorder<'a> {
     books: Books<'a>,
     seats: Vec<Seat>,
-    swept: u64,
+    door: Door,
     replies: Vec<u8>,
 }
 
@@ -41,7 +35,7 @@ impl<'a> Model for Recorder<'a> {
 
     ghost Value = { Recording };
 
-    ghost view = { λ r. record { books = r.books; seats = r.seats.items; swept = r.swept; replies = r.replies.items } };
+    ghost view = { λ r. record { books = r.books; seats = r.seats.items; door = r.door; replies = r.replies.items } };
 }
 
 impl<'a> Recorder<'a> {
@@ -64,7 +58,7 @@ impl<'a> Recorder<'a> {
         ensures config { IfOk result (λ recorder. recorder.books.desk.config ≡ config.entry.now) }
         ensures empty { IfOk result (λ recorder. recorder.seats ≡ []) }
         ensures stands { IfOk result (Stands empty_station) }
-        ensures swept { IfOk result (λ recorder. recorder.swept ≡ 0) }
+        ensures door { IfOk result (λ recorder. recorder.door ≡ empty_door) }
         ensures written { OnOk result (Grew (S.written sink.old) (S.written sink.new) (magic_of Two)) }
         ensures err { OnErr result (GrewPart (S.written sink.old) (S.written sink.new) (magic_of Two)) }
     {
@@ -72,7 +66,7 @@ impl<'a> Recorder<'a> {
         Ok(Recorder {
             books,
             seats: Vec::new(alloc),
-            swept: 0,
+            door: Door::new(alloc),
             replies: Vec::new(alloc),
         })
     }
@@ -98,21 +92,23 @@ impl<'a> Recorder<'a> {
         ensures later { S.faults sink.old ≤ S.faults sink.new }
         ensures failed { IsErrOf result Stop.Failed → Rose (S.faults sink.old) (S.faults sink.new) }
         ensures size { length buffer.new ≡ length buffer.old }
-        ensures did { OnOk result (DidHear (swept_after self.old.swept event.time)
-            (hears self.old.books.desk.config self.old.swept event.time (what_from event.came (drop 15 buffer.old)))
+        ensures did { OnOk result (DidHear
+            (door_after self.old.books.desk.config event.time (what_from event.came (drop 15 buffer.old)) self.old.seats self.old.door)
+            (hears self.old.books.desk.config self.old.door event.time (what_from event.came (drop 15 buffer.old)))
             (passing event.moment self.old) self.new
             (G.turns gate.old) (G.turns gate.new) (S.written sink.old) (S.written sink.new)) }
         ensures stay { OnOk result (StayKnown (passing event.moment self.old) self.new) }
-        ensures breaks { OnErr result (BreaksSo (IsErrOf result Stop.Limit) (hears self.old.books.desk.config self.old.swept event.time (what_from event.came (drop 15 buffer.old)))
+        ensures breaks { OnErr result (BreaksSo (IsErrOf result Stop.Limit)
+            (hears self.old.books.desk.config self.old.door event.time (what_from event.came (drop 15 buffer.old)))
             (passing event.moment self.old)
             (G.turns gate.old) (G.turns gate.new) (S.written sink.old) (S.written sink.new)) }
     {
         self.books.pass(event.moment);
         self.follow(event, buffer, gate, sink)?;
-        if event.time.saturating_sub(self.swept) < SWEEP {
+        if !self.door.is_due(event.time) {
             return Ok(());
         }
-        self.swept = event.time;
+        self.door.clear(event.time, gate);
         self.sweep(event.time, gate, sink)
     }
 
@@ -132,27 +128,33 @@ impl<'a> Recorder<'a> {
         ensures later { S.faults sink.old ≤ S.faults sink.new }
         ensures failed { IsErrOf result Stop.Failed → Rose (S.faults sink.old) (S.faults sink.new) }
         ensures size { length buffer.new ≡ length buffer.old }
-        ensures did { OnOk result (DidSo (follows self.old.books.desk.config event.time (what_from event.came (drop 15 buffer.old))) self.old self.new
+        ensures did { OnOk result (DidHear
+            (door_with self.old.books.desk.config event.time (what_from event.came (drop 15 buffer.old)) self.old.seats self.old.door)
+            (follows self.old.books.desk.config self.old.door.guests event.time (what_from event.came (drop 15 buffer.old)))
+            self.old self.new
             (G.turns gate.old) (G.turns gate.new) (S.written sink.old) (S.written sink.new)) }
         ensures stay { OnOk result (StayKnown self.old self.new) }
-        ensures breaks { OnErr result (BreaksSo (IsErrOf result Stop.Limit) (follows self.old.books.desk.config event.time (what_from event.came (drop 15 buffer.old))) self.old
+        ensures breaks { OnErr result (BreaksSo (IsErrOf result Stop.Limit)
+            (follows self.old.books.desk.config self.old.door.guests event.time (what_from event.came (drop 15 buffer.old))) self.old
             (G.turns gate.old) (G.turns gate.new) (S.written sink.old) (S.written sink.new)) }
     {
         match event.came {
-            Came::Taken { line, from } => self.take(line, from, event.time, gate, sink),
+            Came::Taken { line, from } => self.come(line, from, event.time, gate, sink),
             Came::Octets { line, count } => {
                 let piece = &mut buffer[..HEAD_SIZE + count];
-                self.octets(line, event.time, piece, gate, sink)
+                self.give(line, event.time, piece, gate, sink)
             }
-            Came::Ended { line } => self.end(line, sink),
+            Came::Ended { line } => {
+                self.door.call(line);
+                self.end(line, sink)
+            }
             Came::Made { .. } | Came::Nothing => Ok(()),
         }
     }
 
-    /// A connection was taken: it speaks for the first configured peer of its address for which none speaks. Where there is
-    /// none, and no hold time is configured, it replaces the connection of the first peer of its address; else it is closed
-    /// (RFC 4271, section 6.8).
-    fn take<G: Gate, S: Sink>(
+    /// A connection was taken. Where the free peers of its address are told apart by the AS of an OPEN it waits for its own,
+    /// if fewer wait than there are peers.
+    fn come<G: Gate, S: Sink>(
         &mut self,
         line: u64,
         from: Address,
@@ -164,14 +166,54 @@ impl<'a> Recorder<'a> {
         ensures still { G.faults gate.new ≡ G.faults gate.old }
         ensures later { S.faults sink.old ≤ S.faults sink.new }
         ensures failed { IsErrOf result Stop.Failed → Rose (S.faults sink.old) (S.faults sink.new) }
-        ensures did { OnOk result (DidSo (takes self.old.books.desk.config line from time) self.old self.new
+        ensures did { OnOk result (DidHear
+            (door_with self.old.books.desk.config time (taken line from) self.old.seats self.old.door)
+            (comes self.old.books.desk.config line from time self.old.door.guests) self.old self.new
             (G.turns gate.old) (G.turns gate.new) (S.written sink.old) (S.written sink.new)) }
         ensures stay { OnOk result (StayKnown self.old self.new) }
-        ensures breaks { OnErr result (BreaksSo (IsErrOf result Stop.Limit) (takes self.old.books.desk.config line from time) self.old
+        ensures breaks { OnErr result (BreaksSo (IsErrOf result Stop.Limit)
+            (comes self.old.books.desk.config line from time self.old.door.guests) self.old
             (G.turns gate.old) (G.turns gate.new) (S.written sink.old) (S.written sink.new)) }
     {
-        match self.peer_for(from) {
-            Some(peer) => self.replace(line, peer, time, gate, sink),
+        if self.waits(from) {
+            let since = time;
+            self.door.keep(Guest { line, from, since })?;
+            return Ok(());
+        }
+        self.take(line, from, None, time, gate, sink)
+    }
+
+    fn waits(&self, from: Address) -> bool
+        ensures { result ≡ waits self.now.books.desk.config from self.now.seats self.now.door.guests }
+    {
+        let peers = self.books.config().peers.as_slice();
+        are_told_apart(peers, &self.seats, from) && self.door.count() < peers.len()
+    }
+
+    /// A connection speaks from now on for the first configured peer of its address for which none speaks, of those with the
+    /// AS that was told if there is one. Where no such peer is left, and no hold time is configured, it replaces the
+    /// connection of the first peer of its address; else it is closed (RFC 4271, section 6.8).
+    fn take<G: Gate, S: Sink>(
+        &mut self,
+        line: u64,
+        from: Address,
+        told: Option<u16>,
+        since: u64,
+        gate: &mut G,
+        sink: &mut S,
+    ) -> Result<(), Stop>
+        requires known { AreKnown self.old.books.desk.config self.old.seats }
+        ensures still { G.faults gate.new ≡ G.faults gate.old }
+        ensures later { S.faults sink.old ≤ S.faults sink.new }
+        ensures failed { IsErrOf result Stop.Failed → Rose (S.faults sink.old) (S.faults sink.new) }
+        ensures did { OnOk result (DidSo (takes self.old.books.desk.config line from told since) self.old self.new
+            (G.turns gate.old) (G.turns gate.new) (S.written sink.old) (S.written sink.new)) }
+        ensures stay { OnOk result (StayKnown self.old self.new) }
+        ensures breaks { OnErr result (BreaksSo (IsErrOf result Stop.Limit) (takes self.old.books.desk.config line from told since) self.old
+            (G.turns gate.old) (G.turns gate.new) (S.written sink.old) (S.written sink.new)) }
+    {
+        match self.peer_for(from, told) {
+            Some(peer) => self.replace(line, peer, since, gate, sink),
             None => {
                 gate.close(line);
                 Ok(())
@@ -180,13 +222,13 @@ impl<'a> Recorder<'a> {
     }
 
     /// The peer for which a connection from this address is to speak.
-    fn peer_for(&self, from: Address) -> Option<u16>
-        ensures found { result ≡ peer_for self.now.books.desk.config from self.now.seats }
+    fn peer_for(&self, from: Address, told: Option<u16>) -> Option<u16>
+        ensures found { result ≡ peer_for self.now.books.desk.config from told self.now.seats }
         ensures known { IfSome result (λ peer. IsSome (peer_of peer self.now.books.desk.config.peers)) }
     {
         let config = self.books.config();
         let peers = config.peers.as_slice();
-        if let Some(peer) = free_peer(peers, &self.seats, from) {
+        if let Some(peer) = free_by(peers, &self.seats, from, told) {
             return Some(peer.number);
         }
         match first_peer(peers, from) {
@@ -250,7 +292,8 @@ impl<'a> Recorder<'a> {
         ensures failed { IsErrOf result Stop.Failed → Rose (S.faults sink.old) (S.faults sink.new) }
         ensures stay { OnOk result (StayKnown self.old self.new) }
         ensures did { OnOk result (DidSeat seat self.old self.new (S.written sink.old) (S.written sink.new)) }
-        ensures breaks { OnErr result (BreaksQuietly (IsErrOf result Stop.Limit) (seats_one seat) self.old (S.written sink.old) (S.written sink.new)) }
+        ensures breaks { OnErr result (BreaksQuietly (IsErrOf result Stop.Limit)
+            (seats_one seat) self.old (S.written sink.old) (S.written sink.new)) }
     {
         self.books.up(seat.peer, sink)?;
         add(&mut self.seats, seat)?;
@@ -303,10 +346,67 @@ impl<'a> Recorder<'a> {
         ensures failed { IsErrOf result Stop.Failed → Rose (S.faults sink.old) (S.faults sink.new) }
         ensures stay { OnOk result (StayKnown self.old self.new) }
         ensures did { OnOk result (DidQuietly (ends line) self.old self.new (S.written sink.old) (S.written sink.new)) }
-        ensures breaks { OnErr result (BreaksQuietly (IsErrOf result Stop.Limit) (ends line) self.old (S.written sink.old) (S.written sink.new)) }
+        ensures breaks { OnErr result (BreaksQuietly (IsErrOf result Stop.Limit)
+            (ends line) self.old (S.written sink.old) (S.written sink.new)) }
     {
         match seat_of(&self.seats, line) {
             Some(seat) => self.lose(seat, sink),
+            None => Ok(()),
+        }
+    }
+
+    /// A connection gave octets: it speaks for a peer from now on if it waited for its OPEN.
+    fn give<G: Gate, S: Sink>(
+        &mut self,
+        line: u64,
+        time: u64,
+        piece: &mut [u8],
+        gate: &mut G,
+        sink: &mut S,
+    ) -> Result<(), Stop>
+        requires known { AreKnown self.old.books.desk.config self.old.seats }
+        requires head { 15 ≤ length piece.old }
+        requires long { length piece.old ≤ 65551 }
+        ensures still { G.faults gate.new ≡ G.faults gate.old }
+        ensures later { S.faults sink.old ≤ S.faults sink.new }
+        ensures failed { IsErrOf result Stop.Failed → Rose (S.faults sink.old) (S.faults sink.new) }
+        ensures did { OnOk result (DidHear (without_guest line self.old.door)
+            (gives self.old.books.desk.config line time (drop 15 piece.old) self.old.door.guests) self.old self.new
+            (G.turns gate.old) (G.turns gate.new) (S.written sink.old) (S.written sink.new)) }
+        ensures stay { OnOk result (StayKnown self.old self.new) }
+        ensures breaks { OnErr result (BreaksSo (IsErrOf result Stop.Limit)
+            (gives self.old.books.desk.config line time (drop 15 piece.old) self.old.door.guests) self.old
+            (G.turns gate.old) (G.turns gate.new) (S.written sink.old) (S.written sink.new)) }
+    {
+        self.admit(line, &piece[HEAD_SIZE..], gate, sink)?;
+        self.octets(line, time, piece, gate, sink)
+    }
+
+    /// The first octets of a connection that waits for its OPEN: it waits no more.
+    fn admit<G: Gate, S: Sink>(
+        &mut self,
+        line: u64,
+        octets: &[u8],
+        gate: &mut G,
+        sink: &mut S,
+    ) -> Result<(), Stop>
+        requires known { AreKnown self.old.books.desk.config self.old.seats }
+        ensures still { G.faults gate.new ≡ G.faults gate.old }
+        ensures later { S.faults sink.old ≤ S.faults sink.new }
+        ensures failed { IsErrOf result Stop.Failed → Rose (S.faults sink.old) (S.faults sink.new) }
+        ensures did { OnOk result (DidHear (without_guest line self.old.door)
+            (admits self.old.books.desk.config line octets.now self.old.door.guests) self.old self.new
+            (G.turns gate.old) (G.turns gate.new) (S.written sink.old) (S.written sink.new)) }
+        ensures stay { OnOk result (StayKnown self.old self.new) }
+        ensures breaks { OnErr result (BreaksSo (IsErrOf result Stop.Limit)
+            (admits self.old.books.desk.config line octets.now self.old.door.guests) self.old
+            (G.turns gate.old) (G.turns gate.new) (S.written sink.old) (S.written sink.new)) }
+    {
+        match self.door.call(line) {
+            Some(guest) => {
+                let told = said_as(octets);
+                self.take(line, guest.from, told, guest.since, gate, sink)
+            }
             None => Ok(()),
         }
     }
@@ -329,7 +429,8 @@ impl<'a> Recorder<'a> {
         ensures did { OnOk result (DidSo (hears_octets self.old.books.desk.config line time (drop 15 piece.old)) self.old self.new
             (G.turns gate.old) (G.turns gate.new) (S.written sink.old) (S.written sink.new)) }
         ensures stay { OnOk result (StayKnown self.old self.new) }
-        ensures breaks { OnErr result (BreaksSo (IsErrOf result Stop.Limit) (hears_octets self.old.books.desk.config line time (drop 15 piece.old)) self.old
+        ensures breaks { OnErr result (BreaksSo (IsErrOf result Stop.Limit)
+            (hears_octets self.old.books.desk.config line time (drop 15 piece.old)) self.old
             (G.turns gate.old) (G.turns gate.new) (S.written sink.old) (S.written sink.new)) }
     {
         match seat_of(&self.seats, line) {
@@ -356,7 +457,8 @@ impl<'a> Recorder<'a> {
         ensures did { OnOk result (DidAt seat (λ place. speaks self.old.books.desk.config time place (drop 15 piece.old)) self.old self.new
             (G.turns gate.old) (G.turns gate.new) (S.written sink.old) (S.written sink.new)) }
         ensures stay { OnOk result (StayKnown self.old self.new) }
-        ensures breaks { OnErr result (BreaksIn (IsErrOf result Stop.Limit) seat (λ place. speaks self.old.books.desk.config time place (drop 15 piece.old)) self.old
+        ensures breaks { OnErr result (BreaksIn (IsErrOf result Stop.Limit)
+            seat (λ place. speaks self.old.books.desk.config time place (drop 15 piece.old)) self.old
             (G.turns gate.old) (G.turns gate.new) (S.written sink.old) (S.written sink.new)) }
     {
         let is_open = self.wake(seat, time, gate, sink)?;
@@ -383,7 +485,8 @@ impl<'a> Recorder<'a> {
         ensures did { OnOk result (DidAt seat (λ place. receives self.old.books.desk.config place (drop 15 piece.old)) self.old self.new
             (G.turns gate.old) (G.turns gate.new) (S.written sink.old) (S.written sink.new)) }
         ensures stay { OnOk result (StayKnown self.old self.new) }
-        ensures breaks { OnErr result (BreaksIn (IsErrOf result Stop.Limit) seat (λ place. receives self.old.books.desk.config place (drop 15 piece.old)) self.old
+        ensures breaks { OnErr result (BreaksIn (IsErrOf result Stop.Limit)
+            seat (λ place. receives self.old.books.desk.config place (drop 15 piece.old)) self.old
             (G.turns gate.old) (G.turns gate.new) (S.written sink.old) (S.written sink.new)) }
     {
         self.replies.clear();
@@ -546,7 +649,7 @@ impl<'a> Recorder<'a> {
         if !is_open {
             return Ok(());
         }
-        if time.saturating_sub(seat.since) < OPEN_TIME {
+        if has_time(seat.since, time) {
             return Ok(());
         }
         self.hurry(seat, gate, sink)

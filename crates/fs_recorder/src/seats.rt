@@ -1,9 +1,11 @@
 //! Which connection speaks for which peer.
 
-ghost use Rattle.std.specs.{Prelude.{◌≡◌, ◌++◌, ◌∷◌, [], OnOk}, Option.{option_copied}};
-ghost use Rattle.fs_recorder.specs.Seats.{first_peer, free_peer, is_same, is_seated, seat_for, seat_of, without};
+ghost use Rattle.std.specs.{Prelude.{◌≡◌, ◌++◌, ◌∷◌, [], OnOk, not, ◌&&◌, ◌==◌}, List.{list_any}, Option.{option_copied}};
+ghost use Rattle.fs_message.specs.Write.{as_field};
+ghost use Rattle.fs_recorder.specs.Seats.{are_told_apart, first_peer, free_by, free_peer, free_peer_of, is_free, is_same, is_seated, seat_for, seat_of, without};
 
 use fs_base::{Address, Memory, Peer};
+use fs_message::as_in_two;
 
 /// A connection that speaks for a peer, and the time in milliseconds when it was taken.
 #[derive(Clone, Copy, Debug, PartialEq, Eq, Drop)]
@@ -74,8 +76,14 @@ fn is_same(address: Address, other: Address) -> bool
     }
 }
 
+fn is_free(peer: &Peer, seats: &[Seat], from: Address) -> bool
+    ensures { result ≡ is_free from seats.now peer.now }
+{
+    is_same(peer.address, from) && !is_seated(seats, peer.number)
+}
+
 /// The first of these peers that has this address and no seat.
-pub fn free_peer(peers: &[Peer], seats: &[Seat], from: Address) -> Option<Peer>
+fn free_peer(peers: &[Peer], seats: &[Seat], from: Address) -> Option<Peer>
     ensures { result ≡ free_peer from seats.now peers.now }
 {
     free(peers, seats, from).copied()
@@ -84,7 +92,50 @@ pub fn free_peer(peers: &[Peer], seats: &[Seat], from: Address) -> Option<Peer>
 fn free<'p>(peers: &'p [Peer], seats: &[Seat], from: Address) -> Option<&'p Peer>
     ensures { option_copied result ≡ free_peer from seats.now peers.entry.now }
 {
-    peers.iter().find(|peer| is_same(peer.address, from) && !is_seated(seats, peer.number))
+    peers.iter().find(|peer| is_free(peer, seats, from))
+}
+
+fn free_peer_of(peers: &[Peer], seats: &[Seat], from: Address, number: u16) -> Option<Peer>
+    ensures { result ≡ free_peer_of from number seats.now peers.now }
+{
+    free_of(peers, seats, from, number).copied()
+}
+
+fn free_of<'p>(peers: &'p [Peer], seats: &[Seat], from: Address, number: u16) -> Option<&'p Peer>
+    ensures { option_copied result ≡ free_peer_of from number seats.now peers.entry.now }
+{
+    peers.iter().find(|peer| is_free(peer, seats, from) && as_in_two(peer.asn) == number)
+}
+
+/// The first of these peers that has this address, no seat and, where an AS was told as OPEN's own field has it, that AS; or
+/// else the first that has the address and no seat.
+pub fn free_by(peers: &[Peer], seats: &[Seat], from: Address, told: Option<u16>) -> Option<Peer>
+    ensures { result ≡ free_by from told seats.now peers.now }
+{
+    let named = match told {
+        Some(number) => free_peer_of(peers, seats, from, number),
+        None => None,
+    };
+    match named {
+        Some(peer) => Some(peer),
+        None => free_peer(peers, seats, from),
+    }
+}
+
+/// Whether the peers that have this address and no seat are told apart by their ASes as OPEN's own field has them.
+pub fn are_told_apart(peers: &[Peer], seats: &[Seat], from: Address) -> bool
+    ensures { result ≡ are_told_apart from seats.now peers.now }
+{
+    match free_peer(peers, seats, from) {
+        Some(first) => has_other(peers, seats, from, as_in_two(first.asn)),
+        None => false,
+    }
+}
+
+fn has_other(peers: &[Peer], seats: &[Seat], from: Address, number: u16) -> bool
+    ensures { result ≡ list_any (λ peer. is_free from seats.now peer && not (as_field peer.asn == number)) peers.now }
+{
+    peers.iter().any(|peer| is_free(peer, seats, from) && as_in_two(peer.asn) != number)
 }
 
 /// The first of these peers that has this address.

@@ -15,7 +15,7 @@ returns-in_err-recorder-clause-records g c = magic_broken c.args.config.now _ _ 
 pub hear_all-requires-clause-stands : goal.hear_all-requires-clause-stands
 hear_all-requires-clause-stands g c =
     begins_at c.args.config.now c.in_ok-recorder.recorder c.args.limit c.in_ok-recorder.ensures.config c.in_ok-recorder.ensures.begun
-    c.in_ok-recorder.ensures.empty c.in_ok-recorder.ensures.stands c.in_ok-recorder.ensures.swept
+    c.in_ok-recorder.ensures.empty c.in_ok-recorder.ensures.stands c.in_ok-recorder.ensures.door
 
 pub hear_all-requires-clause-agrees : goal.hear_all-requires-clause-agrees
 hear_all-requires-clause-agrees g c =

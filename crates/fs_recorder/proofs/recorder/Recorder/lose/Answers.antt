@@ -26,5 +26,5 @@ returns-clause-left g c =
       plays = subst (λ (b : Booked). Plays (was_lost c.args.seat.peer) b.desk c.lost.new.self.desk) books told.plays;
       seats_are = c.remove.ensures ∙ ap (λ (r : Recording). without c.args.seat.line r.seats) c.self.view_is;
       others = subst (λ (b : Booked). KeepsOthers c.args.seat.peer b.desk c.lost.new.self.desk) books others;
-      swept_is = ap (λ (r : Recording). r.swept) c.self.view_is;
+      door_is = ap (λ (r : Recording). r.door) c.self.view_is;
     })

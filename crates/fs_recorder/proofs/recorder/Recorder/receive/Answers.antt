@@ -11,8 +11,8 @@ returns-in_err-octets-clause-breaks g c = on_err c.from_residual.result
 
 pub returns-in_err-answer-clause-breaks : goal.returns-in_err-answer-clause-breaks
 returns-in_err-answer-clause-breaks g c =
-    let mid : Recording = record { books = c.octets.new.self; seats = c.self.inside.seats.items; swept = c.self.inside.swept; replies = c.octets.new.replies.items } in
-    let heard = received_as (drop 15 c.args.piece.now) c.args.seat.peer (record { books = c.self.inside.books; seats = c.self.inside.seats.items; swept = c.self.inside.swept; replies = c.self.inside.replies.items }) c.args.self.now mid c.clear.new.self.items _ _ c.self.view_is c.clear.ensures.items
+    let mid : Recording = record { books = c.octets.new.self; seats = c.self.inside.seats.items; door = c.self.inside.door; replies = c.octets.new.replies.items } in
+    let heard = received_as (drop 15 c.args.piece.now) c.args.seat.peer (record { books = c.self.inside.books; seats = c.self.inside.seats.items; door = c.self.inside.door; replies = c.self.inside.replies.items }) c.args.self.now mid c.clear.new.self.items _ _ c.self.view_is c.clear.ensures.items
     c.in_ok-octets.ensures.told c.in_ok-octets.ensures.handed c.in_ok-octets.ensures.others c.in_ok-octets.ensures.replied refl refl in
     on_err c.from_residual-in_err-answer.result
     (breaks_received (drop 15 c.args.piece.now) c.args.seat c.args.self.now mid _ _ _ _ _ heard c.in_err-answer.ensures.shut
@@ -20,8 +20,8 @@ returns-in_err-answer-clause-breaks g c =
 
 pub returns-clause-did : goal.returns-clause-did
 returns-clause-did g c =
-    let mid : Recording = record { books = c.octets.new.self; seats = c.self.inside.seats.items; swept = c.self.inside.swept; replies = c.octets.new.replies.items } in
-    let heard = received_as (drop 15 c.args.piece.now) c.args.seat.peer (record { books = c.self.inside.books; seats = c.self.inside.seats.items; swept = c.self.inside.swept; replies = c.self.inside.replies.items }) c.args.self.now mid c.clear.new.self.items _ _ c.self.view_is c.clear.ensures.items
+    let mid : Recording = record { books = c.octets.new.self; seats = c.self.inside.seats.items; door = c.self.inside.door; replies = c.octets.new.replies.items } in
+    let heard = received_as (drop 15 c.args.piece.now) c.args.seat.peer (record { books = c.self.inside.books; seats = c.self.inside.seats.items; door = c.self.inside.door; replies = c.self.inside.replies.items }) c.args.self.now mid c.clear.new.self.items _ _ c.self.view_is c.clear.ensures.items
     c.in_ok-octets.ensures.told c.in_ok-octets.ensures.handed c.in_ok-octets.ensures.others c.in_ok-octets.ensures.replied refl refl in
     did_receive (drop 15 c.args.piece.now) c.args.seat _ c.args.self.now mid _ _ _ _ _ _ heard
     (record { closes = c.in_ok-answer.ensures.closes; answers = c.in_ok-answer.ensures.answers; settled = c.in_ok-answer.ensures.settled })

@@ -22,7 +22,7 @@ returns-in_err-add-clause-breaks g c = on_err c.from_residual-in_err-add.result
 pub returns-clause-did : goal.returns-clause-did
 returns-clause-did g c =
     subst (λ (r : Recording). DidSeat c.args.seat r
-    (record { books = c.up.new.self; seats = c.add.new.seats.items; swept = c.self.inside.swept; replies = c.self.inside.replies.items })
+    (record { books = c.up.new.self; seats = c.add.new.seats.items; door = c.self.inside.door; replies = c.self.inside.replies.items })
     (g.S.Sink.written c.args.sink.now) (g.S.Sink.written c.up.new.sink))
     c.self.view_is
     (did_seat c.args.seat _ _ _ _ c.in_ok-up.ensures.told c.in_ok-up.ensures.begun c.in_ok-up.ensures.others
