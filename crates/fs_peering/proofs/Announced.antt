@@ -1,5 +1,5 @@
 -- How what an announcing end says over a wire follows from how it stands.
-use Rattle.fs_peering.{proofs.{Words.{Announcing, Closed, Config, Lined, Machine, Peer, Phase, Sending, TakesIn, Told, WireEnd, WireEnds, is_established, machine_in, open_sent, state_in, text_sent, ◌≡◌, ◌<◌, ◌≤◌, ℕ, ◌+◌, ◌-◌, List, [], ◌++◌, length, IsTrue, Bool, true, false, if◌then◌else◌, Option, Some, None, refl, ap, sym, ◌∙◌, subst, arith, append_assoc, append-nil, flat_map, is_some, length-map, take_all, none_there, EndsSo, HeardOut, HearsOut, IsInTime, Part, Pieces, Spoken, Stance, moments_in, octets_in, Stopped, All, Over, Ending, Done, AtLimit, course, CountsTo, SaysUpTo, ClosesSo, HasHeard, ahead_of, before_all, is_settled, rules_of, Teller, Tells, TellsOver, TellsSo, answers_to, begins_with}, Composing.{part_then, same_stance}, WrittenInParts.{told_and}, Counting.{Opens, ends_by, met_by, opens_so}, Hearing.{no_rules, unsettled}, Sending.{says_start}, Settled.{settled_up, state_open, state_shut}}, specs.{declared.{listening.Stopped.TheVariants.{AtLimit as MetIt}, tell.Ending.TheVariants.{Ended, Closed as HasClosed}}, Teller.{is_over}, Tell.{SaidAll, farewell_to}}}
+use Rattle.fs_peering.{proofs.{Words.{Announcing, Closed, Config, Lined, Machine, Peer, Phase, Sending, TakesIn, Told, WireEnd, WireEnds, is_established, machine_in, open_sent, state_in, text_sent, ◌≡◌, ◌<◌, ◌≤◌, ℕ, ◌+◌, ◌-◌, List, [], ◌++◌, length, IsTrue, Bool, true, false, if◌then◌else◌, Option, Some, None, refl, ap, sym, ◌∙◌, subst, arith, append_assoc, append-nil, flat_map, is_some, length-map, take_all, none_there, EndsSo, HeardOut, HearsOut, Part, Pieces, Spoken, Stance, moments_in, octets_in, Stopped, All, Over, Ending, Done, AtLimit, course, CountsTo, SaysUpTo, ClosesSo, HasHeard, ahead_of, before_all, is_settled, rules_of, Teller, Tells, TellsOver, TellsSo, answers_to, begins_with}, Composing.{part_then, same_stance}, WrittenInParts.{told_and}, Counting.{Opens, ends_by, met_by, opens_so}, Hearing.{no_rules, unsettled}, Sending.{says_start}, Settled.{settled_up, state_open, state_shut}}, specs.{declared.{listening.Stopped.TheVariants.{AtLimit as MetIt}, tell.Ending.TheVariants.{Ended, Closed as HasClosed}}, Teller.{is_over}, Tell.{SaidAll, farewell_to}}}
 
 -- whose it is
 pub record IsOf (end : Announcing) (config : Config) (peer : Peer) (sending : Sending) : Type 0 where

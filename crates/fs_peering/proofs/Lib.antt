@@ -30,3 +30,17 @@ mod Paired
 mod Tied
 mod Sendable
 mod Refusing
+mod KeeperWords
+pub mod Standing
+pub mod Fitting
+pub mod Following
+pub mod KeeperTells
+pub mod Stepped
+mod ChangeParts
+mod Holding
+mod Packing
+mod Leading
+mod Changing
+pub mod Kept
+mod SentOnLine
+mod Linking

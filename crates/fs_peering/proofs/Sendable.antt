@@ -15,7 +15,7 @@ module _ (config : Config) (peer : Peer) (sending : Sending) (read : AreRead con
   abbrev test : Sent → Bool
   test = is_short (terms_of config peer true) sending.as_path
 
-  arrives : 0 < sending.id → CanArrive config peer sending
+  pub arrives : 0 < sending.id → CanArrive config peer sending
   arrives named =
       let parts = and_parts (nat_le (length sending.as_path) 255 && list_all (λ (asn : ℕ). nat_lt 0 asn) sending.as_path) (list_all test sending.rules) can in
       let path = and_parts (nat_le (length sending.as_path) 255) (list_all (λ (asn : ℕ). nat_lt 0 asn) sending.as_path) parts.0 in

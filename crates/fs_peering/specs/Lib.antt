@@ -11,4 +11,8 @@ pub mod Hearer
 pub mod Listen
 pub mod Sender
 pub mod Pair
+pub mod Keeper
+pub mod Keeping
+pub mod Change
+pub mod KeeperLaws
 pub mod Laws

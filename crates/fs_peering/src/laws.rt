@@ -1,5 +1,6 @@
 //! Laws of the definitions.
 
+ghost use Rattle.fs_peering.specs.KeeperLaws.{KeepsEqual, SendsAll};
 ghost use Rattle.fs_peering.specs.Laws.{ClosesUnnamed, ExpiresLate, NeverExpires, OpeningIsSession, SendsFront};
 
 use fs_speaker::{takes_a_front, takes_none_unnamed};
@@ -33,4 +34,16 @@ pub fn sends_a_front()
 /// (RFC 4271, section 6.2), and the announcing one only by that NOTIFICATION.
 pub fn closes_unnamed()
     ensures { ClosesUnnamed }
+{}
+
+/// Where a kept connection was told rules, what was said through it leaves the receiving end exactly those, whatever
+/// happened: each with its actions and their path, and no other. They are the rules that were accepted last.
+pub fn keeps_equal()
+    ensures { KeepsEqual }
+{}
+
+/// What counts as said through a kept connection is what was sent on its line, in its order, where no line was dialled
+/// twice.
+pub fn sends_all()
+    ensures { SendsAll }
 {}

@@ -3,10 +3,13 @@
 #![tactic(auto)]
 
 mod buffers;
+mod change;
 mod fault;
 mod hearer;
 mod joined;
+mod keeper;
 mod laws;
+mod link;
 mod listen;
 mod listening;
 mod pair;
@@ -20,7 +23,11 @@ pub use buffers::Buffers;
 pub use fault::TalkFault;
 pub use hearer::Hearer;
 pub use joined::{InFlight, Talk, exchange};
-pub use laws::{closes_unnamed, expires_late, never_expires, opens_the_session, sends_a_front};
+pub use keeper::{Keeper, News};
+pub use laws::{
+    closes_unnamed, expires_late, keeps_equal, never_expires, opens_the_session, sends_a_front,
+    sends_all,
+};
 pub use listen::listen_over;
 pub use listening::{Stopped, hear_out};
 pub use pair::pair_over;

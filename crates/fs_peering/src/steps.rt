@@ -17,6 +17,7 @@ pub fn start(announcer: &mut Announcer<'_>, out: &mut Vec<u8>) -> Result<(), Mem
     ensures starts { OnOk result
         (StartsWith announcer.old.started announcer.old announcer.new out.old.items out.new.items) }
     ensures ahead { (started : Bool) → ahead_of announcer.new started ≤ ahead_of announcer.old started }
+    ensures own { (announcer.new.config ≡ announcer.old.config) × (announcer.new.peer ≡ announcer.old.peer) }
 {
     match announcer.start(out) {
         Ok(()) => Ok(()),

@@ -80,7 +80,11 @@ fn begin(announcer: &mut Announcer<'_>, started: bool, out: &mut Vec<u8>) -> Res
 }
 
 /// The clock, at a moment.
-fn wake(announcer: &mut Announcer<'_>, moment: u64, out: &mut Vec<u8>) -> Result<(), Memory>
+pub(crate) fn wake(
+    announcer: &mut Announcer<'_>,
+    moment: u64,
+    out: &mut Vec<u8>,
+) -> Result<(), Memory>
     ensures wakes { OnOk result (TicksOver
         (machine_in announcer.old) moment announcer.old.line announcer.new.line out.old.items out.new.items) }
     ensures same { KeepsSettled announcer.old announcer.new }
@@ -102,7 +106,7 @@ fn stops(announcer: &Announcer<'_>, hears_on: bool) -> bool
 /// Takes the piece message by message, up to what closes the end, and where it doesn't hear on up to and with the one that
 /// establishes it. Answers how many octets come up to and with the message that establishes it: where none does, all of
 /// them, or those before the message that closes it.
-fn take(
+pub(crate) fn take(
     announcer: &mut Announcer<'_>,
     hears_on: bool,
     moment: u64,

@@ -1,5 +1,5 @@
 use Rattle.std.proofs.Common.{rules}
-use Rattle.fs_peering.proofs.Ahead.{starts_ahead, starts_ok}
+use Rattle.fs_peering.proofs.{Ahead.{starts_ahead, starts_ok}, Linking.{starts_own}}
 use Rattle.fs_peering.proofs.steps.start.Goals as goal
 
 pub returns-in-Ok-clause-open : goal.returns-in-Ok-clause-open
@@ -17,3 +17,11 @@ returns-in-Ok-clause-ahead c = λ started.
 pub returns-in-Err-clause-ahead : goal.returns-in-Err-clause-ahead
 returns-in-Err-clause-ahead c = λ started.
     starts_ahead c.args.announcer.now c.start.new.self c.args.out.now.items c.start.new.out.items c.start.result c.start.ensures.again c.start.ensures.exact started
+
+pub returns-in-Ok-clause-own : goal.returns-in-Ok-clause-own
+returns-in-Ok-clause-own c =
+    starts_own c.args.announcer.now c.start.new.self c.args.out.now.items c.start.new.out.items c.start.result c.start.ensures.again c.start.ensures.exact
+
+pub returns-in-Err-clause-own : goal.returns-in-Err-clause-own
+returns-in-Err-clause-own c =
+    starts_own c.args.announcer.now c.start.new.self c.args.out.now.items c.start.new.out.items c.start.result c.start.ensures.again c.start.ensures.exact
