@@ -14,3 +14,9 @@ pub mod Named
 mod Folding
 mod Recorded
 mod RecordingEnds
+mod Kept
+mod KeptRules
+mod KeptExactly
+mod KeptFold
+mod KeepingEnds
+mod Judging

@@ -8,3 +8,9 @@ pub mod Pairing
 pub mod Promised
 pub mod Laws
 pub mod Recording
+pub mod Holding
+pub mod Shelf
+pub mod News
+pub mod Judged
+pub mod Keeping
+pub mod KeepingLaws

@@ -60,7 +60,7 @@ pub fn record_sessions<F: Files, S: Sink, G: Gate>(
 }
 
 /// Why the command ends.
-fn refusal_by(stop: Stop) -> Refusal
+pub(crate) fn refusal_by(stop: Stop) -> Refusal
     ensures { result ≡ refusal_by stop }
 {
     match stop {
