@@ -64,7 +64,12 @@ pub fn play_whole<'a, F: Files>(
 }
 
 /// Opens the tape, up to its first item.
-pub(crate) fn open_tape<F: Files>(files: &mut F, name: &str, limit: u64) -> Result<Tape, Refusal>
+///
+/// # Errors
+///
+/// `Outside` where the file isn't there or the files failed, `Tape` where the tape has a fault before its items, `Limit`
+/// where the limit is reached there.
+pub fn open_tape<F: Files>(files: &mut F, name: &str, limit: u64) -> Result<Tape, Refusal>
     ensures later { F.faults files.old ≤ F.faults files.new }
     ensures state { IfOk result (IsBegun 1 limit) }
     ensures within { IfOk result (λ tape. tape.place ≤ tape.limit) }
@@ -150,8 +155,12 @@ pub(crate) fn play_item(
     }
 }
 
-/// The tape's next item, or None at its end.
-pub(crate) fn next_item<F: Files>(
+/// The tape's next item, or None at its end. Its octets stand at the front of the buffer.
+///
+/// # Errors
+///
+/// `Outside` where the files failed, `Tape` and `Limit` where the tape ends so.
+pub fn next_item<F: Files>(
     files: &mut F,
     tape: &mut Tape,
     config: &Config,

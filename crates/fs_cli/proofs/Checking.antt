@@ -6,7 +6,7 @@ use Rattle.fs_base.specs.Files.{one_opening}
 use Rattle.cmd_stages.specs.Refusal.{IsOfFile}
 use Rattle.cmd_convert.specs.{Command.{IsOfDump}, Survey.{dump_verdict, IsUnsaid as IsDumpUnsaid}, declared.survey.DumpSaid.{DumpSaid}}
 use Rattle.cmd_enforce.specs.{Judge.{IsOfCapture}, Stamps.{IsUnsaid}, Survey.{capture_verdict}, declared.survey.CaptureSaid.{CaptureSaid}}
-use Rattle.fs_cli.specs.{FileCheck.{ChecksFileSo, FileForm, IsDue, OfCapture, OfConfig, OfDump, OfRules, Unsaid, file_openings, file_statuses}, declared.file_check.Said.{Said}}
+use Rattle.fs_cli.specs.{Survey.{IsOfSurvey}, FileCheck.{ChecksFileSo, FileForm, IsDue, OfCapture, OfConfig, OfDump, OfRules, OfTape, Unsaid, file_openings, file_statuses}, declared.file_check.Said.{Said}}
 
 -- nothing was said
 pub file_unsaid : (limit : ℕ) (holds : Names) (form : FileForm) (failed other : Type 0) (a : Option (List ℕ)) (refusal : Refusal)
@@ -50,6 +50,20 @@ rules_possible (Err Memory) p a = inr (inr (inr (inl refl)))
 rules_possible (Err Limit) p a = inr (inr (inr (inr (inl refl))))
 rules_possible (Err Session) p a = absurd (p.2 refl)
 
+pub tape_possible : (result : Result Said Refusal) → IsOfSurvey (answered result) × (answered result ≢ 4)
+    → IfOk result (λ said. (said.status ≡ 0) ⊎ (said.status ≡ 4))
+    → MatchResult result (λ said. IsOneOf (0 ∷ 1 ∷ 3 ∷ 4 ∷ 6 ∷ 7 ∷ []) said.status) (λ refusal. IsOneOf (0 ∷ 1 ∷ 3 ∷ 4 ∷ 6 ∷ 7 ∷ []) (status_of refusal))
+tape_possible (Ok said) p (inl h) = inl h
+tape_possible (Ok said) p (inr h) = inr (inr (inr (inl h)))
+tape_possible (Err Outside) p a = inr (inl refl)
+tape_possible (Err Rejected) p a = inr (inr (inl refl))
+tape_possible (Err (Tape reason place)) p a = absurd (p.1 refl)
+tape_possible (Err Capture) p a = absurd (p.0.0 refl)
+tape_possible (Err Dump) p a = absurd (p.0.2 refl)
+tape_possible (Err Memory) p a = inr (inr (inr (inr (inl refl))))
+tape_possible (Err Limit) p a = inr (inr (inr (inr (inr (inl refl)))))
+tape_possible (Err Session) p a = absurd (p.0.1 refl)
+
 pub capture_possible : (result : Result CaptureSaid Refusal) → IsOfCapture (answered result) × (answered result ≢ 5)
     → IfOk result (λ said. (said.status ≡ 0) ⊎ (said.status ≡ 5))
     → MatchResult result (λ said. IsOneOf (0 ∷ 1 ∷ 5 ∷ 6 ∷ 7 ∷ []) said.status) (λ refusal. IsOneOf (0 ∷ 1 ∷ 5 ∷ 6 ∷ 7 ∷ []) (status_of refusal))
@@ -82,6 +96,7 @@ dump_possible (Err Session) p a = absurd (p.0.2 refl)
 outside_possible : (form : FileForm) (answer : ℕ) → answer ≡ 1 → IsOneOf (file_statuses form) answer
 outside_possible (OfConfig config) answer h = inr (inl h)
 outside_possible (OfRules config sending) answer h = inr (inl h)
+outside_possible (OfTape config tape) answer h = inr (inl h)
 outside_possible (OfCapture capture) answer h = inr (inl h)
 outside_possible (OfDump config dump) answer h = inr (inl h)
 
@@ -100,6 +115,7 @@ never_two form answer p = λ h. two form (none_else (file_statuses form) answer 
     two : (form : FileForm) → IsOneOf (file_statuses form) 2 → ⊥
     two (OfConfig config) p = search (rules, p)
     two (OfRules config sending) p = search (rules, p)
+    two (OfTape config tape) p = search (rules, p)
     two (OfCapture capture) p = search (rules, p)
     two (OfDump config dump) p = search (rules, p)
 

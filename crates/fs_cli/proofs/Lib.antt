@@ -1,6 +1,7 @@
 mod Words
 pub mod Checking
 pub mod RulesChecking
+pub mod TapeChecking
 pub mod Counting
 pub mod Surveying
 pub mod Following

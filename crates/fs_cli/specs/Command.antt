@@ -2,7 +2,7 @@
 use Rattle.std.specs.{Prelude.{◌==◌, ◌&&◌, ℕ, List, [], ◌∷◌, Bool, false, not, nat_le, Option, Some, None, if◌then◌else◌, codes, decimal, option_map}, Str.{bytes_eq, Parse.{digits_value}}}
 use Rattle.fs_base.specs.declared.prefix.Family.TheVariants.{V4, V6}
 use Rattle.fs_cli.specs.declared.{command.{Command.{Command, TheVariants.{Enforce as EnforceCommand, Survey as SurveyCommand, Changes as ChangesCommand, Convert as ConvertCommand, Check as CheckCommand, CheckFile as CheckFileCommand, Gen as GenCommand, Announce as AnnounceCommand, Listen as ListenCommand, Pair as PairCommand}}, Subject.{Subject, TheVariants.{Nlri, Text}}}, survey.Survey.{Survey, TheVariants.{Rules, Shadow, Words}}}
-use Rattle.fs_cli.specs.FileCheck.{FileForm, OfCapture, OfConfig, OfDump, OfRules, file_shown}
+use Rattle.fs_cli.specs.FileCheck.{FileForm, OfCapture, OfConfig, OfDump, OfRules, OfTape, file_shown}
 
 -- a command, with the names of the files that it is to read, or the word or the file that it is to say of and what as, or how
 -- many steps and packets it is to generate, or the files and the address of whom it is to announce to or to receive from,
@@ -41,6 +41,7 @@ file_of kind word =
 abbrev pub files_of : (kind config word : List ℕ) → Option FileForm
 files_of kind config word =
     if bytes_eq kind (codes "rules") then Some (OfRules config word)
+    else if bytes_eq kind (codes "tape") then Some (OfTape config word)
     else if bytes_eq kind (codes "dump") then Some (OfDump config word) else None
 
 -- a file of this kind, or else a word

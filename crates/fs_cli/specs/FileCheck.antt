@@ -4,14 +4,15 @@ use Rattle.fs_base.specs.{Happened.{Happened, FilesFailed, SinkFailed, Wrote}, S
 use Rattle.fs_conf.specs.{Config.{config_of}, Fault.{IsFirstFault, fault_text}, declared.fault.ConfigFault.{ConfigFault, TheVariants.{Memory as NoMemory}}}
 use Rattle.cmd_convert.specs.Survey.{dump_verdict}
 use Rattle.cmd_enforce.specs.Survey.{capture_verdict}
-use Rattle.fs_cli.specs.declared.file_check.{CheckedFile.{CheckedFile, TheVariants.{Config as ConfigFile, Rules as RulesFile, Capture as CaptureFile, Dump as DumpFile}}, Said.{Said}}
-use Rattle.fs_cli.specs.RulesCheck.{JudgesRules}
-use Rattle.cmd_stages.specs.{Load.{Names, Openings, config_alone, config_stage, config_then, fetch}, Refusal.{Answers, Verdict, verdict_with, Stage, Found, Stopped, status_of}, declared.refusal.Refusal.{Refusal, TheVariants.{Memory, Outside}}}
+use Rattle.fs_cli.specs.declared.file_check.{CheckedFile.{CheckedFile, TheVariants.{Config as ConfigFile, Rules as RulesFile, Tape as TapeFile, Capture as CaptureFile, Dump as DumpFile}}, Said.{Said}}
+use Rattle.fs_cli.specs.{RulesCheck.{JudgesRules}, TapeCheck.{JudgesTape}}
+use Rattle.cmd_stages.specs.{Load.{Names, Openings, config_alone, config_stage, config_then, fetch}, Play.{tape_stage}, Refusal.{Answers, Verdict, verdict_with, Stage, Found, Stopped, status_of}, declared.refusal.Refusal.{Refusal, TheVariants.{Memory, Outside}}}
 
 -- a file that is checked
 pub data FileForm : Type 0 where
   OfConfig : (config : List ℕ) → FileForm
   OfRules : (config rules : List ℕ) → FileForm
+  OfTape : (config tape : List ℕ) → FileForm
   OfCapture : (capture : List ℕ) → FileForm
   OfDump : (config dump : List ℕ) → FileForm
 
@@ -19,6 +20,7 @@ pub data FileForm : Type 0 where
 abbrev pub file_shown : CheckedFile → FileForm
 file_shown (ConfigFile config) = OfConfig config.now
 file_shown (RulesFile config rules) = OfRules config.now rules.now
+file_shown (TapeFile config tape) = OfTape config.now tape.now
 file_shown (CaptureFile capture) = OfCapture capture.now
 file_shown (DumpFile config dump) = OfDump config.now dump.now
 
@@ -51,6 +53,8 @@ abbrev pub IsDue : ℕ → Names → FileForm → Verdict → Type 0
 IsDue limit holds (OfConfig config) verdict = Due JudgesConfig (fetch limit holds config) verdict
 IsDue limit holds (OfRules config rules) verdict =
     Due (λ accepted. Due (JudgesRules accepted) (fetch limit holds rules)) (config_stage limit holds config) verdict
+IsDue limit holds (OfTape config tape) verdict =
+    Due (λ accepted. JudgesTape limit holds tape accepted (tape_stage accepted limit holds tape)) (config_stage limit holds config) verdict
 IsDue limit holds (OfCapture capture) verdict = verdict ≡ capture_verdict limit holds capture
 IsDue limit holds (OfDump config dump) verdict = verdict ≡ dump_verdict limit holds config dump
 
@@ -80,6 +84,7 @@ HasFileStatus limit holds form answer = (verdict : Verdict) × IsDue limit holds
 abbrev pub file_statuses : FileForm → List ℕ
 file_statuses (OfConfig config) = 0 ∷ 1 ∷ 6 ∷ 7 ∷ 9 ∷ []
 file_statuses (OfRules config rules) = 0 ∷ 1 ∷ 3 ∷ 6 ∷ 7 ∷ 9 ∷ []
+file_statuses (OfTape config tape) = 0 ∷ 1 ∷ 3 ∷ 4 ∷ 6 ∷ 7 ∷ []
 file_statuses (OfCapture capture) = 0 ∷ 1 ∷ 5 ∷ 6 ∷ 7 ∷ []
 file_statuses (OfDump config dump) = 0 ∷ 1 ∷ 3 ∷ 6 ∷ 7 ∷ 10 ∷ []
 
@@ -90,6 +95,7 @@ capture_alone capture = record { files = one_opening 2 capture; judged = 1; due 
 abbrev pub file_openings : FileForm → Openings
 file_openings (OfConfig config) = config_alone config
 file_openings (OfRules config rules) = config_then 1 config rules
+file_openings (OfTape config tape) = config_then 1 config tape
 file_openings (OfCapture capture) = capture_alone capture
 file_openings (OfDump config dump) = config_then 1 config dump
 

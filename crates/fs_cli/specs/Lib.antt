@@ -10,6 +10,7 @@ pub use Rattle.fs_desk.specs.Updates
 pub mod Changes
 pub mod Command
 pub mod RulesCheck
+pub mod TapeCheck
 pub mod FileCheck
 pub mod Program
 pub mod Survey

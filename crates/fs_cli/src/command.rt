@@ -114,6 +114,7 @@ fn parse_files<'w>(kind: &str, config: &'w str, word: &'w str) -> Option<Command
             config,
             rules: word,
         })),
+        "tape" => Some(Command::CheckFile(CheckedFile::Tape { config, tape: word })),
         "dump" => Some(Command::CheckFile(CheckedFile::Dump { config, dump: word })),
         _ => None,
     }

@@ -8,6 +8,7 @@ ghost use Rattle.fs_cli.specs.{FileCheck.{ChecksFile, IsDue, JudgesConfig, OfCon
 use crate::capture_check::say_of_capture;
 use crate::dump_check::say_of_dump;
 use crate::rules_check::say_of_rules;
+use crate::tape_check::say_of_tape;
 use cmd_stages::{CONFIG_SLOT, Refusal, load_file, status};
 use fs_base::{Failed, Files, Memory, Sink, write_all};
 use fs_conf::{ConfigFault, judge_config, names_the_fault};
@@ -20,6 +21,8 @@ pub enum CheckedFile<'w> {
     Config(&'w str),
     /// A rules file beside a configuration.
     Rules { config: &'w str, rules: &'w str },
+    /// A tape of the sessions of a configuration.
+    Tape { config: &'w str, tape: &'w str },
     /// A capture.
     Capture(&'w str),
     /// A dump, beside a configuration.
@@ -93,6 +96,7 @@ fn say_of_file<F: Files>(
     match checked {
         CheckedFile::Config(config) => say_of_config(alloc, files, config, limit),
         CheckedFile::Rules { config, rules } => say_of_rules(alloc, files, config, rules, limit),
+        CheckedFile::Tape { config, tape } => say_of_tape(alloc, files, config, tape, limit),
         CheckedFile::Capture(capture) => say_of_capture(alloc, files, capture, limit),
         CheckedFile::Dump { config, dump } => say_of_dump(alloc, files, config, dump, limit),
     }

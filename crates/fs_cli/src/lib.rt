@@ -11,6 +11,8 @@ mod live;
 mod program;
 mod rules_check;
 mod survey;
+mod tallies;
+mod tape_check;
 
 pub use cmd_enforce::same_lines;
 pub use cmd_stages::status;

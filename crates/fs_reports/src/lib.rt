@@ -11,8 +11,8 @@ mod text;
 mod worded;
 
 pub use listing::desk_text;
-pub use peers::append_codes;
+pub use peers::{append_codes, peer_numbers};
 pub use report::{Report, report_on};
-pub use tape_fault::tape_fault_text;
+pub use tape_fault::{tape_fault_text, tape_reason_name};
 pub use text::report_on_text;
 pub use worded::desk_words;

@@ -14,7 +14,7 @@ use std::alloc::Global;
 pub fn append_peers(desk: &Desk<'_>, text: &mut Vec<u8>) -> Result<(), Memory>
     ensures { OnOk result (text.new.items ≡ text.old.items ++ desk_peers desk.now) }
 {
-    let numbers = numbers_of(*text.allocator(), desk.config().peers.as_slice())?;
+    let numbers = peer_numbers(*text.allocator(), desk.config().peers.as_slice())?;
     append_each(desk, &numbers, text)
 }
 
@@ -29,7 +29,11 @@ fn append_each(desk: &Desk<'_>, numbers: &[u16], text: &mut Vec<u8>) -> Result<(
 }
 
 /// The numbers of the peers, each once, by size.
-fn numbers_of(alloc: Global, peers: &[Peer]) -> Result<Vec<u16>, Memory>
+///
+/// # Errors
+///
+/// `Memory` where the machine refused memory.
+pub fn peer_numbers(alloc: Global, peers: &[Peer]) -> Result<Vec<u16>, Memory>
     ensures { IfOk result (λ numbers. numbers.items ≡ numbers_of peers.now) }
 {
     let mut numbers = Vec::with_capacity(alloc, peers.len())?;

@@ -18,7 +18,7 @@ pub fn tape_fault_text(alloc: Global, reason: TapeReason, place: u64) -> Result<
 {
     let mut text = Vec::new(alloc);
     append(b"tape ", &mut text)?;
-    append(reason_name(reason), &mut text)?;
+    append(tape_reason_name(reason).as_bytes(), &mut text)?;
     append(b" at ", &mut text)?;
     append_decimal(place, &mut text)?;
     append(b"\n", &mut text)?;
@@ -26,15 +26,15 @@ pub fn tape_fault_text(alloc: Global, reason: TapeReason, place: u64) -> Result<
 }
 
 /// The name of a tape's fault.
-fn reason_name(reason: TapeReason) -> &'static [u8]
+pub fn tape_reason_name(reason: TapeReason) -> &'static str
     ensures { result.now ≡ tape_reason_name reason }
 {
     match reason {
-        TapeReason::Magic => b"Magic",
-        TapeReason::Kind => b"Kind",
-        TapeReason::Peer => b"Peer",
-        TapeReason::Length => b"Length",
-        TapeReason::Cut => b"Cut",
-        TapeReason::Moment => b"Moment",
+        TapeReason::Magic => "Magic",
+        TapeReason::Kind => "Kind",
+        TapeReason::Peer => "Peer",
+        TapeReason::Length => "Length",
+        TapeReason::Cut => "Cut",
+        TapeReason::Moment => "Moment",
     }
 }

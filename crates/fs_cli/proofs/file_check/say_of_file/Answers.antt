@@ -1,4 +1,4 @@
-use Rattle.fs_cli.proofs.Checking.{config_possible, rules_possible}
+use Rattle.fs_cli.proofs.Checking.{config_possible, rules_possible, tape_possible}
 use Rattle.fs_cli.proofs.file_check.say_of_file.Goals as goal
 
 pub returns-in-Config-clause-possible : goal.returns-in-Config-clause-possible
@@ -18,6 +18,15 @@ returns-in-Rules-clause-said g c = rw c.in-Rules.is c.say_of_rules.ensures.said
 
 pub returns-in-Rules-clause-opens : goal.returns-in-Rules-clause-opens
 returns-in-Rules-clause-opens g c = rw c.in-Rules.is c.say_of_rules.ensures.opens
+
+pub returns-in-Tape-clause-possible : goal.returns-in-Tape-clause-possible
+returns-in-Tape-clause-possible g c = rw c.in-Tape.is (tape_possible c.say_of_tape.result c.say_of_tape.ensures.possible c.say_of_tape.ensures.accepted)
+
+pub returns-in-Tape-clause-said : goal.returns-in-Tape-clause-said
+returns-in-Tape-clause-said g c = rw c.in-Tape.is c.say_of_tape.ensures.said
+
+pub returns-in-Tape-clause-opens : goal.returns-in-Tape-clause-opens
+returns-in-Tape-clause-opens g c = rw c.in-Tape.is c.say_of_tape.ensures.opens
 
 pub returns-in-Capture-clause-possible : goal.returns-in-Capture-clause-possible
 returns-in-Capture-clause-possible g c = rw c.in-Capture.is c.say_of_capture.ensures.possible

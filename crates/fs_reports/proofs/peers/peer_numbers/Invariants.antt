@@ -1,6 +1,6 @@
 use Rattle.std.proofs.Common.{◌≡◌, ◌<◌, All, map, take}
 use Rattle.fs_reports.proofs.Numbers.{number_of}
-use Rattle.fs_reports.proofs.peers.numbers_of.Given as goal
+use Rattle.fs_reports.proofs.peers.peer_numbers.Given as goal
 
 abbrev pub invariant-loop-peer : goal.invariant-loop-peer
 invariant-loop-peer l = record {

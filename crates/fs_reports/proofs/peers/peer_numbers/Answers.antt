@@ -1,6 +1,6 @@
 use Rattle.fs_reports.proofs.{Words.{◌≡◌, ℕ, ◌<◌, List, Contains, eqb, map, take_all, ap, sym, subst, ◌∙◌, Contains-dedup_nat, Contains-from_dedup, All-permutation, Contains-permutation, IsPermutation-sym, IsStrictlyIncreasing-dedup, sorted_from_strictly_increasing, dedup}, Numbers.{number_of, numbers_are}}
 use Rattle.std.proofs.lemmas.List.Filters.{dedup_is, All-dedup}
-use Rattle.fs_reports.proofs.peers.numbers_of.Goals as goal
+use Rattle.fs_reports.proofs.peers.peer_numbers.Goals as goal
 
 pub returns : goal.returns
 returns c =

@@ -1,0 +1,202 @@
+-- How what is said of a tape follows from what is counted of it.
+use Rattle.fs_cli.proofs.{Words.{◌≡◌, ◌≢◌, inl, inr, ◌⊎◌, ℕ, ◌==◌, Bool, true, false, if◌then◌else◌, List, [], ◌∷◌, ◌++◌, Option, refl, ap, sym, subst, ◌∙◌, append-nil, length, arith, Config, Timed, Names, HasReason, HasVersion, Stage, Found, Stopped, config_stage, tape_stage, untimed, verdict_with, status_of, Refusal, Verdict, Memory, Outside, Tape, stopped_text}, Surveying.{nothing_said}}
+use Rattle.std.{specs.Prelude.{None, ◌*◌, ◌≤◌}, proofs.{Common.{◌+◌, append_assoc, get_or, replicate}, lemmas.{Bool.{cases_lt, Decides.{nat_tests}}, List.{get_or-replicate, get_or_past, length-append, length-replicate}}}}
+use Rattle.fs_base.specs.Parts.{with_part}
+use Rattle.fs_input.specs.Records.{End, bad, done, limited}
+use Rattle.fs_tape.specs.{Tape.{IsItem, Item, TapeState, coming, timed}, Magic.{version_number}, declared.{fault.TapeReason.{TapeReason}, item.TapeItem.{TapeItem, TheVariants.{Lost, Octets, Up}}, magic.Version.{Version}}}
+use Rattle.fs_reports.specs.TapeFault.{tape_fault_line}
+use Rattle.cmd_stages.{specs.Play.{IsOpened, played_to}, proofs.Playing.{untimed_more}}
+use Rattle.fs_cli.specs.{FileCheck.{Due, IsDue, OfTape, Unsaid}, TapeCheck.{CountsOf, CountsOn, CountsState, IsSmall, IsWithin, JudgesTape, TapeCounted, counted_text, no_tally, peer_of_item, span_behind, span_of, span_with, tally_at, tally_behind, tally_line, tally_lines, tally_of, tally_with, tape_line, tape_text}, declared.tallies.Tally.{Tally}}
+
+-- one item more
+
+tally_more : (number : ℕ) (tally : Tally) (items : List Item) (item : Item)
+    → tally_behind number tally (items ++ item ∷ [])
+    ≡ (if peer_of_item item == number then tally_with item (tally_behind number tally items) else tally_behind number tally items)
+tally_more number tally [] item = refl
+tally_more number tally (first ∷ items) item = tally_more number (if peer_of_item first == number then tally_with first tally else tally) items item
+
+span_more : (span : Option (ℕ × ℕ)) (items : List Timed) (last : Timed) → span_behind span (items ++ last ∷ []) ≡ span_with (span_behind span items) last.moment
+span_more span [] last = refl
+span_more span (first ∷ items) last = span_more (span_with span first.moment) items last
+
+-- the tally of the item's peer is another, and no other's is
+abbrev pub AddsTo : CountsState → CountsState → (moment : ℕ) → Item → Type 0
+AddsTo old new moment item =
+    (new.items ≡ old.items + 1) × (new.span ≡ span_with old.span moment)
+    × ((number : ℕ) → tally_at new.by_number number ≡ (if number == peer_of_item item then tally_with item (tally_at old.by_number (peer_of_item item)) else tally_at old.by_number number))
+
+pub counts_more : (old new : CountsState) (moment : ℕ) (item : Item) (gone : List Timed) → AddsTo old new moment item → CountsOf old gone
+    → CountsOf new (gone ++ timed moment item ∷ [])
+counts_more old new moment item gone adds of = record {
+  items_are = adds.0 ∙ ap (λ n. n + 1) of.items_are ∙ sym (length-append gone (timed moment item ∷ []));
+  span_is = adds.1 ∙ ap (λ span. span_with span moment) of.span_is ∙ sym (span_more _ gone (timed moment item));
+  tallies_are = λ number.
+      adds.2 number ∙ each number (number == peer_of_item item) refl
+      ∙ sym (ap (tally_of number) (untimed_more gone (timed moment item ∷ [])) ∙ tally_more number _ (untimed gone) item);
+}
+  where
+    each : (number : ℕ) (b : Bool) → (number == peer_of_item item) ≡ b
+        → (if b then tally_with item (tally_at old.by_number (peer_of_item item)) else tally_at old.by_number number)
+        ≡ (if peer_of_item item == number then tally_with item (tally_of number (untimed gone)) else tally_of number (untimed gone))
+    each number true e =
+        let same : number ≡ peer_of_item item = grind (arith, nat_tests, e) in
+        let own : (peer_of_item item == number) ≡ true = grind (arith, nat_tests, same) in
+        ap (tally_with item) (ap (tally_at old.by_number) (sym same) ∙ of.tallies_are number)
+        ∙ sym (ap (λ c. if c then tally_with item (tally_of number (untimed gone)) else tally_of number (untimed gone)) own)
+    each number false e =
+        let other : (peer_of_item item == number) ≡ false = grind (arith, nat_tests, e) in
+        of.tallies_are number ∙ sym (ap (λ c. if c then tally_with item (tally_of number (untimed gone)) else tally_of number (untimed gone)) other)
+
+-- nothing is counted
+
+at_none : (n : ℕ) (listed : List Tally) (number : ℕ) → listed ≡ replicate n no_tally → tally_at listed number ≡ no_tally
+at_none n listed number e = ap (λ (l : List Tally). get_or l number no_tally) e ∙ elim (cases_lt number n) [
+  | inl less ↦ get_or-replicate n number no_tally no_tally less
+  | inr more ↦ get_or_past (replicate n no_tally) number no_tally (rw (length-replicate n no_tally) more)
+]
+
+pub fresh_within : (listed : List Tally) → listed ≡ replicate 65536 no_tally → (length listed ≡ 65536) × ((number : ℕ) → IsWithin 0 (tally_at listed number))
+fresh_within listed e = (
+  ap (λ (l : List Tally). length l) e ∙ length-replicate 65536 no_tally,
+  λ number. subst (IsWithin 0) (sym (at_none 65536 listed number e)) (record { items_within = omega arith; octets_within = omega arith }),
+)
+
+pub fresh_counts : (listed : List Tally) → listed ≡ replicate 65536 no_tally → CountsOf (record { items = 0; span = None; by_number = listed }) []
+fresh_counts listed e = record { items_are = refl; span_is = refl; tallies_are = λ number. at_none 65536 listed number e }
+
+-- one item more keeps each tally within
+
+pub within_more : (items : ℕ) (old new : List Tally) (peer : ℕ) (tally : Tally) → ((number : ℕ) → IsWithin items (tally_at old number))
+    → ((number : ℕ) → tally_at new number ≡ (if number == peer then tally else tally_at old number)) → tally.items ≡ (tally_at old peer).items + 1 → tally.octets ≤ 65536 * tally.items
+    → (number : ℕ) → IsWithin (items + 1) (tally_at new number)
+within_more items old new peer tally within set more octets number =
+    subst (IsWithin (items + 1)) (sym (set number)) (by (number == peer))
+  where
+    by : (b : Bool) → IsWithin (items + 1) (if b then tally else tally_at old number)
+    by true = let w = (within peer).items_within in record { items_within = omega (arith, w, more); octets_within = octets }
+    by false = let w = within number in let few = w.items_within in record { items_within = omega (arith, few); octets_within = w.octets_within }
+
+-- of all items some were counted, and the rest is to come
+pub record Counting (all rest : List Timed × End TapeReason) (old now : CountsState) : Type 0 where
+  pub gone : List Timed
+  pub parts : all.0 ≡ gone ++ rest.0
+  pub end_is : all.1 ≡ rest.1
+  pub counted : (before : List Timed) → CountsOf old before → CountsOf now (before ++ gone)
+
+pub counting_none : (all : List Timed × End TapeReason) (old : CountsState) → Counting all all old old
+counting_none all old = record {
+  gone = [];
+  parts = refl;
+  end_is = refl;
+  counted = λ before of. subst (CountsOf old) (sym (append-nil before)) of;
+}
+
+pub counting_more : (all rest rest' : List Timed × End TapeReason) (old now now' : CountsState) (next : Timed) → Counting all rest old now → rest ≡ with_part next rest'
+    → ((gone : List Timed) → CountsOf now gone → CountsOf now' (gone ++ next ∷ [])) → Counting all rest' old now'
+counting_more all rest rest' old now now' next p e f = record {
+  gone = p.gone ++ next ∷ [];
+  parts = p.parts ∙ ap (λ (r : List Timed × End TapeReason). p.gone ++ r.0) e ∙ sym (append_assoc p.gone (next ∷ []) rest'.0);
+  end_is = p.end_is ∙ ap (λ (r : List Timed × End TapeReason). r.1) e;
+  counted = λ before of. subst (CountsOf now') (append_assoc before p.gone (next ∷ [])) (f (before ++ p.gone) (p.counted before of));
+}
+
+pub counting_done : (all rest : List Timed × End TapeReason) (old now : CountsState) → Counting all rest old now → rest ≡ ([], done) → CountsOn all old now
+counting_done all rest old now p e = record {
+  done_is = p.end_is ∙ ap (λ (r : List Timed × End TapeReason). r.1) e;
+  counts = λ before of. subst (λ (z : List Timed). CountsOf now (before ++ z)) (sym (p.parts ∙ ap (λ (r : List Timed × End TapeReason). p.gone ++ r.0) e ∙ append-nil p.gone)) (p.counted before of);
+}
+
+stopped_end : (xs ys : List Timed) (end other : End TapeReason) (refusal : Refusal) → end ≡ other → played_to (ys, other) ≡ Stopped refusal → played_to (xs, end) ≡ Stopped refusal
+stopped_end xs ys end done refusal same h = absurd cc
+stopped_end xs ys end limited refusal same h = rw same h
+stopped_end xs ys end (bad reason place) refusal same h = rw same h
+
+-- where the rest ends the run, so do all
+pub reason_all : (all rest : List Timed × End TapeReason) (old now : CountsState) (failed other : Type 0) (refusal : Refusal) → Counting all rest old now
+    → HasReason (played_to rest) failed refusal → (failed → other) → HasReason (played_to all) other refusal
+reason_all all rest old now failed other refusal p (inl h) f = inl (stopped_end all.0 rest.0 all.1 rest.1 refusal p.end_is h)
+reason_all all rest old now failed other refusal p (inr (inl h)) f = inr (inl h)
+reason_all all rest old now failed other refusal p (inr (inr h)) f = inr (inr (h.0, f h.1))
+
+pub small_item : (config : Config) (item : TapeItem) → IsItem config item → IsSmall item
+small_item config (Up peer) h = tt
+small_item config (Octets peer count) h = h.1
+small_item config (Lost peer) h = tt
+
+pub tape_counted : (config : Config) (limit : ℕ) (holds : Names) (name left : List ℕ) (tape : TapeState) (version : ℕ) (nothing counts : CountsState)
+    → IsOpened limit holds name left tape → version ≡ version_number tape.version → CountsOn (coming config tape left) nothing counts → CountsOf nothing []
+    → TapeCounted config limit holds name version counts
+tape_counted config limit holds name left tape version nothing counts o v on first = record {
+  items = (coming config tape left).0;
+  found = o.comes config ∙ subst (λ (e : End TapeReason). played_to ((coming config tape left).0, e) ≡ Found (coming config tape left).0) (sym on.done_is) refl;
+  own = tape.version;
+  has_version = o.has_version;
+  version_is = v;
+  counts_are = on.counts [] first;
+}
+
+-- the lines
+
+lines_same : (numbers : List ℕ) (f g : ℕ → Tally) → ((number : ℕ) → f number ≡ g number) → tally_lines numbers f ≡ tally_lines numbers g
+lines_same [] f g h = refl
+lines_same (number ∷ numbers) f g h = rw (h number, lines_same numbers f g h) refl
+
+text_is : (config : Config) (limit : ℕ) (holds : Names) (name : List ℕ) (version : ℕ) (counts : CountsState) (c : TapeCounted config limit holds name version counts)
+    → counted_text config version counts ≡ tape_text config c.own c.items
+text_is config limit holds name version counts c =
+    rw (c.version_is, c.counts_are.items_are, c.counts_are.span_is) (ap (λ (lines : List ℕ). tape_line (version_number c.own) (length c.items) (span_of c.items) ++ lines) (lines_same _ _ _ c.counts_are.tallies_are))
+
+-- what is due
+
+abbrev DueOf : ℕ → Names → (tape : List ℕ) → Stage Config → Verdict → Type 0
+DueOf limit holds tape stage verdict = Due (λ accepted. JudgesTape limit holds tape accepted (tape_stage accepted limit holds tape)) stage verdict
+
+due_by : (limit : ℕ) (holds : Names) (config tape : List ℕ) (accepted : Config) (stage : Stage (List Timed)) (verdict : Verdict)
+    → config_stage limit holds config ≡ Found accepted → tape_stage accepted limit holds tape ≡ stage → JudgesTape limit holds tape accepted stage verdict
+    → IsDue limit holds (OfTape config tape) verdict
+due_by limit holds config tape accepted stage verdict e found judges =
+    subst (λ (s : Stage Config). DueOf limit holds tape s verdict) (sym e)
+    (subst (λ (s : Stage (List Timed)). JudgesTape limit holds tape accepted s verdict) (sym found) judges)
+
+pub config_untold : (limit : ℕ) (holds : Names) (config tape : List ℕ) (failed other : Type 0) (cause refusal : Refusal) → refusal ≡ cause
+    → HasReason (config_stage limit holds config) failed cause → (failed → other) → Unsaid (IsDue limit holds (OfTape config tape)) other refusal
+config_untold limit holds config tape failed other cause refusal same h f = subst (λ (r : Refusal). Unsaid (IsDue limit holds (OfTape config tape)) other r) (sym same) (by h)
+  where
+    by : HasReason (config_stage limit holds config) failed cause → Unsaid (IsDue limit holds (OfTape config tape)) other cause
+    by (inl e) = inl (subst (λ (s : Stage Config). DueOf limit holds tape s (verdict_with (status_of cause) [])) (sym e) refl)
+    by (inr (inl e)) = inr (inl e)
+    by (inr (inr e)) = inr (inr (e.0, f e.1))
+
+pub tape_told : (limit : ℕ) (holds holds' : Names) (config tape : List ℕ) (accepted : Config) (version : ℕ) (counts : CountsState) (verdict : Verdict)
+    → config_stage limit holds config ≡ Found accepted → holds' ≡ holds → TapeCounted accepted limit holds' tape version counts
+    → verdict ≡ verdict_with 0 (counted_text accepted version counts) → IsDue limit holds (OfTape config tape) verdict
+tape_told limit holds holds' config tape accepted version counts verdict e names counted is =
+    by (subst (λ (n : Names). TapeCounted accepted limit n tape version counts) names counted)
+  where
+    by : TapeCounted accepted limit holds tape version counts → IsDue limit holds (OfTape config tape) verdict
+    by c = due_by limit holds config tape accepted (Found c.items) verdict e c.found (c.own, c.has_version, is ∙ ap (λ (text : List ℕ). verdict_with 0 text) (text_is accepted limit holds tape version counts c))
+
+pub tape_faulty : (limit : ℕ) (holds holds' : Names) (config tape : List ℕ) (accepted : Config) (failed : Type 0) (reason : TapeReason) (place : ℕ) (verdict : Verdict)
+    → config_stage limit holds config ≡ Found accepted → holds' ≡ holds → HasReason (tape_stage accepted limit holds' tape) failed (Tape reason place)
+    → verdict ≡ verdict_with 4 (tape_fault_line reason place) → IsDue limit holds (OfTape config tape) verdict
+tape_faulty limit holds holds' config tape accepted failed reason place verdict e names h is =
+    by (subst (λ (n : Names). HasReason (tape_stage accepted limit n tape) failed (Tape reason place)) names h)
+  where
+    by : HasReason (tape_stage accepted limit holds tape) failed (Tape reason place) → IsDue limit holds (OfTape config tape) verdict
+    by (inl stopped) = due_by limit holds config tape accepted (Stopped (Tape reason place)) verdict e stopped is
+    by (inr (inl other)) = absurd cc
+    by (inr (inr other)) = let wrong : Tape reason place ≡ Outside = other.0 in absurd cc
+
+pub tape_untold : (limit : ℕ) (holds holds' : Names) (config tape : List ℕ) (accepted : Config) (failed other : Type 0) (refusal : Refusal)
+    → config_stage limit holds config ≡ Found accepted → holds' ≡ holds → HasReason (tape_stage accepted limit holds' tape) failed refusal → status_of refusal ≢ 4 → (failed → other)
+    → Unsaid (IsDue limit holds (OfTape config tape)) other refusal
+tape_untold limit holds holds' config tape accepted failed other refusal e names h apart f =
+    by (subst (λ (n : Names). HasReason (tape_stage accepted limit n tape) failed refusal) names h)
+  where
+    by : HasReason (tape_stage accepted limit holds tape) failed refusal → Unsaid (IsDue limit holds (OfTape config tape)) other refusal
+    by (inl stopped) =
+        inl (due_by limit holds config tape accepted (Stopped refusal) (verdict_with (status_of refusal) []) e stopped
+        (ap (λ (text : List ℕ). verdict_with (status_of refusal) text) (sym (nothing_said refusal apart))))
+    by (inr (inl g)) = inr (inl g)
+    by (inr (inr g)) = inr (inr (g.0, f g.1))
