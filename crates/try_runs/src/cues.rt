@@ -1,16 +1,17 @@
-//! What comes at the gate of a run.
+//! What comes at the gate of a run, and what its readings find.
 
 use crate::fault::Fault;
 use crate::fields::{halves, number, word_of};
 use crate::named::NamedFiles;
 use crate::octets::Octets;
-use fs_base::{Address, Cue, MemGate};
+use fs_base::{Address, Cue, Held, MemGate};
 use std::alloc::Global;
 
-/// What comes: a connection from an address of IPv4, octets of one, its end, or nothing.
+/// What comes: a connection from an address of IPv4, one that was dialled, octets of one, its end, or nothing.
 #[derive(Drop)]
 enum Coming {
     Taken { line: u64, from: u32 },
+    Made { line: u64 },
     Gave { line: u64, octets: Octets },
     Ended { line: u64 },
     Nothing,
@@ -24,10 +25,11 @@ struct Timed {
     coming: Coming,
 }
 
-/// What comes at a gate, in order.
+/// What comes at a gate, in order, and what its readings find: the octets of a file, or none.
 #[derive(Drop)]
 pub struct Cues {
     list: Vec<Timed>,
+    readings: Vec<Option<Octets>>,
 }
 
 impl Cues {
@@ -35,6 +37,7 @@ impl Cues {
     pub fn new(alloc: Global) -> Cues {
         Cues {
             list: Vec::new(alloc),
+            readings: Vec::new(alloc),
         }
     }
 
@@ -52,13 +55,42 @@ impl Cues {
         Ok(())
     }
 
+    /// One reading more: it finds the file of this name, or none where the name is empty.
+    pub fn hold(&mut self, named: &NamedFiles, name: &str) -> Result<(), Fault> {
+        if name.is_empty() {
+            self.readings.push(None)?;
+            return Ok(());
+        }
+        let octets = named.octets(name);
+        octets.check()?;
+        self.readings.push(Some(octets))?;
+        Ok(())
+    }
+
     /// A gate at which this comes. Its calls of these numbers fail.
     pub fn gate(&self, alloc: Global, failing: Vec<u64>) -> Result<MemGate, Fault> {
         let mut gate = MemGate::new(alloc, failing);
-        match fill(alloc, &self.list, &mut gate) {
+        match self.fill(alloc, &mut gate) {
             Ok(()) => Ok(gate),
             Err(fault) => Err(fault),
         }
+    }
+
+    fn fill(&self, alloc: Global, gate: &mut MemGate) -> Result<(), Fault> {
+        fill(alloc, &self.list, gate)?;
+        for reading in &self.readings {
+            if gate.hold(held(alloc, reading)?).is_err() {
+                return Err(Fault::Memory);
+            }
+        }
+        Ok(())
+    }
+}
+
+fn held(alloc: Global, reading: &Option<Octets>) -> Result<Held, Fault> {
+    match reading {
+        Some(octets) => Ok(Held::Octets(Vec::from_slice(alloc, octets.as_slice())?)),
+        None => Ok(Held::Absent),
     }
 }
 
@@ -78,6 +110,7 @@ fn cue_of(alloc: Global, coming: &Coming) -> Result<Cue, Fault> {
             line: *line,
             from: Address::V4(*from),
         }),
+        Coming::Made { line } => Ok(Cue::Made { line: *line }),
         Coming::Gave { line, octets } => Ok(Cue::Octets {
             line: *line,
             octets: Vec::from_slice(alloc, octets.as_slice())?,
@@ -87,11 +120,14 @@ fn cue_of(alloc: Global, coming: &Coming) -> Result<Cue, Fault> {
     }
 }
 
-/// `took LINE ADDRESS`, `gave LINE OCTETS`, `ended LINE` or `nothing`.
+/// `took LINE ADDRESS`, `made LINE`, `gave LINE OCTETS`, `ended LINE` or `nothing`.
 fn coming_of(named: &NamedFiles, text: &str) -> Result<Coming, Fault> {
     let (word, rest) = halves(text);
     match word {
         "took" => taken(named, rest),
+        "made" => Ok(Coming::Made {
+            line: number(rest)?,
+        }),
         "gave" => gave(named, rest),
         "ended" => Ok(Coming::Ended {
             line: number(rest)?,

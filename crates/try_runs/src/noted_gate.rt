@@ -4,8 +4,8 @@ use crate::octets::Octets;
 use fs_base::{Event, Failed, Gate, Memory, Reading};
 use std::alloc::Global;
 
-/// A gate, and what was asked of it in order, each with a comma behind it: `open ADDRESS`, `send LINE OCTETS` in
-/// hexadecimal, `close LINE`.
+/// A gate, and what was asked of it in order, each with a comma behind it: `open ADDRESS`, `dial ADDRESS`, `read NAME`,
+/// `send LINE OCTETS` in hexadecimal, `close LINE`.
 #[derive(Drop)]
 pub struct NotedGate<G: Gate + Drop> {
     gate: G,
@@ -28,13 +28,12 @@ impl<G: Gate + Drop> Gate for NotedGate<G> {
     ghost faults = { λ noted. G.faults noted.gate };
 
     fn open(&mut self, address: &str) -> Result<(), Failed> {
-        self.asked.word("open ");
-        self.asked.word(address);
-        self.asked.word(", ");
+        note("open ", address, &mut self.asked);
         self.gate.open(address)
     }
 
     fn dial(&mut self, address: &str) -> u64 {
+        note("dial ", address, &mut self.asked);
         self.gate.dial(address)
     }
 
@@ -43,6 +42,7 @@ impl<G: Gate + Drop> Gate for NotedGate<G> {
     }
 
     fn reread(&mut self, name: &str, limit: u64, into: &mut Vec<u8>) -> Result<Reading, Memory> {
+        note("read ", name, &mut self.asked);
         self.gate.reread(name, limit, into)
     }
 
@@ -61,4 +61,11 @@ impl<G: Gate + Drop> Gate for NotedGate<G> {
         self.asked.word(", ");
         self.gate.close(line);
     }
+}
+
+/// Notes a call by its word, and by the name that it was given.
+fn note(word: &str, name: &str, asked: &mut Octets) {
+    asked.word(word);
+    asked.word(name);
+    asked.word(", ");
 }

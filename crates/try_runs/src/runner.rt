@@ -106,6 +106,7 @@ impl Runner {
             "said" => self.expect_said(rest),
             "called" => self.expect_calls(rest),
             "cue" => self.terms.cues.add(&self.named, rest),
+            "holds" => self.terms.cues.hold(&self.named, rest),
             "asks" => self.expect_asked(rest),
             _ => self.fill(word, rest),
         }
