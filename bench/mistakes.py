@@ -3,7 +3,7 @@
 
     bench/mistakes.py PROGRAM
 
-A row is a file with one mistake, and the lines and the status with which `check` answers it, or of a tape `rules`:
+A row is a file with one mistake, and the lines and the status with which `check` answers it, and of a tape `rules` too:
 whoever reads them can mend the file. Files that only look wrong are here too, and are accepted. Ends with 0 where
 each is answered so.
 """
@@ -127,6 +127,16 @@ TAPES = [
     ("a tape of another neighbour", TAPE.replace(b"\1\0\1", b"\1\0\2"), 4, "tape Peer at 9"),
 ]
 
+# What a tape holds, and what `check tape` counts of it.
+COUNTED = [
+    ("one item", TAPE, ["tape version 1 items 1 moments 0 0", "peer 1 items 1 octets 0 up"]),
+    ("no item", TAPE[:8], ["tape version 1 items 0 moments - -", "peer 1 items 0 octets 0 down"]),
+    ("a peer that sends and is lost", TAPE + bytes.fromhex("02000100000003 010203 03000100000000"),
+     ["tape version 1 items 3 moments 0 0", "peer 1 items 3 octets 3 down"]),
+    ("the second version", b"FSTAPE2\n" + bytes.fromhex("010001 0000000000000005 00000000 020001 0000000000000007 00000001 ff"),
+     ["tape version 2 items 2 moments 5 7", "peer 1 items 2 octets 1 up"]),
+]
+
 
 CAPTURES = [
     ("nothing wrong", CAPTURE + PACKET * 2, 0, "capture pcap link 101 packets 2 moments 7000011000 7000011000"),
@@ -183,7 +193,13 @@ def answers(program, folder):
     for mistake, content, status, line in RULE_FILES:
         yield mistake, (status, line + "\n"), answer_of(program, ["check", "rules", config, written(folder, "rules", content)])
     for mistake, content, status, line in TAPES:
-        yield mistake, (status, line + "\n"), answer_of(program, ["rules", config, written(folder, "tape", content)])
+        tape = written(folder, "tape", content)
+        yield mistake, (status, line + "\n"), answer_of(program, ["rules", config, tape])
+        if status:
+            yield f"{mistake}, checked", (status, line + "\n"), answer_of(program, ["check", "tape", config, tape])
+    for what, content, lines in COUNTED:
+        tape = written(folder, "tape", content)
+        yield what, (0, "".join(line + "\n" for line in lines)), answer_of(program, ["check", "tape", config, tape])
     for mistake, content, status, lines in CAPTURES:
         capture = written(folder, "capture", content)
         yield mistake, (status, lines + "\n"), answer_of(program, ["check", "capture", capture])

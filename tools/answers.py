@@ -72,6 +72,13 @@ STATUSES = [
         "it isn't accepted; 6 free; 7 where it is at the limit, or only behind it",
         "possible causes",
     ),
+    (
+        "1, 3, 6, 7 of `keep`",
+        "1 only where the configuration isn't there, or the rules file isn't at first, or a call on them, on the output or "
+        "on the gate failed; 3 exactly where the configuration isn't accepted; 6 free; 7 where it is at the limit, or only "
+        "where the other end gave as many octets",
+        "possible causes",
+    ),
 ]
 
 # An answer of a layer, when it comes, and clauses: crate, call, names.
@@ -432,6 +439,11 @@ LEFT = [
         "the tape of all events but the last, and a front of the last one's records; where the configuration isn't accepted "
         "nothing, and the gate isn't used",
         "records config_writes_nothing stopped_unused",
+    ),
+    (
+        "1, 6, 7 of `keep`",
+        "the lines of all events but the last, and a front of the last one's; where the configuration isn't accepted nothing",
+        "kept config_writes_nothing stopped_unused",
     ),
 ]
 

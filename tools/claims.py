@@ -429,20 +429,21 @@ def fields_of(crate, name):
 
 
 def promises():
-    """The fields of the records that a run of the program ensures, and a run of `record`."""
-    specs = (("Program.antt", "pub record Promises"), ("Live.antt", "pub record RecordPromises"))
+    """The fields of the records that a run of the program ensures, and a run of `record` or `keep`."""
+    live = ("StayPromises", "RecordPromises", "KeepPromises")
+    specs = (("Program.antt", "pub record Promises"), *(("Live.antt", f"pub record {name}") for name in live))
     found = (read("crates", "fs_cli", "specs", name).split(record, 1)[1] for name, record in specs)
     return {field for spec in found for field in re.findall(r"^  pub ([a-z_]+) :", spec, re.M)}
 
 
 def of_promises(rows):
-    """Rows of a table: a status, what is said of it, and the fields of `Promises` and of `RecordPromises` that say so. Each
-    has to be there."""
+    """Rows of a table: a status, what is said of it, and the fields of `Promises`, or of what a command that stays promises,
+    that say so. Each has to be there."""
     fields = promises()
     for status, said, names in rows:
         missing = set(names.split()) - fields
         if missing:
-            sys.exit(f"status {status}: no field {missing} of Promises or RecordPromises")
+            sys.exit(f"status {status}: no field {missing} of Promises or of what a command that stays promises")
         yield f"| {status} | {said} | {', '.join(f'`{name}`' for name in names.split())} |"
 
 
@@ -462,7 +463,7 @@ def of_clauses(rows, ensured):
 def answers(ensured):
     """The tables of answers, and of what stands after a refusal."""
     return [
-        "## Answers and their causes\n", "Of a run; the clauses are fields of `Promises`, and of `record` of `RecordPromises`, which `PROMISES.md` tells:\n",
+        "## Answers and their causes\n", "Of a run; the clauses are fields of `Promises`, and of `record` and `keep` of `StayPromises`, `RecordPromises` and `KeepPromises`, which `PROMISES.md` tells:\n",
         "| status | comes | clauses |\n|---|---|---|", *of_promises(STATUSES), "",
         "Of the layers; `Memory` is free wherever it can be answered:\n",
         "| answer | comes | clauses |\n|---|---|---|", *of_clauses(ANSWERS, ensured), "",
