@@ -33,7 +33,7 @@ STATUSES = [
     ),
     (
         "5",
-        "exactly where the capture has a fault, and it is reached; only of `enforce`, whatever the files tell",
+        "exactly where the capture has a fault, and it is reached; only of `enforce` and `check`, whatever the files tell",
         "runs causes possible",
     ),
     (
@@ -63,7 +63,7 @@ STATUSES = [
     ),
     (
         "10",
-        "exactly where the dump has a fault; only of `convert`, whatever the files tell",
+        "exactly where the dump has a fault; only of `convert` and `check`, whatever the files tell",
         "runs causes possible",
     ),
     (

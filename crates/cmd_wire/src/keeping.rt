@@ -270,10 +270,13 @@ impl<'a> Station<'a> {
         ensures later { S.faults sink.old ≤ S.faults sink.new }
         ensures failed { IsErrOf result Stop.Failed → Rose (S.faults sink.old) (S.faults sink.new) }
         ensures unlimited { IsErrOf result Stop.Limit → ⊥ }
-        ensures up { IfOk result (λ answer. IsUpSo (hears self.old.order.config event.now.time (what_from event.now.came into.now)) answer self.old) }
-        ensures took { OnOk result (TookSo (keeps (hears self.old.order.config event.now.time (what_from event.now.came into.now))) self.old self.new
+        ensures up { IfOk result (λ answer.
+            IsUpSo (hears self.old.order.config event.now.time (what_from event.now.came into.now)) answer self.old) }
+        ensures took { OnOk result (TookSo
+            (keeps (hears self.old.order.config event.now.time (what_from event.now.came into.now))) self.old self.new
             (G.turns gate.old) (G.turns gate.new) (S.written sink.old) (S.written sink.new)) }
-        ensures breaks { OnErr result (BreaksSo (keeps (hears self.old.order.config event.now.time (what_from event.now.came into.now))) self.old
+        ensures breaks { OnErr result (BreaksSo
+            (keeps (hears self.old.order.config event.now.time (what_from event.now.came into.now))) self.old
             (G.turns gate.old) (G.turns gate.new) (S.written sink.old) (S.written sink.new)) }
     {
         let news = self.keeper.hear(event, into, gate)?;
@@ -373,9 +376,11 @@ impl<'a> Station<'a> {
         ensures later { S.faults sink.old ≤ S.faults sink.new }
         ensures failed { IsErrOf result Stop.Failed → Rose (S.faults sink.old) (S.faults sink.new) }
         ensures unlimited { IsErrOf result Stop.Limit → ⊥ }
-        ensures shelves { OnOk result (Shelves reading.now.moment reading.now.time (content_from reading.now.found octets.items) self.old self.new
+        ensures shelves { OnOk result (Shelves reading.now.moment reading.now.time
+            (content_from reading.now.found octets.items) self.old self.new
             (G.turns gate.old) (G.turns gate.new) (S.written sink.old) (S.written sink.new)) }
-        ensures breaks { OnErr result (BreaksShelving reading.now.moment reading.now.time (content_from reading.now.found octets.items) self.old
+        ensures breaks { OnErr result (BreaksShelving reading.now.moment reading.now.time
+            (content_from reading.now.found octets.items) self.old
             (G.turns gate.old) (G.turns gate.new) (S.written sink.old) (S.written sink.new)) }
     {
         self.moment = self.moment.max(reading.moment);
