@@ -6,10 +6,6 @@ use Rattle.cmd_stages.{specs.{Load.{Names, config_stage}, Refusal.{Answers, Foun
 
 -- before the dump is read
 
-pub config_ends : (limit : ℕ) (holds : Names) (config dump : List ℕ) (failed failed' : Type 0) (a : Option (List ℕ)) (refusal : Refusal)
-    → HasReason (config_stage limit holds config) failed refusal → (failed → failed') → ConvertsSo limit holds config dump failed' a a (status_of refusal)
-config_ends limit holds config dump failed failed' a refusal h f = inl (ends_early (config_stage limit holds config) failed failed' a refusal h f)
-
 answers_stopped : (config : Config) (limit : ℕ) (stage : Stage (List ℕ)) (failed : Type 0) (a : Option (List ℕ)) (refusal : Refusal)
     → HasReason stage failed refusal → Answers (verdict_of config limit stage) failed a a (status_of refusal)
 answers_stopped config limit stage failed a refusal (inl h) =

@@ -243,19 +243,6 @@ verdict_bad found counts reason place ends is =
 
 -- of the configuration that is accepted, and of the dump that is opened
 
-pub found_verdict : (limit : ℕ) (holds : Names) (name dump : List ℕ) (config : Config) (content : List ℕ) → config_stage limit holds name ≡ Found config → holds dump ≡ Some content
-    → notes_verdict (notes_of config limit content) ≡ dump_verdict limit holds name dump
-found_verdict limit holds name dump config content c d =
-    ap (λ (o : Option (List ℕ)). content_verdict config limit (or_stop Outside o)) (sym d) ∙ ap (accepted_verdict limit holds dump) (sym c)
-
-pub refused_verdict : (limit : ℕ) (holds : Names) (name dump : List ℕ) (refusal : Refusal) → config_stage limit holds name ≡ Stopped refusal
-    → verdict_with (status_of refusal) [] ≡ dump_verdict limit holds name dump
-refused_verdict limit holds name dump refusal c = ap (accepted_verdict limit holds dump) (sym c)
-
-pub absent_verdict : (limit : ℕ) (holds : Names) (name dump : List ℕ) (config : Config) (refusal : Refusal) → config_stage limit holds name ≡ Found config
-    → or_stop Outside (holds dump) ≡ Stopped refusal → verdict_with (status_of refusal) [] ≡ dump_verdict limit holds name dump
-absent_verdict limit holds name dump config refusal c d = ap (content_verdict config limit) (sym d) ∙ ap (accepted_verdict limit holds dump) (sym c)
-
 -- the dump of which nothing was read yet
 pub from_start : (config : Config) (dump : NotedState) (limit limit' slot : ℕ) (back : List ℕ) (left : ℕ → List ℕ) → dump ≡ noted_none slot limit' back → limit' ≡ limit → back ≡ [] → slot ≡ 1
     → notes_coming config dump (left dump.slot) ≡ notes_of config limit (left 1)

@@ -277,21 +277,9 @@ verdict_done all survey text h is =
     (is ∙ ap (λ (l : Option Link). tally_text l survey.tally) h.1 ∙ ap (tally_text all.link) (h.2 ∙ noted_all all.packets))
     ∙ sym (ended_same all done h.0)
 
-pub verdict_limited : (all : Surveyed) → all.end ≡ limited → verdict_with 7 [] ≡ survey_verdict all
-verdict_limited all h = sym (ended_same all limited h)
-
-pub verdict_bad : (all : Surveyed) (reason : CaptureReason) (place : ℕ) → all.end ≡ bad reason place
-    → verdict_with 5 (capture_fault_line reason place) ≡ survey_verdict all
-verdict_bad all reason place h = sym (ended_same all (bad reason place) h)
-
 -- the capture of this content is the one that is opened
 pub opened_verdict : (limit : ℕ) (holds : Names) (name left : List ℕ) → holds name ≡ Some left → survey_verdict (survey_in limit left) ≡ capture_verdict limit holds name
 opened_verdict limit holds name left h = ap (λ (o : Option (List ℕ)). content_verdict limit (or_stop Outside o)) (sym h)
-
--- a capture that isn't there
-pub absent_verdict : (limit : ℕ) (holds : Names) (name : List ℕ) (refusal : Refusal) → or_stop Outside (holds name) ≡ Stopped refusal
-    → verdict_with (status_of refusal) [] ≡ capture_verdict limit holds name
-absent_verdict limit holds name refusal h = ap (content_verdict limit) (sym h)
 
 -- what is counted behind the front of a capture
 pub surveys_from : (all : Surveyed) (capture : StampState) (left : List ℕ) (link : Option Link) (tally tally' : Tallied) (failed : Type 0)
@@ -303,10 +291,6 @@ surveys_from all capture left link tally tally' failed is none own ends counted 
   own ∙ ap (λ (s : Surveyed). s.link) (sym is),
   counted ∙ ap (λ (t : Tallied). all_noted t (stamps_coming capture left).0) none ∙ ap (λ (s : Surveyed). all_noted nothing_noted s.packets) (sym is),
 )
-
--- a fault behind the front is the capture's
-pub faults_from : (all : Surveyed) (coming : Surveyed) (end : End CaptureReason) → all ≡ coming → coming.end ≡ end → all.end ≡ end
-faults_from all coming end is h = ap (λ (s : Surveyed). s.end) is ∙ h
 
 -- the capture whose front was read
 pub begun : (limit limit' slot : ℕ) (back : List ℕ) (left left' : ℕ → List ℕ) (capture : StampState) → limit' ≡ limit → back ≡ [] → slot ≡ 2 → capture.slot ≡ slot

@@ -65,9 +65,6 @@ took_then first later old mid new t t1 t2 w w1 w2 a b = record {
   order_is = b.order_is ∙ a.order_is;
 }
 
-pub took_rest : (between : Between) (old : Stationed) (t : Option (List Turn)) (w : Option (List ℕ)) → StandsAt between old → Took (rests between) old old t t w w
-took_rest between old t w s = record { gate = Grew-refl t; lines = Grew-refl w; stands = s; order_is = refl }
-
 -- the session
 
 -- a station with another keeper
@@ -165,21 +162,6 @@ open_dialled inside old is agrees t t' keeping time took =
 
 -- a line says why a file isn't accepted
 
-pub kept_took : (order : Order) (time : ℕ) (reason : List ℕ) (inside old : Stationed) (is : inside ≡ old) (t : Option (List Turn)) (w w' : Option (List ℕ)) → Grew w w' (kept_text inside.moment reason)
-    → TookSo (judges order time (Some (refused reason))) old old t t w w'
-kept_took order time reason inside old is t w w' told between s = record {
-  gate = Grew-refl t;
-  lines = subst (λ (n : ℕ). Grew w w' (kept_text n reason)) (ap (λ (r : Stationed). r.moment) is ∙ s.moment_is) told;
-  stands = s;
-  order_is = refl;
-}
-
-pub kept_broke : (order : Order) (time : ℕ) (reason : List ℕ) (inside old : Stationed) (is : inside ≡ old) (t : Option (List Turn)) (w w' : Option (List ℕ)) → GrewPart w w' (kept_text inside.moment reason)
-    → BreaksSo (judges order time (Some (refused reason))) old t t w w'
-kept_broke order time reason inside old is t w w' told between s =
-    broke_late (judges order time (Some (refused reason)) between) t t w w' (Grew-refl t)
-    (subst (λ (n : ℕ). GrewPart w w' (kept_text n reason)) (ap (λ (r : Stationed). r.moment) is ∙ s.moment_is) told)
-
 -- A reading is put on the shelf.
 
 abbrev pub put_by : (moment time : ℕ) → Content → Stationed → Stationed
@@ -204,21 +186,6 @@ module _ (moment time : ℕ) (content : Content) (old : Stationed) where
   same_settles : (between : Between) → StandsAt between old → (changed : Bool) → settles old.shelf content time ≡ changed → settles between.shelf content time ≡ changed
   same_settles between s changed is = ap (λ (shelf : Shelf). settles shelf content time) (sym s.shelf_is) ∙ is
 
-  -- it changes nothing
-  pub shelved_still : (t : Option (List Turn)) (w : Option (List ℕ)) → settles old.shelf content time ≡ false
-      → Shelves moment time content old (put_by moment time content old) t t w w
-  shelved_still t w still = record {
-    judged = None;
-    done = ap (λ (b : Bool). not b || false) still;
-    right = tt;
-    took = λ between s.
-        let reread : Reread = reread_of moment time content None in
-        let step : shelves old.order reread between ≡ rests (put reread between) =
-        if_false (changes between.shelf reread) (judges old.order time None (put reread between)) (rests (put reread between)) (same_settles between s false still) in
-        subst (λ (step : Step). Took step old (put_by moment time content old) t t w w) (sym step)
-        (record { gate = Grew-refl t; lines = Grew-refl w; stands = puts None between s; order_is = refl });
-  }
-
   settled_one : settles old.shelf content time ≡ true → held_in (shelved content time old.shelf) ≡ content
   settled_one changed =
       ap held_in (if_true (settles old.shelf content time) (settled_by content time old.shelf)
@@ -229,14 +196,6 @@ module _ (moment time : ℕ) (content : Content) (old : Stationed) where
   judges_it judged between s changed =
       let reread : Reread = reread_of moment time content judged in
       if_true (changes between.shelf reread) (judges old.order time judged (put reread between)) (rests (put reread between)) (same_settles between s true changed)
-
-  -- it couldn't be judged
-  pub shelved_unjudged : (t : Option (List Turn)) (w : Option (List ℕ)) → BreaksShelving moment time content old t t w w
-  shelved_unjudged t w = record {
-    judged = None;
-    right = tt;
-    breaks = λ between s. broke_at_once (shelves old.order (reread_of moment time content None) between) t t w w (Grew-refl t) (Grew-refl w);
-  }
 
   module _ (judged : Judged) (t t' : Option (List Turn)) (w w' : Option (List ℕ)) (changed : settles old.shelf content time ≡ true)
       (right : IsJudged old.order.config (held_in (shelved content time old.shelf)) judged) where
@@ -278,11 +237,6 @@ module _ (moment time : ℕ) (content content' : Content) (same : content' ≡ c
 
   settles_is : (b : Bool) → answer ≡ b → settles inside.shelf content time ≡ b
   settles_is b is_b = ap (λ (c : Content). settles inside.shelf c time) (sym same) ∙ (sym answered ∙ is_b)
-
-  pub shelve_still : (t : Option (List Turn)) (w : Option (List ℕ)) → answer ≡ false → Shelves moment time content old (with_shelf inside shelf' moment') t t w w
-  shelve_still t w still =
-      subst (λ (r : Stationed). Shelves moment time content r (with_shelf inside shelf' moment') t t w w) is
-      (subst (λ (new : Stationed). Shelves moment time content inside new t t w w) (sym mid_is) (shelved_still moment time content inside t w (settles_is false still)))
 
   module _ (judged : Judged) (config : Config) (config_is : config ≡ inside.order.config) (yes : answer ≡ true) (right : IsJudged config (held_in shelf') judged)
       (t t' : Option (List Turn)) (w w' : Option (List ℕ)) where

@@ -212,11 +212,5 @@ module _ {X K : Type 0} (place : K → K → Ordering) (key : X → K) (order : 
       ap₂ (λ a b. a ++ b) (lower_reached l t old new h p same) (ap (λ b. filter (alike place key t) new ++ b) (higher_reached l t old new h))
       ∙ sym (append_assoc (filter (lower place key t) new) (filter (alike place key t) new) (filter (higher place key t) old)) ∙ ap (λ a. a ++ filter (higher place key t) old) (sym (up_parted t new (p t)))
 
-  pub reached_first : (old new : List X) → ((s : K) → Parted place key s old) → ((s : K) → Parted place key s new) → reached place key None old new ≡ old
-  reached_first old new q p = ap (λ a. a ++ filter (is_past place key None) old) (none new) ∙ ap (λ a. a ++ filter (is_past place key None) old) (sym (none old)) ∙ up_and_past None old q where
-    none : (ys : List X) → filter (is_up place key None) ys ≡ []
-    none [] = refl
-    none (y ∷ ys) = none ys
-
   pub reached_last : (l : Option K) (old new : List X) → ((s : K) → Parted place key s new) → filter (is_past place key l) old ≡ filter (is_past place key l) new → reached place key l old new ≡ new
   reached_last l old new p same = ap (λ a. filter (is_up place key l) new ++ a) same ∙ up_and_past l new p

@@ -67,30 +67,12 @@ fresh_counts listed e = record { items_are = refl; span_is = refl; tallies_are =
 
 -- one item more keeps each tally within
 
-pub within_more : (items : ℕ) (old new : List Tally) (peer : ℕ) (tally : Tally) → ((number : ℕ) → IsWithin items (tally_at old number))
-    → ((number : ℕ) → tally_at new number ≡ (if number == peer then tally else tally_at old number)) → tally.items ≡ (tally_at old peer).items + 1 → tally.octets ≤ 65536 * tally.items
-    → (number : ℕ) → IsWithin (items + 1) (tally_at new number)
-within_more items old new peer tally within set more octets number =
-    subst (IsWithin (items + 1)) (sym (set number)) (by (number == peer))
-  where
-    by : (b : Bool) → IsWithin (items + 1) (if b then tally else tally_at old number)
-    by true = let w = (within peer).items_within in record { items_within = omega (arith, w, more); octets_within = octets }
-    by false = let w = within number in let few = w.items_within in record { items_within = omega (arith, few); octets_within = w.octets_within }
-
 -- of all items some were counted, and the rest is to come
 pub record Counting (all rest : List Timed × End TapeReason) (old now : CountsState) : Type 0 where
   pub gone : List Timed
   pub parts : all.0 ≡ gone ++ rest.0
   pub end_is : all.1 ≡ rest.1
   pub counted : (before : List Timed) → CountsOf old before → CountsOf now (before ++ gone)
-
-pub counting_none : (all : List Timed × End TapeReason) (old : CountsState) → Counting all all old old
-counting_none all old = record {
-  gone = [];
-  parts = refl;
-  end_is = refl;
-  counted = λ before of. subst (CountsOf old) (sym (append-nil before)) of;
-}
 
 pub counting_more : (all rest rest' : List Timed × End TapeReason) (old now now' : CountsState) (next : Timed) → Counting all rest old now → rest ≡ with_part next rest'
     → ((gone : List Timed) → CountsOf now gone → CountsOf now' (gone ++ next ∷ [])) → Counting all rest' old now'
@@ -106,23 +88,6 @@ counting_done all rest old now p e = record {
   done_is = p.end_is ∙ ap (λ (r : List Timed × End TapeReason). r.1) e;
   counts = λ before of. subst (λ (z : List Timed). CountsOf now (before ++ z)) (sym (p.parts ∙ ap (λ (r : List Timed × End TapeReason). p.gone ++ r.0) e ∙ append-nil p.gone)) (p.counted before of);
 }
-
-stopped_end : (xs ys : List Timed) (end other : End TapeReason) (refusal : Refusal) → end ≡ other → played_to (ys, other) ≡ Stopped refusal → played_to (xs, end) ≡ Stopped refusal
-stopped_end xs ys end done refusal same h = absurd cc
-stopped_end xs ys end limited refusal same h = rw same h
-stopped_end xs ys end (bad reason place) refusal same h = rw same h
-
--- where the rest ends the run, so do all
-pub reason_all : (all rest : List Timed × End TapeReason) (old now : CountsState) (failed other : Type 0) (refusal : Refusal) → Counting all rest old now
-    → HasReason (played_to rest) failed refusal → (failed → other) → HasReason (played_to all) other refusal
-reason_all all rest old now failed other refusal p (inl h) f = inl (stopped_end all.0 rest.0 all.1 rest.1 refusal p.end_is h)
-reason_all all rest old now failed other refusal p (inr (inl h)) f = inr (inl h)
-reason_all all rest old now failed other refusal p (inr (inr h)) f = inr (inr (h.0, f h.1))
-
-pub small_item : (config : Config) (item : TapeItem) → IsItem config item → IsSmall item
-small_item config (Up peer) h = tt
-small_item config (Octets peer count) h = h.1
-small_item config (Lost peer) h = tt
 
 pub tape_counted : (config : Config) (limit : ℕ) (holds : Names) (name left : List ℕ) (tape : TapeState) (version : ℕ) (nothing counts : CountsState)
     → IsOpened limit holds name left tape → version ≡ version_number tape.version → CountsOn (coming config tape left) nothing counts → CountsOf nothing []
@@ -176,27 +141,3 @@ tape_told limit holds holds' config tape accepted version counts verdict e names
   where
     by : TapeCounted accepted limit holds tape version counts → IsDue limit holds (OfTape config tape) verdict
     by c = due_by limit holds config tape accepted (Found c.items) verdict e c.found (c.own, c.has_version, is ∙ ap (λ (text : List ℕ). verdict_with 0 text) (text_is accepted limit holds tape version counts c))
-
-pub tape_faulty : (limit : ℕ) (holds holds' : Names) (config tape : List ℕ) (accepted : Config) (failed : Type 0) (reason : TapeReason) (place : ℕ) (verdict : Verdict)
-    → config_stage limit holds config ≡ Found accepted → holds' ≡ holds → HasReason (tape_stage accepted limit holds' tape) failed (Tape reason place)
-    → verdict ≡ verdict_with 4 (tape_fault_line reason place) → IsDue limit holds (OfTape config tape) verdict
-tape_faulty limit holds holds' config tape accepted failed reason place verdict e names h is =
-    by (subst (λ (n : Names). HasReason (tape_stage accepted limit n tape) failed (Tape reason place)) names h)
-  where
-    by : HasReason (tape_stage accepted limit holds tape) failed (Tape reason place) → IsDue limit holds (OfTape config tape) verdict
-    by (inl stopped) = due_by limit holds config tape accepted (Stopped (Tape reason place)) verdict e stopped is
-    by (inr (inl other)) = absurd cc
-    by (inr (inr other)) = let wrong : Tape reason place ≡ Outside = other.0 in absurd cc
-
-pub tape_untold : (limit : ℕ) (holds holds' : Names) (config tape : List ℕ) (accepted : Config) (failed other : Type 0) (refusal : Refusal)
-    → config_stage limit holds config ≡ Found accepted → holds' ≡ holds → HasReason (tape_stage accepted limit holds' tape) failed refusal → status_of refusal ≢ 4 → (failed → other)
-    → Unsaid (IsDue limit holds (OfTape config tape)) other refusal
-tape_untold limit holds holds' config tape accepted failed other refusal e names h apart f =
-    by (subst (λ (n : Names). HasReason (tape_stage accepted limit n tape) failed refusal) names h)
-  where
-    by : HasReason (tape_stage accepted limit holds tape) failed refusal → Unsaid (IsDue limit holds (OfTape config tape)) other refusal
-    by (inl stopped) =
-        inl (due_by limit holds config tape accepted (Stopped refusal) (verdict_with (status_of refusal) []) e stopped
-        (ap (λ (text : List ℕ). verdict_with (status_of refusal) text) (sym (nothing_said refusal apart))))
-    by (inr (inl g)) = inr (inl g)
-    by (inr (inr g)) = inr (inr (g.0, f g.1))

@@ -5,12 +5,6 @@ use Rattle.std.specs.{Map.{keys_of}, Prelude.{find}}
 use Rattle.fs_conf.specs.{Fields.{is_named}, declared.{fault.KeyReason.TheVariants.{Value as NoValue}, faults.Kind.{Kind}}}
 use Rattle.fs_conf.specs.Fault.{KeyFault, advance, each_peer, first_again, first_other, item_count, items_fault, judged, keys_of_peer, number_of_peer, numbers_of_peers, own_fault, position_from, reason_at, repeated, unfit}
 
--- one octet more
-pub position_next : (at : ℕ × ℕ) (before : List ℕ) (i octet : ℕ) → i < length before → octet ≡ get_or before i octet
-    → position_from at (drop i before) ≡ position_from (advance at octet) (drop (i + 1) before)
-position_next at before i octet inside is =
-    ap (position_from at) (drop_more before i octet inside ∙ ap (λ o. o ∷ drop (i + 1) before) (sym is))
-
 -- a peer without a fault, and one with a fault
 
 peers_left : (items : List Value) (i : ℕ) (value : Value) → i < length items → value ≡ get_or items i value

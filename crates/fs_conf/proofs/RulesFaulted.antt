@@ -309,12 +309,6 @@ names_the_rules_fault = record {
   other_first = λ config members key is. rw is refl;
 }
 
--- nothing named, nothing refused
-pub never_unnamed : (config : Config) (members : Members) → NamesTheRulesFault → sending_of_document config members ≡ None → rules_fault config members ≡ None → ⊥
-never_unnamed config members law refused none =
-    let both : true ≡ false = sym ((law.exact config members).0 none) ∙ ap (λ (o : Option Sending). is_some o) refused in
-    absurd cc
-
 pub of_document : (config : Config) (octets : List ℕ) (tree : Members) (told : RulesFault) → document_of octets ≡ Some tree → IsOfDocument config tree told → IsFirstRulesFault config octets told
 of_document config octets tree (NoDocument line column) e of = absurd of.2
 of_document config octets tree (Key place reason) e of = (tree, e, of)

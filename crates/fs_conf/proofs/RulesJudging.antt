@@ -25,15 +25,6 @@ fault_found judge items i place value fault inside is same some =
     let here : judge (suc i) (view value) ≡ Some fault = ap (λ k. judge k (view value)) (sym same) ∙ sym some in
     faults_left judge items i value inside is ∙ ap (λ (found : Option KeyFault). option_or found (each_fault judge (suc (suc i)) (items_view (drop (i + 1) items)))) here
 
-pub faults_end : (judge : ℕ → Data → Option KeyFault) (items : List Value) (i : ℕ) → length items ≤ i → each_fault judge (suc i) (items_view (drop i items)) ≡ None
-faults_end judge items i past = ap (λ (rest : List Value). each_fault judge (suc i) (items_view rest)) (empty i items past)
-  where
-    empty : (i : ℕ) (values : List Value) → length values ≤ i → drop i values ≡ []
-    empty zero [] h = refl
-    empty (suc i) [] h = refl
-    empty zero (v ∷ values) h = absurd (omega (arith, h))
-    empty (suc i) (v ∷ values) h = empty i values (omega (arith, h))
-
 -- an item by its place
 
 pub item_is : (items : List Value) (i : ℕ) (value : Value) → i < length items → value ≡ get_or items i value → item_at i (items_view items) ≡ Some (view value)
@@ -90,31 +81,6 @@ same_found has rules i place sent new inside is same fresh is_old =
 
 -- rules of which one isn't taken
 
-pub but_next : (test : Sent → Bool) (rules : List Sent) (i place : ℕ) (sent : Sent) (taken : Bool) → i < length rules → sent ≡ get_or rules i sent → place ≡ suc i
-    → taken ≡ test sent → true ≡ taken → first_but test (suc i) (drop i rules) ≡ first_but test (suc place) (drop (i + 1) rules)
-but_next test rules i place sent taken inside is same e one =
-    let behind : List Sent = drop (i + 1) rules in
-    ap (first_but test (suc i)) (drop_more rules i sent inside ∙ ap (λ (s : Sent). s ∷ behind) (sym is))
-    ∙ ap (λ b. if b then first_but test (suc (suc i)) behind else Some (suc i)) (sym e ∙ sym one)
-    ∙ ap (λ k. first_but test (suc k) behind) (sym same)
-
-pub but_found : (test : Sent → Bool) (rules : List Sent) (i place : ℕ) (sent : Sent) (taken : Bool) → i < length rules → sent ≡ get_or rules i sent → place ≡ suc i
-    → taken ≡ test sent → false ≡ taken → first_but test (suc i) (drop i rules) ≡ Some place
-but_found test rules i place sent taken inside is same e none =
-    let behind : List Sent = drop (i + 1) rules in
-    ap (first_but test (suc i)) (drop_more rules i sent inside ∙ ap (λ (s : Sent). s ∷ behind) (sym is))
-    ∙ ap (λ b. if b then first_but test (suc (suc i)) behind else Some (suc i)) (sym e ∙ sym none)
-    ∙ ap Some (sym same)
-
-pub nothing_left : {A B : Type 0} (f : List A → Option B) (xs : List A) (i : ℕ) → f [] ≡ None → length xs ≤ i → f (drop i xs) ≡ None
-nothing_left {A} f xs i none past = ap f (empty i xs past) ∙ none
-  where
-    empty : (i : ℕ) (ys : List A) → length ys ≤ i → drop i ys ≡ []
-    empty zero [] h = refl
-    empty (suc i) [] h = refl
-    empty zero (y ∷ ys) h = absurd (omega (arith, h))
-    empty (suc i) (y ∷ ys) h = empty i ys (omega (arith, h))
-
 -- tests one after the other
 
 pub two_in_turn : {A : Type 0} (a b : Option A) → option_or a b ≡ option_or a (option_or b None)
@@ -129,10 +95,6 @@ four_in_turn None None (Some x) d = refl
 four_in_turn None None None (Some x) = refl
 four_in_turn None None None None = refl
 
-pub in_three : {A : Type 0} (a b c : Option A) → option_or (option_or a b) c ≡ option_or a (option_or b c)
-in_three (Some x) b c = refl
-in_three None b c = refl
-
 -- the count of the numbers of a path
 
 pub numbers_within : (items : List Value) → true ≡ nat_le (length items) 255 → numbers_fault (Some (items_view items)) ≡ each_fault number_fault 1 (items_view items)
@@ -146,13 +108,3 @@ numbers_without items e = rw (count_is items, ← e) refl
 or_none : {A : Type 0} (found : Option A) → option_or found None ≡ found
 or_none None = refl
 or_none (Some x) = refl
-
-pub list_none : (config : Config) (path : Option (List ℕ)) (found : Option Data) → listed found ≡ None
-    → option_map own_fault (option_map (unfit (codes "rule")) (reason_at Array false found))
-    ≡ option_or (option_map own_fault (option_map (unfit (codes "rule")) (reason_at Array (is_some (listed found)) found))) (listed_fault config path (listed found))
-list_none config path found none = rw none (sym (or_none (option_map own_fault (option_map (unfit (codes "rule")) (reason_at Array false found)))))
-
-pub list_some : (config : Config) (path : Option (List ℕ)) (found : Option Data) (items : Items) → listed found ≡ Some items
-    → listed_fault config path (Some items)
-    ≡ option_or (option_map own_fault (option_map (unfit (codes "rule")) (reason_at Array (is_some (listed found)) found))) (listed_fault config path (listed found))
-list_some config path found items some = rw some refl

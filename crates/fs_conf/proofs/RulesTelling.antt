@@ -19,14 +19,6 @@ kept_text members fault = by (judged_rule (codes "text") members fault)
 pub no_text : (members : Members) (fault : KeyFault) → None ≡ text_there members fault → bad_text members fault ≡ None
 no_text members fault none = kept_text members fault ∙ ap (option_and_then (kept_if untold)) (sym none)
 
-pub text_said : (members : Members) (fault : KeyFault) (text : List ℕ) → Some text ≡ text_there members fault → is_some (sent_of_text text) ≡ true → bad_text members fault ≡ None
-text_said members fault text some said =
-    kept_text members fault ∙ ap (option_and_then (kept_if untold)) (sym some) ∙ ap (λ b. if not b then Some text else None) said
-
-pub text_unsaid : (members : Members) (fault : KeyFault) (text : List ℕ) → Some text ≡ text_there members fault → sent_of_text text ≡ None → bad_text members fault ≡ Some text
-text_unsaid members fault text some none =
-    kept_text members fault ∙ ap (option_and_then (kept_if untold)) (sym some) ∙ ap (λ (said : Option _). if not (is_some said) then Some text else None) none
-
 pub text_is_said : SaysItsOwn → (text : List ℕ) (rule : Ruled) (actions : List (List ℕ)) → IsRule rule × AreActions actions × (text ≡ text_of rule actions)
     → is_some (sent_of_text text) ≡ true
 text_is_said law text rule actions h =

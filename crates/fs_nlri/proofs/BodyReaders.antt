@@ -114,10 +114,3 @@ list_bad kind widths bits octets (Width place) bad = (
   bad.operator,
 )
 list_bad kind widths bits octets Memory bad = tt
-
-pub list_found : (kind : Kind) (widths : List ℕ) (bits : ℕ) (octets : List ℕ) (pairs kept : List (ℕ × ℕ)) → SpellsPairs kind widths octets pairs → kept ≡ kept_bits (Some bits) pairs → SpellsList kind widths (Some bits) octets (ListBody kept)
-list_found kind widths bits octets pairs kept spells is = record { pairs = pairs; spells = spells; says = ap (λ (l : List (ℕ × ℕ)). ListBody l) is }
-
--- values of one octet, the first of the widths of these lists, are allowed
-pub one_octet : (widths : List ℕ) → CanBeWide (0 ∷ widths)
-one_octet widths = (0, 0, omega arith, refl, omega arith)

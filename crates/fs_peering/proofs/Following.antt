@@ -33,9 +33,6 @@ fits_on config rules link linked linked' is fits keeps = record {
   own = owns_on config linked linked' (subst (λ (l : Option Linked). IfSome l (IsOwn config)) is fits.own) keeps.0 keeps.1;
 }
 
-pub fits_none : (config : Config) (rules : Option Sending) (link : Option Linked) → Fits config rules link → Fits config rules None
-fits_none config rules link fits = record { sendable = fits.sendable; own = tt }
-
 -- the clock, where a connection isn't made, or is
 module _ (time : ℕ) (old : Keeping) (linked : Linked) (link_is : old.link ≡ Some linked) where
   pub check_waits : (turns : Option (List Turn)) → linked.made ≡ false → TookSo (checks time) None old old turns turns

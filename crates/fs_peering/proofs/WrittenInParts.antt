@@ -20,9 +20,6 @@ pub told_same : (p : WireEnds → WireEnds → Type 0) → ((a : WireEnds) → p
 told_same p same None = tt
 told_same p same (Some ends) = same ends
 
-pub wrote_none : (end : WireEnd) → wrote_end [] end ≡ end
-wrote_none end = ap (λ (octets : List ℕ). record end { written = octets }) (append-nil end.written)
-
 pub wrote_then : (end : WireEnd) (xs ys : List ℕ) → wrote_end ys (wrote_end xs end) ≡ wrote_end (xs ++ ys) end
 wrote_then end xs ys = ap (λ (octets : List ℕ). record end { written = octets }) (append_assoc end.written xs ys)
 

@@ -193,15 +193,6 @@ pub says_items : (line : ℕ) (octets : List ℕ) → items_of (says line octets
 says_items line [] = refl
 says_items line (octet ∷ octets) = refl
 
-pub says_none : (line : ℕ) (octets : List ℕ) (turns : Option (List Turn)) → length octets ≡ 0 → Grew turns turns (asked_in (says line octets))
-says_none line [] turns none = Grew-refl turns
-says_none line (octet ∷ octets) turns none = absurd (omega arith)
-
-pub says_some : (line : ℕ) (octets : List ℕ) (turns turns' : Option (List Turn)) → (length octets ≡ 0 → ⊥)
-    → Grew turns turns' (said line octets ∷ []) → Grew turns turns' (asked_in (says line octets))
-says_some line [] turns turns' some grew = absurd (some refl)
-says_some line (octet ∷ octets) turns turns' some grew = grew
-
 -- what follows at a success, and at a failure
 
 pub ok_to : {T E : Type 0} {X Y : Type 0} (result : Result T E) → OnOk result X → (X → Y) → OnOk result Y

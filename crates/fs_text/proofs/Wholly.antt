@@ -65,24 +65,6 @@ then_acts words family parts place all some next =
 
 -- whole words, with their rule and without
 
-one_rule : (family : Family) (parts : List Part) (rule other : Ruled) → rule ≡ ruled family parts → other.family ≡ family → other.parts ≡ parts → rule ≡ other
-one_rule family parts rule other is same all =
-    is ∙ ap (λ (f : Family). ruled f parts) (sym same) ∙ ap (λ (p : List Part). ruled other.family p) (sym all)
-
-pub reads_rule : (words : List (List ℕ)) (family : Family) (parts : List Part) (actions : List (List ℕ)) (rule : Ruled) → IsWhole words family parts actions
-    → Makes family parts (Ok rule) → ReadsWords words (Ok (rule, actions))
-reads_rule words family parts actions rule whole made = record {
-  found = (
-    subst IsRule (sym made.0) (record { normal = whole.normal; fits = made.1 }),
-    whole.actions_are,
-    whole.words_are ∙ ap (λ (r : Ruled). words_of r actions) (sym made.0),
-  );
-  exact = λ other said is are told.
-      let one = whole.only other.family other.parts said is.normal are told in
-      (one_rule family parts rule other made.0 one.0 one.1, sym one.2);
-  fault = tt;
-}
-
 pub reads_fault : (words : List (List ℕ)) (fault : TextFault) → IsWordFault words fault → ReadsWords words (Err fault)
 reads_fault words (Bad place) bad = record {
   found = tt;
