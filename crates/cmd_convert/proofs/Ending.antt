@@ -1,5 +1,5 @@
 -- How the answer of `convert` follows from what its parts did.
-use Rattle.cmd_convert.proofs.Words.{◌≡◌, ◌⊎◌, inl, inr, ◌≤◌, ◌∙◌, ◌++◌, ℕ, List, [], Option, Some, None, Result, Ok, Err, refl, ap, sym, subst, Rose, Config, Goes, goes_flush, goes_flush_part, partly_flushed, DumpState, IsBegun, coming, heard_to_come, DumpReason, End, done, Refusal, Outside, answers_for, answers_memory, answers_outside, ends_early, outside_one, rose_earlier, rose_later, tape_text, Two, Life, lives_of, no_lives, items_from, Breaks, ConvertsSo, IsAtRecord, dump_stage, status_at, verdict_of}
+use Rattle.cmd_convert.proofs.Words.{◌≡◌, ◌⊎◌, inl, inr, ◌≤◌, ◌∙◌, ◌++◌, ℕ, List, [], Option, Some, None, Result, Ok, Err, refl, ap, sym, subst, Rose, Config, Goes, goes_flush, goes_flush_part, partly_flushed, DumpState, IsBegun, coming, heard_to_come, DumpReason, End, done, Refusal, Outside, answers_for, answers_memory, answers_outside, outside_one, rose_earlier, rose_later, tape_text, Two, Life, lives_of, no_lives, items_from, Breaks, ConvertsSo, IsAtRecord, dump_stage, status_at, verdict_of}
 use Rattle.std.specs.Result.{MatchResult}
 use Rattle.fs_base.{specs.Sink.{Grew, GrewPart}, proofs.Grew.{Grew-refl, part_whole, part_none}}
 use Rattle.cmd_stages.{specs.{Load.{Names, config_stage}, Refusal.{Answers, Found, HasReason, Stage, Verdict, answered, or_stop, status_of, verdict_with}, Writing.{Finishes}}, proofs.Texts.{said_by, said_front}}

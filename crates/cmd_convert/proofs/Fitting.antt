@@ -1,7 +1,7 @@
 -- What a dump makes fits a tape of the second version.
-use Rattle.cmd_convert.{proofs.Words.{◌≡◌, ℕ, Bool, true, false, List, [], ◌∷◌, ◌++◌, Option, Some, None, ◌<◌, ◌≤◌, ◌+◌, ◌==◌, ◌^◌, length, refl, ap, sym, subst, ◌∙◌, arith, le_trans, ◌↔◌, IsSome, find, flat_map, if◌then◌else◌, replicate, big_bytes, Config, dump_of, Said, Spoken, change, message, Fits, IsNumbered, IsWritable, after, item_text, item_text_at, record_text, tape_text, magic_of, Item, Timed, came_up, received, stands, timed, was_lost, Two, greeting, made_open, parameters, Life, Lives, has_width, no_lives, with_life, asn_of, ended, is_established, is_taken, items_from, made, made_by, opening, remade, timed_at}, specs.Laws.{GivesBack, ReadsBackConverted}}
+use Rattle.cmd_convert.{proofs.Words.{◌≡◌, ℕ, Bool, true, false, List, [], ◌∷◌, ◌++◌, Option, Some, None, ◌<◌, ◌≤◌, ◌+◌, ◌==◌, ◌^◌, length, refl, arith, le_trans, IsSome, find, flat_map, if◌then◌else◌, replicate, big_bytes, Config, dump_of, Said, Spoken, change, message, Fits, IsNumbered, IsWritable, after, item_text, item_text_at, record_text, tape_text, magic_of, Item, Timed, came_up, received, stands, was_lost, Two, greeting, made_open, parameters, Life, Lives, has_width, no_lives, with_life, asn_of, ended, is_established, is_taken, items_from, made, made_by, opening, remade, timed_at}, specs.Laws.{GivesBack, ReadsBackConverted}}
 use Rattle.std.{specs.List.{AllByRecursion}, proofs.lemmas.{Bool.Decides.{nat_tests}, List.Elements.{All-replicate}}}
-use Rattle.fs_base.{specs.{Config.{peer_of}, Language.{IsOctets}, declared.config.Peer.{Peer}}, proofs.{Digits.{big_octets}, Lists.{each_append, each_weaker}, Octets.{octets_append, octets_cons, octets_nil}}}
+use Rattle.fs_base.{specs.{Language.{IsOctets}, declared.config.Peer.{Peer}}, proofs.{Digits.{big_octets}, Lists.{each_append, each_weaker}, Octets.{octets_append, octets_cons, octets_nil}}}
 use Rattle.fs_conf.{specs.Laws.{HasPeerNumbers}, proofs.Accepted.{accepts_numbers}}
 use Rattle.fs_message.specs.Write.{as_field, message_text}
 use Rattle.fs_mrt.{specs.Laws.{AreHeard, IsHeard, IsSaid}, proofs.AllHeard.{heard_fits}}

@@ -1,12 +1,12 @@
 -- How what is counted record by record is what is said of them all, and what is said of a dump.
-use Rattle.std.specs.{Prelude.{MatchResult, filter, nat_lt, not, slice_index_or, slice_set, string_bytes}, List.{AllByRecursion, position_or_len}}
+use Rattle.std.specs.{Prelude.{MatchResult, filter, nat_lt, not, slice_index_or, slice_set}, List.{AllByRecursion, position_or_len}}
 use Rattle.std.proofs.lemmas.Bool.Decides.{nat_tests}
 use Rattle.fs_base.specs.declared.config.Address.{Address, TheVariants.{V4, V6}}
 use Rattle.fs_input.specs.{Records.{limited, bad}, declared.fault.Fault.{Fault, TheVariants.{Read, Limit, Bad}}}
 use Rattle.fs_mrt.specs.{Notes.{NotedState, noted_none, notes_coming, notes_of, notes_to_come, same_note}, Peers.{is_same}, declared.notes.Note.{Note, TheVariants.{Skipped, Spoke}}}
-use Rattle.cmd_convert.proofs.Words.{◌≡◌, ◌≤◌, ◌<◌, ◌++◌, ◌∙◌, ◌∷◌, ◌+◌, ◌==◌, ℕ, Bool, true, false, if◌then◌else◌, List, [], Option, Some, None, Result, Ok, Err, inl, inr, length, refl, ap, sym, subst, arith, rules, append-nil, append_assoc, End, done, DumpReason, Config, Refusal, Outside}
+use Rattle.cmd_convert.proofs.Words.{◌≡◌, ◌≤◌, ◌<◌, ◌++◌, ◌∙◌, ◌∷◌, ◌+◌, ◌==◌, ℕ, Bool, true, false, if◌then◌else◌, List, [], Option, Some, None, Result, Ok, Err, inl, inr, length, refl, ap, sym, subst, arith, append-nil, append_assoc, End, done, DumpReason, Config, Refusal, Outside}
 use Rattle.std.specs.Prelude.{◌&&◌, suc}
-use Rattle.cmd_stages.specs.{Load.{Names, config_stage}, Refusal.{Found, Stage, Stopped, Verdict, or_stop, status_of, verdict_with}}
+use Rattle.cmd_stages.specs.{Load.{Names, config_stage}, Refusal.{Found, Verdict, or_stop, verdict_with}}
 use Rattle.cmd_convert.specs.{Survey.{Counts, IsUnsaid, SaysEnd, accepted_verdict, all_noted, content_verdict, count_of, counts_of, counts_text, dump_fault_line, dump_verdict, ended_verdict, has_note, is_other, note_count, note_place, notes_verdict, one_more, said_shown, weight, with_note}, declared.{counts.NoteCount.{NoteCount}, survey.DumpSaid.{DumpSaid}}}
 
 -- records of one peer, or of one type

@@ -1,5 +1,5 @@
 -- What `check` says of a dump: who speaks in it, and of which types its records are that `convert` passes over; and its fault.
-use Rattle.std.specs.{Prelude.{ℕ, List, [], ◌∷◌, ◌++◌, Option, Some, None, Bool, true, false, not, Result, Ok, Err, ◌≡◌, ◌⊎◌, ◌+◌, MatchResult, codes, decimal, filter, flat_map, if◌then◌else◌, position, string_bytes}, Int.{to_be_bytes, w32, w128}, Net.{Addr.{segments_of}, Text.{ipv4_text, ipv6_text}}}
+use Rattle.std.specs.{Prelude.{ℕ, List, [], ◌∷◌, ◌++◌, Option, Some, None, Bool, not, Result, Ok, Err, ◌≡◌, ◌⊎◌, ◌+◌, MatchResult, codes, decimal, filter, flat_map, if◌then◌else◌, position, string_bytes}, Int.{to_be_bytes, w32, w128}, Net.{Addr.{segments_of}, Text.{ipv4_text, ipv6_text}}}
 use Rattle.fs_base.specs.declared.config.{Address.{Address, TheVariants.{V4, V6}}, Config.{Config}}
 use Rattle.fs_input.specs.{Records.{End, done, limited, bad}, declared.fault.Fault.{Fault, TheVariants.{Read, Limit, Bad}}}
 use Rattle.fs_mrt.specs.{Fault.{reason_name}, Notes.{notes_of, same_note}, declared.{fault.DumpReason.{DumpReason}, notes.Note.{Note, TheVariants.{Skipped, Spoke}}}}

@@ -1,6 +1,6 @@
 -- A capture that is judged packet by packet, each under the routes held at its moment.
-use Rattle.cmd_enforce.{proofs.Words.{◌≡◌, ◌≢◌, ◌⊎◌, inl, inr, ◌≤◌, ◌<◌, ◌+◌, ◌^◌, ◌==◌, ℕ, List, [], ◌∷◌, ◌++◌, Bool, true, false, Option, Some, None, length, refl, ap, sym, ◌∙◌, subst, append_assoc, append-nil, length-append, arith, IsErrAnd, Rose, with_part, Config, End, done, Goes, Stops, goes_none, goes_then, goes_stops, goes_as, stops_as, Captured, CaptureState, Recorded, coming, packet_from, CaptureReason, Held, Item, Timed, Refusal, Outside, Memory, until, IsUnplayed, PlayerState, Stands, due_item, answered, status_of, rose_earlier, AdmittedRules, Ceases, IsAtPacket, admitted_rules, always, lines_from, output_of, packet_text, rules_by, status_at, BreaksBehind, BreaksOff, CameTo, Follows, HoldAt, IsUnjudged, Judging, LeaveSameAt, Outcome, Progress, came_lines, outcome, progress}, specs.declared.caught.Caught.{Caught}}
-use Rattle.std.{specs.{Option.{is_some}, Prelude.{IfSome, Result, Ok, Err, if◌then◌else◌}}, proofs.lemmas.Bool.{eq-eqb, eqb-true}}
+use Rattle.cmd_enforce.{proofs.Words.{◌≡◌, ◌≢◌, ◌⊎◌, inl, inr, ◌≤◌, ◌<◌, ◌+◌, ◌^◌, ◌==◌, ℕ, List, [], ◌∷◌, ◌++◌, Bool, true, false, Option, Some, None, length, refl, ap, sym, ◌∙◌, subst, append_assoc, append-nil, length-append, arith, IsErrAnd, Rose, with_part, Config, End, done, Goes, Stops, goes_none, goes_then, goes_stops, goes_as, stops_as, Captured, CaptureState, Recorded, coming, CaptureReason, Held, Item, Timed, Refusal, Outside, Memory, until, IsUnplayed, PlayerState, Stands, due_item, answered, status_of, rose_earlier, AdmittedRules, Ceases, IsAtPacket, admitted_rules, always, lines_from, output_of, packet_text, rules_by, status_at, BreaksBehind, BreaksOff, CameTo, Follows, HoldAt, IsUnjudged, Judging, LeaveSameAt, Outcome, Progress, came_lines, outcome, progress}}
+use Rattle.std.{specs.{Option.{is_some}, Prelude.{Result, Ok, Err, if◌then◌else◌}}, proofs.lemmas.Bool.{eq-eqb, eqb-true}}
 use Rattle.fs_base.proofs.Lists.{each_append}
 use Rattle.fs_desk.specs.{Laws.{LeaveSame}, Leaves.{Leaves}}
 use Rattle.fs_tape.specs.declared.item.TapeItem.{TapeItem}

@@ -1,10 +1,10 @@
 -- How what is counted packet by packet is what is said of them all, and what is said of a capture.
-use Rattle.std.specs.{Prelude.{filter, max, nat_lt, not, slice_index_or, slice_set, string_bytes}, Option.{unwrap_or}, List.{AllByRecursion, position_or_len}}
+use Rattle.std.specs.{Prelude.{filter, max, nat_lt, slice_index_or, slice_set}, Option.{unwrap_or}, List.{AllByRecursion, position_or_len}}
 use Rattle.std.proofs.lemmas.Bool.Decides.{nat_tests}
 use Rattle.fs_base.specs.{declared.link.Link.{Link}, Filling.{Fills}}
 use Rattle.fs_input.{specs.{declared.fault.Fault.{Fault, TheVariants.{Read, Limit, Bad}}}, proofs.Records.{head_filled}}
-use Rattle.cmd_enforce.proofs.{Words.{◌≡◌, ◌≢◌, ◌≤◌, ◌<◌, ◌++◌, ◌∙◌, ◌∷◌, ◌+◌, ◌-◌, ◌==◌, ◌^◌, inl, inr, ℕ, Bool, true, false, if◌then◌else◌, List, [], Option, Some, None, Result, Ok, Err, length, take, drop, refl, ap, sym, subst, suc, arith, rules, append-nil, append_assoc, window, CaptureReason, End, done, limited, bad, is_section, Names, Outside, Refusal, Stopped, status_of}, Opened.{put_back_whole}}
-use Rattle.cmd_enforce.specs.{Survey.{Tallied, count_of, fall_behind, first_time, greatest_time, is_other, last_time, link_count, link_key, links_of, same_link, survey_by, survey_in, survey_verdict, capture_fault_line, capture_verdict, content_verdict, tally_text, tallied, Surveyed}, Stamps.{BeginsSurvey, Counts, StampState, Surveys, own_link, stamps_coming, survey_coming, all_noted, fall_with, has_link, link_place, noted, nothing_noted, one_more, with_packet}, declared.{stamps.Stamp.{Stamp}, survey.Survey.{Survey}, tally.LinkCount.{LinkCount}}}
+use Rattle.cmd_enforce.proofs.{Words.{◌≡◌, ◌≤◌, ◌<◌, ◌++◌, ◌∙◌, ◌∷◌, ◌+◌, ◌-◌, ℕ, Bool, true, false, if◌then◌else◌, List, [], Option, Some, None, Result, Err, length, take, refl, ap, sym, subst, suc, arith, append-nil, append_assoc, window, CaptureReason, End, done, limited, bad, is_section, Names, Outside}, Opened.{put_back_whole}}
+use Rattle.cmd_enforce.specs.{Survey.{Tallied, count_of, fall_behind, first_time, greatest_time, is_other, last_time, link_count, links_of, same_link, survey_by, survey_in, survey_verdict, capture_fault_line, capture_verdict, content_verdict, tally_text, tallied, Surveyed}, Stamps.{BeginsSurvey, Counts, StampState, Surveys, own_link, stamps_coming, survey_coming, all_noted, fall_with, has_link, link_place, noted, nothing_noted, one_more, with_packet}, declared.{stamps.Stamp.{Stamp}, survey.Survey.{Survey}, tally.LinkCount.{LinkCount}}}
 use Rattle.cmd_stages.specs.Refusal.{Verdict, or_stop, verdict_with}
 
 -- counts of link types

@@ -1,11 +1,11 @@
 -- What `check` says of a capture: how many packets it has, when they were captured, and behind which link types; or its
 -- fault.
-use Rattle.std.specs.Prelude.{ℕ, List, [], ◌∷◌, ◌++◌, Option, Some, None, Bool, not, Result, Ok, Err, ◌≡◌, ◌≤◌, ◌+◌, ◌==◌, codes, decimal, drop, filter, flat_map, length, map, max, nat_lt, take, if◌then◌else◌, MatchResult, ⊤}
+use Rattle.std.specs.Prelude.{ℕ, List, [], ◌∷◌, ◌++◌, Option, Some, None, Bool, not, Result, Ok, Err, ◌+◌, ◌==◌, codes, decimal, drop, filter, flat_map, length, map, max, nat_lt, take, if◌then◌else◌}
 use Rattle.fs_base.specs.{Link.{link_number}, Parts.{window}, declared.link.Link.{Link}}
 use Rattle.fs_pcap.specs.{Capture.{Captured as Record, heading_of, packets_to_come as records_to_come}, Order.{time_of}, Fault.{reason_name as pcap_reason_name}, declared.{fault.CaptureReason.{CaptureReason as PcapReason}, header.Heading.{Heading}}}
-use Rattle.fs_pcapng.specs.{Block.{Packet as Block, Stands}, Fault.{reason_name as ng_reason_name}, Own.{own_of}, declared.fault.NgReason.{NgReason}}
-use Rattle.fs_input.specs.{NextRecord.{Grows as GrowsBy}, Records.{End, done, limited, bad}, declared.fault.{Ended.{Ended}, Fault.{Fault, TheVariants.{Read, Limit, Bad}}}}
-use Rattle.cmd_enforce.specs.{Answer.{answer_as, end_as}, Capture.{is_section}, declared.{fault.CaptureReason.{CaptureReason, TheVariants.{Pcap, Pcapng}}, stamps.Stamp.{Stamp}, tally.LinkCount.{LinkCount}}}
+use Rattle.fs_pcapng.specs.{Block.{Packet as Block}, Fault.{reason_name as ng_reason_name}, Own.{own_of}, declared.fault.NgReason.{NgReason}}
+use Rattle.fs_input.specs.{Records.{End, done, limited, bad}}
+use Rattle.cmd_enforce.specs.{Answer.{end_as}, Capture.{is_section}, declared.{fault.CaptureReason.{CaptureReason, TheVariants.{Pcap, Pcapng}}, stamps.Stamp.{Stamp}, tally.LinkCount.{LinkCount}}}
 use Rattle.cmd_stages.specs.{Load.{Names}, Refusal.{Stage, Found, Stopped, Verdict, or_stop, status_of, verdict_with}, declared.refusal.Refusal.{TheVariants.{Outside}}}
 
 -- a packet: its link type, where it is one of the six that are read, and its own time, in nanoseconds since the start of

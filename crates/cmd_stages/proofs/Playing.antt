@@ -1,5 +1,5 @@
 -- A tape that is played item by item.
-use Rattle.cmd_stages.proofs.Words.{◌≡◌, inl, inr, ◌≤◌, ℕ, List, [], ◌∷◌, ◌++◌, Option, Some, option_map, Result, Ok, Err, refl, ap, sym, ◌∙◌, subst, append_assoc, append-nil, drop, map-append, each_append, Rose, with_part, End, done, Config, IsBegun, Item, TapeState, Timed, coming, items_to_come, tape_of, version_of, TapeReason, IsTimed, Version, One, Two, Refusal, Outside, Stage, Found, Stopped, and_then, or_stop, HasReason, Names, HasVersion, HaveNoMoments, IsOpened, IsWhole, PlaysOn, played_to, tape_stage, untimed, Desked, Played, rose_earlier}
+use Rattle.cmd_stages.proofs.Words.{◌≡◌, inl, inr, ◌≤◌, ℕ, List, [], ◌∷◌, ◌++◌, Option, Some, option_map, Result, Ok, Err, refl, ap, sym, ◌∙◌, subst, append_assoc, append-nil, drop, map-append, each_append, Rose, with_part, End, done, Config, IsBegun, Item, TapeState, Timed, coming, items_to_come, tape_of, version_of, TapeReason, IsTimed, Version, One, Two, Refusal, Outside, Stage, Found, and_then, or_stop, HasReason, Names, HasVersion, HaveNoMoments, IsOpened, IsWhole, PlaysOn, played_to, tape_stage, untimed, Desked, Played, rose_earlier}
 
 -- of all items some were played, and the rest is to come
 pub record Playing (config : Config) (version : Version) (all rest : List Timed × End TapeReason) (old now : Desked) : Type 0 where

@@ -1,5 +1,5 @@
 -- A tape that is read up to its end, whatever that is, and played item by item.
-use Rattle.cmd_stages.proofs.{Words.{◌≡◌, inl, inr, ℕ, List, [], Option, Some, Result, Ok, Err, refl, ap, sym, ◌∙◌, subst, drop, End, limited, bad, Config, IsBegun, Item, TapeState, Timed, coming, tape_of, version_of, TapeReason, Refusal, Outside, Stage, Found, Stopped, and_then, or_stop, HasReason, Names, played_to, Ceases, GivesNone, read_stage, Desked, Played, Leaves, Noted, Plays, IsStrictlySortedBy}, Playing.{opened_to, tape_opened}}
+use Rattle.cmd_stages.proofs.{Words.{◌≡◌, inl, inr, ℕ, List, [], Option, Some, Ok, Err, refl, ap, sym, ◌∙◌, subst, drop, End, limited, bad, Config, IsBegun, Item, TapeState, Timed, coming, tape_of, version_of, TapeReason, Refusal, Outside, Stage, Found, Stopped, and_then, or_stop, HasReason, Names, played_to, Ceases, GivesNone, read_stage, Desked, Played, Leaves, Noted, Plays, IsStrictlySortedBy}, Playing.{opened_to, tape_opened}}
 use Rattle.fs_base.specs.declared.prefix.Family.{Family}
 use Rattle.fs_desk.{specs.{Desk.{PlayedBut}, Laws.{LeaveSame}}, proofs.Leaves.{played_leaves}}
 use Rattle.fs_input.specs.{NextRecord.{Advances}, Opening.{Opens}, declared.fault.Fault.{Fault, TheVariants.{Read, Limit, Bad}}}

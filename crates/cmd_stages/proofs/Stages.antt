@@ -1,5 +1,5 @@
 -- How the answer of a run follows from those of its stages.
-use Rattle.cmd_stages.proofs.Words.{◌≡◌, ◌⊎◌, inl, inr, ◌≤◌, arith, ◌∙◌, ℕ, List, [], Option, Result, Ok, Err, take, refl, ap, sym, subst, Rose, Config, Grew-refl, part_none, Names, config_stage, tape_stage, accepted_stage, Verdict, answered, Answers, EndsEarly, Stage, Found, and_then, status_of, HasReason, Finishes, Refusal, Outside, Memory, rose_earlier}
+use Rattle.cmd_stages.proofs.Words.{◌≡◌, ◌⊎◌, inl, inr, ◌≤◌, arith, ℕ, List, [], Option, Result, Ok, Err, take, refl, ap, sym, subst, Rose, Config, Grew-refl, part_none, Names, config_stage, tape_stage, accepted_stage, Verdict, answered, Answers, EndsEarly, Stage, Found, and_then, status_of, HasReason, Finishes, Refusal, Outside, Memory, rose_earlier}
 use Rattle.std.{specs.Result.{IsErrAnd, MatchResult}, proofs.lemmas.Grind.{common_steps}}
 
 -- a stage that ends the run ends it for all that would follow

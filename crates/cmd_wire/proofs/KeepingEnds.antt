@@ -1,10 +1,10 @@
 -- How `keep` begins, why it ends, and what it did until then.
-use Rattle.cmd_wire.proofs.{Words.{◌≡◌, ◌≤◌, ◌⊎◌, ◌∙◌, ℕ, suc, true, false, List, [], ◌∷◌, Option, Some, None, Ok, Err, IfSome, refl, sym, ap, subst, inl, inr, Grew, Grew-trans, Rose, rose_earlier, Happened, Config, Names, Found, HasReason, config_stage, status_of, Result, IsErrAnd, answered, answered_err, Refusal, Capture, Dump, Limit, Memory, Outside, Rejected, Session, Tape}, Statuses.{same_found}, Kept.{rereads_took}}
+use Rattle.cmd_wire.proofs.{Words.{◌≡◌, ◌≤◌, ◌⊎◌, ◌∙◌, ℕ, suc, true, false, List, [], ◌∷◌, Option, Some, None, Ok, Err, refl, sym, ap, subst, inl, inr, Grew, Grew-trans, Rose, rose_earlier, Happened, Config, Names, Found, HasReason, config_stage, status_of, Result, IsErrAnd, answered, answered_err, Refusal, Capture, Dump, Limit, Memory, Outside, Rejected, Session, Tape}, Statuses.{same_found}, Kept.{rereads_took}}
 use Rattle.std.specs.{Prelude.{take}, Result.{IsErrOf}}
 use Rattle.fs_base.{specs.{Gate.{Content, Turn, absent, content_from, read, too_long, unread, whole}, Happened.{FilesFailed}, declared.Found.{Found as HasFound, TheVariants.{Whole, Absent, Failed as Unread, TooLong as Long}}}, proofs.Grew.{Grew-refl}}
 use Rattle.fs_recorder.specs.declared.stop.Stop.{Stop, TheVariants.{Failed, Memory as NoMemory, Limit as TooLong}}
 use Rattle.cmd_stages.specs.Refusal.{IsOfFile}
-use Rattle.cmd_wire.specs.{Recording.{AtGate, SomeFailed, refusal_by}, Shelf.{Shelf}, Keeping.{Begins, Breaks, BreaksShelving, EndsKeeping, Fills, IsFirst, IsMissing, IsOfKeeping, IsRight, IsThere, IsUnbegun, KeepsAll, KeepsSo, Order, Reread, Shelves, StandsAt, Stationed, Step, Took, at_first, is_done, is_missing, order_by, reads_now, reread_of, rereads, shelves, starts, starts_by}}
+use Rattle.cmd_wire.specs.{Recording.{AtGate, SomeFailed, refusal_by}, Shelf.{Shelf}, Keeping.{Begins, Breaks, BreaksShelving, EndsKeeping, Fills, IsMissing, IsOfKeeping, IsThere, IsUnbegun, KeepsAll, KeepsSo, Order, Reread, Shelves, StandsAt, Stationed, Step, Took, at_first, is_done, is_missing, order_by, reread_of, rereads, shelves, starts, starts_by}}
 
 -- The first reading.
 

@@ -1,10 +1,9 @@
 -- What a station does at an event, step by step.
-use Rattle.cmd_wire.proofs.Words.{◌≡◌, ◌∙◌, ℕ, zero, suc, Bool, true, false, List, [], ◌∷◌, ◌++◌, Option, Some, None, Result, Ok, Err, IfSome, length, ap, refl, sym, subst, if◌then◌else◌, Grew, Grew-trans, Config}
-use Rattle.std.{specs.Prelude.{OnErr, OnOk, is_some, max, take, ◌&&◌, ◌||◌, not}, proofs.Math.Seq.{take-append_seam}}
-use Rattle.fs_base.{specs.{Gate.{Content, Turn, What, read}, Sink.{GrewPart}}, proofs.{Bools.{if_false, if_true}, Grew.{Grew-refl}}}
-use Rattle.fs_speaker.specs.declared.Sending.{Sending}
-use Rattle.fs_peering.specs.{Keeper.{Kept, Outcome, accepts, dials, hears, tells_all}, Keeping.{Keeping, Stands, Took as KeeperTook, TookSo as KeeperTookSo, BreaksAt as KeeperBreaksAt, BreaksSo as KeeperBreaksSo}, declared.keeper.News.{News}}
-use Rattle.cmd_wire.specs.{Judged.{IsJudged, Judged, accepted, held_in, refused}, News.{kept_text, line_of}, Shelf.{Shelf, changed_by, is_due, is_same_as, kept_by, settled_by, settles, shelved}, Keeping.{Between, Breaks, BreaksFollow, BreaksFollowing, BreaksLooking, BreaksReading, BreaksShelving, BreaksSo, DialsSo, Follows, FollowsSo, IsRight, IsUpSo, Looks, Order, Reads, Reread, Shelves, StandsAt, Stationed, Step, Took, TookSo, changes, follows, is_done, is_read, is_up, judges, keeps, looks, order_by, put, reads_now, reread_of, rereads, rereads_if, rests, shelves, tells_if, then_do, was_done}}
+use Rattle.cmd_wire.proofs.Words.{◌≡◌, ◌∙◌, ℕ, zero, suc, Bool, true, false, List, [], ◌∷◌, ◌++◌, Option, Some, None, IfSome, length, ap, refl, sym, subst, if◌then◌else◌, Grew, Grew-trans, Config}
+use Rattle.std.{specs.Prelude.{max, take, ◌&&◌, ◌||◌, not}, proofs.Math.Seq.{take-append_seam}}
+use Rattle.fs_base.{specs.{Gate.{Content, Turn, What, read}, Sink.{GrewPart}}, proofs.{Bools.{if_true}, Grew.{Grew-refl}}}
+use Rattle.fs_peering.specs.{Keeper.{Kept, Outcome, dials, hears, tells_all}, Keeping.{Keeping, Took as KeeperTook, TookSo as KeeperTookSo, BreaksAt as KeeperBreaksAt, BreaksSo as KeeperBreaksSo}, declared.keeper.News.{News}}
+use Rattle.cmd_wire.specs.{Judged.{IsJudged, Judged, held_in}, News.{line_of}, Shelf.{Shelf, changed_by, is_due, is_same_as, kept_by, settled_by, settles, shelved}, Keeping.{Between, Breaks, BreaksFollowing, BreaksLooking, BreaksReading, BreaksShelving, BreaksSo, DialsSo, FollowsSo, IsRight, IsUpSo, Looks, Order, Reads, Reread, Shelves, StandsAt, Stationed, Step, Took, TookSo, changes, is_done, is_read, is_up, judges, keeps, looks, order_by, put, reread_of, rereads, rereads_if, rests, shelves, tells_if, then_do, was_done}}
 
 -- fronts
 

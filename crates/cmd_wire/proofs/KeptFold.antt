@@ -1,8 +1,8 @@
 -- What `keep` does, event by event.
-use Rattle.cmd_wire.proofs.Words.{◌≡◌, ◌∙◌, ◌+◌, ◌⊎◌, inl, inr, ℕ, zero, suc, Bool, true, false, List, [], ◌∷◌, ◌++◌, Option, Some, None, Result, Ok, Err, IfSome, append-nil, append_assoc, length, length-append, arith, ap, refl, sym, subst, Grew, Grew-trans, Config}
+use Rattle.cmd_wire.proofs.Words.{◌≡◌, ◌∙◌, ◌+◌, ℕ, Bool, true, false, List, [], ◌∷◌, ◌++◌, Option, Some, None, IfSome, append-nil, append_assoc, length, length-append, arith, ap, refl, sym, subst, Grew, Grew-trans}
 use Rattle.std.{specs.Prelude.{is_some, max, take, ◌^◌, ◌-◌}, proofs.Common.{length-take-le}}
 use Rattle.fs_base.{specs.{Gate.{FitsIn, Turn, What, came, what_from}, declared.Came.{Came, TheVariants.{Taken, Made, Octets, Ended as HasEnded, Nothing}}}, proofs.Grew.{Grew-refl}}
-use Rattle.cmd_wire.{proofs.{Kept.{broke_at_once}, KeptExactly.{kept_exactly}}, specs.Keeping.{AllFit, Begins, Between, Breaks, BreaksEvent, BreaksFollow, BreaksFollowing, BreaksHearing, BreaksNext, BreaksOne, Continues, ContinuesSo, Fills, Fits, FitsFront, Follows, FollowsSo, Happening, Hears, HearsNext, HearsOne, HearsSo, IsFirst, IsFull, IsOver, IsRight, Keeps, Order, Reread, StandsAt, Stationed, Step, Took, begun, begun_text, begun_turns, behind, count_of, event_of, follows, is_over, is_read, octets_in, passed, passed_by, stands_from, starts, step_at, text_from, turns_at, turns_from}}
+use Rattle.cmd_wire.{proofs.{Kept.{broke_at_once}, KeptExactly.{kept_exactly}}, specs.Keeping.{AllFit, Begins, Between, Breaks, BreaksFollow, BreaksFollowing, BreaksHearing, BreaksNext, BreaksOne, Continues, ContinuesSo, Fills, Fits, Follows, FollowsSo, Happening, HearsNext, HearsOne, HearsSo, IsFirst, IsFull, IsOver, IsRight, Keeps, Order, Reread, StandsAt, Stationed, Took, begun, begun_text, begun_turns, behind, count_of, event_of, follows, is_over, is_read, octets_in, passed, passed_by, stands_from, starts, step_at, text_from, turns_at, turns_from}}
 
 -- octets that came are as many as were counted
 pub octets_counted : (came : Came) (into : List ℕ) → FitsIn came into → count_of came ≡ octets_in (what_from came into)

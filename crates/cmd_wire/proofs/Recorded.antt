@@ -1,5 +1,5 @@
 -- What a recorder did, event by event.
-use Rattle.cmd_wire.proofs.{Words.{◌≡◌, ◌∙◌, ◌<◌, ◌≤◌, ◌+◌, ◌⊎◌, inl, ℕ, List, [], ◌∷◌, ◌++◌, Option, Some, None, Result, Ok, Err, length, length-append, append_assoc, arith, ap, refl, sym, subst, inr, Grew, Grew-trans, Config}, Folding.{recorded_more, stands_more, timed_at, turns_at, turns_more}}
+use Rattle.cmd_wire.proofs.{Words.{◌≡◌, ◌∙◌, ◌<◌, ◌≤◌, ◌+◌, inl, ℕ, List, [], ◌∷◌, ◌++◌, Option, Some, None, Result, Ok, Err, length, length-append, append_assoc, arith, ap, refl, sym, subst, inr, Grew, Grew-trans, Config}, Folding.{recorded_more, stands_more, timed_at, turns_at, turns_more}}
 use Rattle.std.{specs.Prelude.{OnErr, OnOk, flat_map, max, take, ◌^◌, ◌-◌}, proofs.{lemmas.Grind.{flat_map-append}, Math.Seq.{take-append_seam}}}
 use Rattle.fs_base.{specs.{Gate.{Turn, What, came}, Language.{IsOctets}}, proofs.Grew.{Grew-refl}}
 use Rattle.fs_input.specs.Parts.{AllFrom}
@@ -7,7 +7,7 @@ use Rattle.fs_tape.{proofs.ReadsBack.{reads_back}, specs.{Laws.{Fits, after, ite
 use Rattle.std.specs.Result.{IsErrAnd}
 use Rattle.fs_recorder.specs.declared.stop.Stop.{Stop, TheVariants.{Failed, Limit as TooLong}}
 use Rattle.fs_recorder.specs.{Books.{Agrees}, Deeds.{AreKnown, Recording, StayKnown, asked_in, items_of, passing, text_at, told_at}, Door.{AtDoor, empty_door}, Steps.{Between, Happening, at_first, behind, door_after, empty_station, hears, recorded, stands_from, step_at, turns_from}, Tapes.{Scribed, begun}, Works.{BreaksAt, BreaksSo, DidHear, DoesStep, Stands}, declared.seats.Seat.{Seat}}
-use Rattle.cmd_wire.specs.Recording.{Breaks, BreaksOne, Continues, Fills, Hears, HearsOne, IsFull, Records, RecordsAll, StandsAt, TellsAll, begun_text, begun_turns, due_text}
+use Rattle.cmd_wire.specs.Recording.{Breaks, BreaksOne, Continues, Fills, Hears, HearsOne, Records, RecordsAll, StandsAt, TellsAll, begun_text, begun_turns}
 
 -- the clock on the wall says another moment
 agrees_passed : (config : Config) (told : List Timed) (moment : ℕ) → moment < 2 ^ 64 → (old : Recording) → Agrees config told old.books

@@ -1,5 +1,5 @@
 -- Which status a run answers, and which it doesn't.
-use Rattle.cmd_wire.proofs.Words.{AtLimit, Capture, Done, Dump, Ended, Ending, FilesStood, Found, Happened, Limit, Memory, Outside, Refusal, Rose, Session, SinkStood, Stage, Stood, Stopped, Tape, WireStood, status_of, ◌≡◌, ◌≢◌, ◌⊎◌, inl, inr, ◌∙◌, ℕ, List, arith, refl, sym, subst, Rejected, verdict_by, AnyFailed}
+use Rattle.cmd_wire.proofs.Words.{AtLimit, Done, Ended, Ending, FilesStood, Found, Happened, Refusal, Rose, SinkStood, Stage, Stood, Stopped, WireStood, status_of, ◌≡◌, ◌≢◌, ◌⊎◌, inl, inr, ◌∙◌, ℕ, List, arith, refl, sym, subst, verdict_by, AnyFailed}
 use Rattle.fs_peering.specs.declared.tell.Ending.TheVariants.{Closed}
 
 -- the status that is due, or want of memory, or a call outside that failed

@@ -3,7 +3,7 @@ use Rattle.std.specs.{Prelude.{ℕ, List, [], ◌∷◌, ◌++◌, ◌==◌, Boo
 use Rattle.fs_base.specs.{Gate.{Content, Turn, What, absent, came, ended, gave, made, nothing, read, taken, too_long, unread, whole}, Happened.{Happened}, Sink.{Grew}, declared.{config.{Config.{Config}, Peer.{Peer}}, Came.{Came, TheVariants.{Taken, Made, Octets, Ended as HasEnded, Nothing}}, Found.{Found as HasFound, TheVariants.{Whole, Absent, Failed as Unread, TooLong as Long}}}}
 use Rattle.fs_conf.specs.{Config.{config_of}, Rules.{rules_of}}
 use Rattle.fs_speaker.specs.{Sending.{sender_of}, declared.Sending.{Sending}}
-use Rattle.fs_peering.specs.{Keeper.{Connection, Kept, Outcome, accepts, at_first as keeper_at_first, dials, hears, tells_all}, KeeperLaws.{LeavesExactly}, Keeping.{Keeping, Stands}, declared.keeper.News.{News, TheVariants.{Closed, Ended, Notified, Told, Unreached, Up}}}
+use Rattle.fs_peering.specs.{Keeper.{Connection, Kept, Outcome, accepts, at_first as keeper_at_first, dials, hears, tells_all}, KeeperLaws.{LeavesExactly}, Keeping.{Keeping, Stands}, declared.keeper.News.{News, TheVariants.{Up}}}
 use Rattle.cmd_stages.specs.{Load.{Names, config_stage}, Refusal.{Found, Stopped, status_of}, declared.refusal.Refusal.{Refusal}}
 use Rattle.cmd_wire.specs.{Judged.{IsJudged, Judged, accepted, refused}, News.{kept_text, line_of}, Recording.{AtGate, SomeFailed}, Shelf.{Shelf, empty_shelf, is_due, settles, shelved}}
 

@@ -1,4 +1,4 @@
-use Rattle.fs_buckets.proofs.Words.{◌≡◌, ℕ, ◌+◌, ◌-◌, ◌<◌, ◌≤◌, ◌⊎◌, inl, inr, List, length, get_or, arith, cases_lt, Node, AreBuckets, node_at}
+use Rattle.fs_buckets.proofs.Words.{◌≡◌, ℕ, ◌+◌, ◌<◌, ◌≤◌, ◌⊎◌, inl, inr, List, length, get_or, arith, cases_lt, Node, AreBuckets, node_at}
 
 -- The buckets of rules by the numbers of the rules.
 

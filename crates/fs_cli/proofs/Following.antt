@@ -1,14 +1,14 @@
 -- A tape that is followed item by item.
 use Rattle.std.proofs.{Common.{◌≡◌, ◌⊎◌, inl, inr, ◌≤◌, ◌<◌, ◌==◌, ◌∙◌, ◌+◌, ◌-◌, ℕ, List, [], ◌∷◌, ◌++◌, Bool, true, false, Option, Result, Ok, Err, length, map, take, refl, ap, sym, subst, arith, append-nil, append_assoc, if◌then◌else◌}, lemmas.{Bool.{Decides.{nat_tests}, eq-eqb, eqb-true}, List.{length-append, length-map, take-append-le, take_all}}}
-use Rattle.std.specs.{Prelude.{MatchResult, ⊤}, Result.{IsErrAnd}}
-use Rattle.fs_base.{proofs.{Grew.{Grew-refl, Grew-trans, part_more, part_then, part_whole}, Drawing.{rose_earlier}}, specs.{Outside.{Rose}, Parts.{with_part}, Sink.{Grew, GrewPart}, declared.{config.Config.{Config}, prefix.Family.TheVariants.{V4, V6}}}}
+use Rattle.std.specs.{Prelude.{⊤}, Result.{IsErrAnd}}
+use Rattle.fs_base.{proofs.{Grew.{Grew-refl, Grew-trans, part_then, part_whole}, Drawing.{rose_earlier}}, specs.{Outside.{Rose}, Parts.{with_part}, Sink.{Grew, GrewPart}, declared.{config.Config.{Config}, prefix.Family.TheVariants.{V4, V6}}}}
 use Rattle.fs_changes.specs.{Changes.{ActingRules, acting_in, none_act, told}, Tape.{HoldAfter, changes_from, changes_of}}
 use Rattle.fs_desk.{specs.{Desk.{Desked, Played, Plays}, Laws.{LeaveSame}, Leaves.{Leaves, nobody}}, proofs.Leaves.{played_leaves}}
 use Rattle.fs_input.specs.Records.{End, done, limited, bad}
 use Rattle.fs_rules.specs.Table.{Held, admitted}
 use Rattle.fs_tape.specs.{Tape.{Item, Timed}, declared.fault.TapeReason.{TapeReason}}
-use Rattle.cmd_stages.{proofs.Playing.{untimed_more}, specs.{Items.{Ceases}, Play.{played_to, untimed}, Refusal.{Found, Stopped}, Writing.{Fails}, declared.refusal.Refusal.{Refusal, TheVariants.{Outside, Memory}}}}
-use Rattle.fs_cli.specs.Changes.{CameTo, FollowsItems, LeaveSameAfter, StopsTo, came_lines}
+use Rattle.cmd_stages.{proofs.Playing.{untimed_more}, specs.{Items.{Ceases}, Play.{played_to, untimed}, Refusal.{Found, Stopped}, Writing.{Fails}, declared.refusal.Refusal.{Refusal}}}
+use Rattle.fs_cli.specs.Changes.{CameTo, FollowsItems, LeaveSameAfter, StopsTo}
 
 -- the rules that act after these items
 abbrev pub acting_after : (ℕ → Held) → ℕ → ActingRules → List Timed → ActingRules

@@ -1,5 +1,5 @@
 -- How what is said of a rules file follows from its stages.
-use Rattle.fs_cli.proofs.Words.{◌≡◌, inl, inr, ◌⊎◌, ℕ, List, [], refl, ap, sym, subst, Config, Names, HasReason, Stage, Found, config_stage, fetch, verdict_with, status_of, Refusal, Verdict}
+use Rattle.fs_cli.proofs.Words.{◌≡◌, inl, inr, ℕ, List, [], refl, sym, subst, Config, Names, HasReason, Stage, Found, config_stage, fetch, verdict_with, status_of, Refusal, Verdict}
 use Rattle.fs_cli.specs.{FileCheck.{Due, IsDue, OfRules, Unsaid}, RulesCheck.{JudgesRules}}
 
 -- the configuration ended it

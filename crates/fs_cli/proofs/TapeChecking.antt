@@ -1,12 +1,11 @@
 -- How what is said of a tape follows from what is counted of it.
-use Rattle.fs_cli.proofs.{Words.{◌≡◌, ◌≢◌, inl, inr, ◌⊎◌, ℕ, ◌==◌, Bool, true, false, if◌then◌else◌, List, [], ◌∷◌, ◌++◌, Option, refl, ap, sym, subst, ◌∙◌, append-nil, length, arith, Config, Timed, Names, HasReason, HasVersion, Stage, Found, Stopped, config_stage, tape_stage, untimed, verdict_with, status_of, Refusal, Verdict, Memory, Outside, Tape, stopped_text}, Surveying.{nothing_said}}
-use Rattle.std.{specs.Prelude.{None, ◌*◌, ◌≤◌}, proofs.{Common.{◌+◌, append_assoc, get_or, replicate}, lemmas.{Bool.{cases_lt, Decides.{nat_tests}}, List.{get_or-replicate, get_or_past, length-append, length-replicate}}}}
+use Rattle.fs_cli.proofs.{Words.{◌≡◌, inl, inr, ℕ, ◌==◌, Bool, true, false, if◌then◌else◌, List, [], ◌∷◌, ◌++◌, Option, refl, ap, sym, subst, ◌∙◌, append-nil, length, arith, Config, Timed, Names, HasReason, Stage, Found, config_stage, tape_stage, untimed, verdict_with, status_of, Refusal, Verdict}}
+use Rattle.std.{specs.Prelude.{None}, proofs.{Common.{◌+◌, append_assoc, get_or, replicate}, lemmas.{Bool.{cases_lt, Decides.{nat_tests}}, List.{get_or-replicate, get_or_past, length-append, length-replicate}}}}
 use Rattle.fs_base.specs.Parts.{with_part}
-use Rattle.fs_input.specs.Records.{End, bad, done, limited}
-use Rattle.fs_tape.specs.{Tape.{IsItem, Item, TapeState, coming, timed}, Magic.{version_number}, declared.{fault.TapeReason.{TapeReason}, item.TapeItem.{TapeItem, TheVariants.{Lost, Octets, Up}}, magic.Version.{Version}}}
-use Rattle.fs_reports.specs.TapeFault.{tape_fault_line}
+use Rattle.fs_input.specs.Records.{End, done}
+use Rattle.fs_tape.specs.{Tape.{Item, TapeState, coming, timed}, Magic.{version_number}, declared.{fault.TapeReason.{TapeReason}}}
 use Rattle.cmd_stages.{specs.Play.{IsOpened, played_to}, proofs.Playing.{untimed_more}}
-use Rattle.fs_cli.specs.{FileCheck.{Due, IsDue, OfTape, Unsaid}, TapeCheck.{CountsOf, CountsOn, CountsState, IsSmall, IsWithin, JudgesTape, TapeCounted, counted_text, no_tally, peer_of_item, span_behind, span_of, span_with, tally_at, tally_behind, tally_line, tally_lines, tally_of, tally_with, tape_line, tape_text}, declared.tallies.Tally.{Tally}}
+use Rattle.fs_cli.specs.{FileCheck.{Due, IsDue, OfTape, Unsaid}, TapeCheck.{CountsOf, CountsOn, CountsState, IsWithin, JudgesTape, TapeCounted, counted_text, no_tally, peer_of_item, span_behind, span_of, span_with, tally_at, tally_behind, tally_lines, tally_of, tally_with, tape_line, tape_text}, declared.tallies.Tally.{Tally}}
 
 -- one item more
 

@@ -6,8 +6,8 @@ use Rattle.fs_changes.specs.Tape.{HoldAfter, changes_of}
 use Rattle.fs_rules.specs.Table.{Held}
 use Rattle.fs_input.specs.Records.{End, done, limited, bad}
 use Rattle.fs_tape.specs.declared.fault.TapeReason.{TapeReason}
-use Rattle.cmd_stages.{proofs.Stages.{either_rose, reason_then, rose_later}, specs.{Items.{Ceases, read_stage}, Play.{played_to}, Refusal.{EndsEarly}}}
-use Rattle.fs_cli.{proofs.Surveying.{nothing_said}, specs.Changes.{CameTo, FollowsItems, FollowsTape, StopsTo, TellsItems, TellsSo, WritesTo, came_lines, end_text, opened_stage, status_at, text_to}}
+use Rattle.cmd_stages.{proofs.Stages.{either_rose, reason_then, rose_later}, specs.{Items.{Ceases, read_stage}, Play.{played_to}}}
+use Rattle.fs_cli.{proofs.Surveying.{nothing_said}, specs.Changes.{CameTo, FollowsItems, FollowsTape, StopsTo, TellsSo, WritesTo, came_lines, end_text, opened_stage, status_at, text_to}}
 
 -- what goes beside the configuration
 abbrev with_items : Config → List Timed → Stage (Config × List Timed)

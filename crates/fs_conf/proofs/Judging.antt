@@ -1,9 +1,9 @@
 -- Loops that look for the first fault.
-use Rattle.fs_conf.proofs.Words.{◌≡◌, ℕ, suc, ◌+◌, ◌<◌, ◌≤◌, ◌==◌, Bool, true, false, if◌then◌else◌, List, [], ◌∷◌, ◌++◌, length, take, drop, get_or, Option, Some, None, refl, sym, ap, ◌∙◌, arith, list_any, bytes_eq, map, not, ◌||◌, cond, option_map, string_bytes, String, Global, Bor, members_view, zero, drop_more, nat_le, ◌&&◌, codes, is_some, Data, Members, get_member, item, as_table, Value, view, items_view, items_view-drop}
+use Rattle.fs_conf.proofs.Words.{◌≡◌, ℕ, suc, ◌+◌, ◌<◌, ◌≤◌, ◌==◌, Bool, true, false, if◌then◌else◌, List, [], ◌∷◌, ◌++◌, length, take, drop, get_or, Option, Some, None, refl, sym, ap, ◌∙◌, arith, list_any, bytes_eq, map, not, ◌||◌, cond, option_map, string_bytes, String, Global, Bor, members_view, zero, nat_le, ◌&&◌, codes, is_some, Data, Members, get_member, item, as_table, Value, view, items_view, items_view-drop}
 use Rattle.std.specs.Option.{option_or}
 use Rattle.std.specs.{Map.{keys_of}, Prelude.{find}}
 use Rattle.fs_conf.specs.{Fields.{is_named}, declared.{fault.KeyReason.TheVariants.{Value as NoValue}, faults.Kind.{Kind}}}
-use Rattle.fs_conf.specs.Fault.{KeyFault, advance, each_peer, first_again, first_other, item_count, items_fault, judged, keys_of_peer, number_of_peer, numbers_of_peers, own_fault, position_from, reason_at, repeated, unfit}
+use Rattle.fs_conf.specs.Fault.{KeyFault, each_peer, first_again, first_other, item_count, items_fault, judged, keys_of_peer, number_of_peer, numbers_of_peers, own_fault, reason_at, repeated, unfit}
 
 -- a peer without a fault, and one with a fault
 

@@ -1,6 +1,6 @@
 -- A document has a fault as a rules file exactly where it is none.
 use Rattle.fs_conf.proofs.{Words.{◌≡◌, ◌≢◌, ℕ, suc, ◌<◌, ◌^◌, nat_le, nat_lt, Bool, true, false, not, ◌&&◌, ◌||◌, if◌then◌else◌, List, [], ◌∷◌, length, Option, Some, None, refl, sym, ap, ◌∙◌, codes, option_map, option_and_then, is_some, list_all, list_any, bytes_eq, is_eq, lt-ltb, AllByRecursion, Data, Items, no_items, item, Members, no_members, as_array, as_table, get_member, Config, Peer, Ruled, rule_cmp, Sent, kept_if, written, each_item, keys_among, ipv4_of, are_single, as_path_in, file_keys, number_of, rules_in, sendable, sending_of_document, sending_of_members, actions_in, family_of, rule_keys, rule_written, sent_of_data, sent_of_members, sent_of_table, sent_of_text, text_keys}, Announced.{found_numbers}, Faulted.{clear_first, clear_judged, clear_map, clear_or, clear_reason, clear_unknown, if_keys, is_clear, no_value, none_clear, some_map, then_some}, Single.{are_fresh, fresh_more, fresh_none, not_fresh}}
-use Rattle.std.{specs.{Cmp.Lexicographic.{slice_cmp}, Option.{option_or}, Ordering.{match_ordering}, Prelude.{◌↔◌}}, proofs.{Common.{Ordering, Less, Equal, Greater, nat_cmp}, lemmas.Map.Lookups.{exact_bytes}}}
+use Rattle.std.{specs.{Cmp.Lexicographic.{slice_cmp}, Option.{option_or}, Ordering.{match_ordering}}, proofs.{Common.{Ordering, Less, Equal, Greater, nat_cmp}, lemmas.Map.Lookups.{exact_bytes}}}
 use Rattle.toml.specs.Data.{member}
 use Rattle.fs_base.specs.declared.prefix.Family.{Family}
 use Rattle.fs_speaker.specs.{declared.Sending.{Sending}, Sending.{is_sending, is_short, sender_of}, Transition.{terms_of}}

@@ -1,8 +1,8 @@
 -- Loops that look for the first fault of rules.
-use Rattle.fs_conf.proofs.{Words.{◌≡◌, ℕ, suc, ◌+◌, ◌<◌, ◌≤◌, Bool, true, false, not, ◌||◌, if◌then◌else◌, List, [], ◌∷◌, length, drop, get_or, Option, Some, None, refl, sym, ap, ◌∙◌, arith, zero, drop_more, is_eq, rule_cmp, Ruled, Sent, Data, Items, item, Value, view, items_view, items_view-drop, nat_le, codes, Config, is_some, option_map, has_seen, Bor, nat_lt, ltb-true}, Judging.{count_is}}
+use Rattle.fs_conf.proofs.{Words.{◌≡◌, ℕ, suc, ◌+◌, ◌<◌, ◌≤◌, Bool, true, false, not, ◌||◌, if◌then◌else◌, List, [], ◌∷◌, length, drop, get_or, Option, Some, None, refl, sym, ap, ◌∙◌, arith, zero, drop_more, is_eq, rule_cmp, Ruled, Sent, Data, item, Value, view, items_view, items_view-drop, nat_le, codes, is_some, option_map, has_seen, Bor, nat_lt, ltb-true}, Judging.{count_is}}
 use Rattle.std.{specs.{BTreeSet.{BTreeSet}, Option.{option_or}, Prelude.{IfSome}}, proofs.Common.{ltb-false}}
 use Rattle.fs_order.specs.declared.ranked.Ranked.{Ranked}
-use Rattle.fs_conf.specs.{Fault.{KeyFault, own_fault, reason_at, unfit}, RuleFault.{each_fault, first_but, first_same, item_at, listed, listed_fault, number_fault, numbers_fault}, declared.{fault.KeyReason.TheVariants.{Value as NoValue}, faults.Kind.TheVariants.{Array}}}
+use Rattle.fs_conf.specs.{Fault.{KeyFault, own_fault, unfit}, RuleFault.{each_fault, first_same, item_at, number_fault, numbers_fault}, declared.{fault.KeyReason.TheVariants.{Value as NoValue}}}
 
 -- an item without a fault, and one with a fault
 

@@ -1,6 +1,6 @@
 -- What is told of the fault of a rule.
-use Rattle.fs_conf.proofs.Words.{◌≡◌, ℕ, ◌+◌, ◌<◌, ◌≤◌, ◌==◌, true, not, if◌then◌else◌, List, length, Option, Some, None, refl, sym, ap, ◌∙◌, arith, codes, option_and_then, is_some, inl, inr, ◌⊎◌, Members, as_str, get_member, Family, sent_of_text, kept_if, IsFrame, take, drop, take-append-drop, Sent, IsRule, sent, AreActions}
-use Rattle.std.{specs.List.{slice_split}, proofs.lemmas.List.{Splits.{length-slice_split}, Sums.{count_by-le-length}}}
+use Rattle.fs_conf.proofs.Words.{◌≡◌, ℕ, ◌+◌, ◌<◌, ◌≤◌, ◌==◌, true, List, length, Option, Some, None, refl, sym, ap, ◌∙◌, arith, codes, option_and_then, is_some, inl, inr, ◌⊎◌, Members, as_str, get_member, Family, sent_of_text, kept_if, IsFrame, take, drop, take-append-drop, Sent, IsRule, sent, AreActions}
+use Rattle.std.{proofs.lemmas.List.{Splits.{length-slice_split}, Sums.{count_by-le-length}}}
 use Rattle.fs_text.specs.{Printed.{text_of}, Text.{IsTextFault, words_in}, declared.fault.TextFault.TheVariants.{Bad}}
 use Rattle.fs_nlri.specs.Parts.{Ruled}
 use Rattle.fs_conf.specs.{Fault.{KeyFault}, WordedLaw.{SaysItsOwn}, RuleFault.{BeginsFrame, bad_text, judged_rule, text_at, untold}}

@@ -1,5 +1,5 @@
 -- Updates that list nothing, and the octets of such: the table and what is noted stay.
-use Rattle.fs_desk.proofs.{Words.{◌≡◌, ◌⊎◌, inl, inr, ℕ, List, [], ◌∷◌, ◌++◌, drop, Bool, true, false, if◌then◌else◌, ◌==◌, Option, Some, None, refl, nat_cmp, set_value, is_at, eq_itself, if_true, Config, ap, sym, ◌∙◌, subst, AllByRecursion, Update, given_prefixes, gives_prefixes, gives_rules, takes_prefixes, takes_rules, unicast_in, flows_in, Live, Does, step_with, held_count, Closed, Ended, Desked, standing_by, session_at, standing_at_desk, AreIdle, IdlesMessage, IsIdle, KeepsAll, LosesNothing, completed, Watched}, Follows.{completed_fed}, Played.{desk_of, session_value}}
+use Rattle.fs_desk.proofs.{Words.{◌≡◌, inl, inr, ℕ, List, [], ◌∷◌, ◌++◌, drop, Bool, true, false, if◌then◌else◌, ◌==◌, Option, Some, None, refl, nat_cmp, set_value, is_at, eq_itself, if_true, Config, ap, sym, ◌∙◌, subst, AllByRecursion, Update, given_prefixes, unicast_in, flows_in, Live, Does, step_with, held_count, Closed, Ended, Desked, standing_by, session_at, standing_at_desk, AreIdle, IsIdle, KeepsAll, LosesNothing, completed, Watched}, Follows.{completed_fed}, Played.{desk_of, session_value}}
 use Rattle.fs_speaker.specs.declared.Standing.TheVariants.{Live as LiveIn}
 
 pub more_than_none : {A : Type 0} (xs : List A) (x : A) → xs ++ x ∷ [] ≡ [] → ⊥

@@ -1,5 +1,5 @@
 -- What a desk that followed a tape holds is what the tape leaves.
-use Rattle.fs_desk.proofs.{Words.{◌≡◌, ◌∙◌, ℕ, Bool, true, false, if◌then◌else◌, List, [], Option, Some, None, ap, sym, subst, peer_of, Config, Peer, eq_itself, Update, Held, still, at_start, Live, Closed, Item, Desked, session_at, PeerIs, PlayedBut, Played, StandsAs, HasExpired, bounded_from, IsFed, IsLeft, Leaves, LeavesBut, counted, updates_of, updates_but, life}, Follows.{follows_session, over_session}}
+use Rattle.fs_desk.proofs.{Words.{◌≡◌, ◌∙◌, ℕ, Bool, true, false, if◌then◌else◌, List, [], Option, Some, None, ap, sym, subst, peer_of, Config, Peer, eq_itself, Update, Held, still, at_start, Live, Closed, Item, Desked, session_at, PeerIs, PlayedBut, Played, StandsAs, bounded_from, IsFed, IsLeft, Leaves, LeavesBut, counted, updates_of, updates_but, life}, Follows.{follows_session, over_session}}
 
 -- the updates that a session counts are those of all octets that it was fed with
 fed_updates : (config : Config) (peer : Peer) (octets : List ℕ) (session : Live) (why : Option Closed) (updates : List Update)

@@ -1,5 +1,5 @@
 -- One session and the table, through a piece of the peer's octets.
-use Rattle.fs_desk.proofs.{Words.{◌≡◌, inl, inr, ℕ, List, [], ◌∷◌, ◌++◌, drop, flat_map, not, Bool, Option, Some, None, refl, ap, sym, ◌∙◌, subst, append-nil, is_some, true, false, true≢false, AllByRecursion, Config, Peer, IsPrefix, Update, gives_prefixes, false_of_not, true_of_not, each_append, some_there, Held, held_count, Closed, Fault, Notified, NoFamily, Memory, Step, stops, CloseIs, Live, Does, step_with, Changes, nothing, told, told_of, IsListed, is_over, routes_left, too_many, bounded_replies_from, wants_memory, Follows, AreWithin, TakesUpdate, IsFed, HasReplied, IsLeft, Spares, IsUp, HasTaken, MessageTaken, TakesMessage, HasRepliedMore, close_is}, Bounding.{next_within}, Follows.{follows_piece, follows_fed, follows_closed, follows_ceased, over_more}, Replying.{replied_exactly, replied_over}, RoutesLeft.{counted_left}, TableChanges.{lost_to}, Updates.{left_more, left_nothing, spares_others, spares_none, spares_then}}
+use Rattle.fs_desk.proofs.{Words.{◌≡◌, inl, inr, ℕ, List, [], ◌∷◌, ◌++◌, drop, flat_map, not, Bool, Option, Some, None, refl, ap, sym, ◌∙◌, subst, append-nil, is_some, true, false, true≢false, AllByRecursion, Config, Peer, IsPrefix, Update, gives_prefixes, false_of_not, true_of_not, each_append, some_there, Held, held_count, Closed, Memory, CloseIs, Live, Does, step_with, Changes, nothing, told, told_of, IsListed, is_over, routes_left, too_many, bounded_replies_from, wants_memory, Follows, AreWithin, TakesUpdate, IsFed, HasReplied, IsLeft, Spares, IsUp, HasTaken, MessageTaken, TakesMessage, HasRepliedMore, close_is}, Bounding.{next_within}, Follows.{follows_piece, follows_fed, follows_closed, follows_ceased, over_more}, Replying.{replied_exactly, replied_over}, RoutesLeft.{counted_left}, TableChanges.{lost_to}, Updates.{left_more, left_nothing, spares_others, spares_none, spares_then}}
 use Rattle.fs_rules.proofs.Apart.{each_front, each_back}
 
 -- a message without an update was taken

@@ -1,5 +1,5 @@
 -- Routes that are taken out of the groups of some destinations.
-use Rattle.fs_flows.proofs.{Words.{ℕ, ◌≡◌, ◌≤◌, refl, sym, ap, ap₂, subst, ◌∙◌, Bool, true, false, true≢false, not, ◌||◌, ◌==◌, cond, List, [], ◌∷◌, ◌++◌, filter, map, length, Option, Some, None, is_eq, arith, AllByRecursion, keys_of, MatchOption, eqb-true, sorted_head, sorted_tail, Config, Prefix, prefix_cmp, true_of_not, each, each_weaker, each_both, filter-append, filter_all, each_filtered, destination_prefix, Route, Kept, mended, retested, is_related_kept, is_of_other, Entry, kept_in, IsTo, ArePlaced, AreInOrder, IsGrouped, with_group, keep_at, Listed, lists, is_among, StaysListed, IsAmong, IsListed, keep_along}, Apart.{each_front, each_back}, Changed.{each-filtered}, TakingFromGroups.{kept_with, placed_at, each_at, sorted_at, other_keys, length-filter}, Grouping.{few_left}}
+use Rattle.fs_flows.proofs.{Words.{ℕ, ◌≡◌, refl, sym, ap, ap₂, subst, ◌∙◌, Bool, true, false, true≢false, not, ◌||◌, ◌==◌, cond, List, [], ◌∷◌, ◌++◌, filter, map, Option, Some, None, is_eq, AllByRecursion, keys_of, MatchOption, eqb-true, sorted_head, sorted_tail, Config, Prefix, prefix_cmp, true_of_not, each, each_weaker, each_both, filter-append, filter_all, each_filtered, destination_prefix, Route, Kept, mended, retested, is_related_kept, is_of_other, Entry, kept_in, IsTo, ArePlaced, AreInOrder, IsGrouped, with_group, keep_at, Listed, lists, is_among, StaysListed, IsAmong, IsListed, keep_along}, Apart.{each_front, each_back}, Changed.{each-filtered}, TakingFromGroups.{kept_with, placed_at, each_at, sorted_at, other_keys}, Grouping.{few_left}}
 
 module _ (keeps : Kept → Bool) where
   abbrev passes : Kept → Type 0

@@ -1,5 +1,5 @@
 -- Rivals stand in one part where the rules of each part are before those of all parts behind it.
-use Rattle.fs_flows.proofs.{Words.{◌≡◌, ◌+◌, refl, sym, ap, ap₂, ◌∙◌, true, false, not, ◌&&◌, ◌||◌, List, [], ◌∷◌, ◌++◌, None, ◌-◌, AllByRecursion, keys_of, sorted_tail, Family, prefix_cmp, each_weaker, each_both, filter_on, filter-append, Kept, is_of_family, is_valid, same_rule, beats, is_beaten, is_chosen, chosen, Entry, kept_in, IsTo, ArePlaced, AreInOrder, IsSound, chosen_in, RuleBefore, AllBefore}, KeyPlaces.{no_rival}, Apart.{not_same, not_same_back, group_before, each_back}}
+use Rattle.fs_flows.proofs.{Words.{◌≡◌, ◌+◌, refl, sym, ap, ap₂, ◌∙◌, false, not, ◌&&◌, ◌||◌, List, [], ◌∷◌, ◌++◌, None, ◌-◌, AllByRecursion, keys_of, sorted_tail, Family, prefix_cmp, each_weaker, each_both, filter_on, filter-append, Kept, is_of_family, is_valid, same_rule, beats, is_beaten, is_chosen, chosen, Entry, kept_in, IsTo, ArePlaced, AreInOrder, IsSound, chosen_in, RuleBefore, AllBefore}, KeyPlaces.{no_rival}, Apart.{not_same, not_same_back, group_before, each_back}}
 
 beaten_front : (k : Kept) (xs ys : List Kept) → AllByRecursion (λ y. same_rule y.route k.route ≡ false) ys → is_beaten (xs ++ ys) k ≡ is_beaten xs k
 beaten_front k [] [] h = refl

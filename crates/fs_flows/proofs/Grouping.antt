@@ -1,5 +1,5 @@
 -- That routes stay grouped.
-use Rattle.fs_flows.proofs.{Words.{ℕ, ◌≡◌, ◌+◌, ◌≤◌, ◌<◌, ◌^◌, refl, sym, ap, subst, ◌∙◌, Bool, List, [], ◌∷◌, filter, map, length, Some, None, Ordering, Less, Equal, Greater, arith, AllByRecursion, length-map, keys_of, match_ordering, ordering_reverse, sorted_head, sorted_tail, Config, Family, Prefix, prefix_cmp, prefix_total, each_weaker, each_filtered, Route, Ruled, IsRule, destination_prefix, is_related, Kept, Noted, put_kept, mended, chosen, is_other_key, HaveRules, Entry, kept_in, IsTo, ArePlaced, AreInOrder, IsSound, IsGrouped, put_entry, keep_at, keep_each, Mends, MendsKept, Progress, chosen_in}, PuttingInGroups.{put_entries, put_rest, put_placed, each_entry, length-put}, TakingFromGroups.{kept_each, placed_each, placed_at, sorted_at, parts_sorted, taken_kept, taken_rest, length-filter}, Mending.{mended_in, marks_kept, right_where, mends_placed, mends_ordered, size_related}, ChosenParts.{chosen_groups}, Changed.{each-put}}
+use Rattle.fs_flows.proofs.{Words.{ℕ, ◌≡◌, ◌+◌, ◌≤◌, ◌<◌, ◌^◌, refl, sym, ap, subst, ◌∙◌, Bool, List, [], ◌∷◌, filter, length, Some, None, Ordering, Less, Equal, Greater, arith, AllByRecursion, length-map, keys_of, match_ordering, ordering_reverse, sorted_head, sorted_tail, Config, Family, Prefix, prefix_cmp, prefix_total, each_weaker, each_filtered, Route, Ruled, IsRule, destination_prefix, is_related, Kept, put_kept, mended, chosen, is_other_key, HaveRules, Entry, kept_in, IsTo, ArePlaced, AreInOrder, IsSound, IsGrouped, put_entry, keep_at, keep_each, Mends, MendsKept, Progress, chosen_in}, PuttingInGroups.{put_entries, put_rest, put_placed, each_entry, length-put}, TakingFromGroups.{kept_each, placed_each, placed_at, sorted_at, parts_sorted, taken_kept, taken_rest, length-filter}, Mending.{mended_in, marks_kept, right_where, mends_placed, mends_ordered, size_related}, ChosenParts.{chosen_groups}, Changed.{each-put}}
 
 sorted_entry : (p : Prefix) (k : Kept) (es : List Entry) → AreInOrder es → AreInOrder (put_entry p k es)
 sorted_entry p k [] h = parts_sorted p [] tt h

@@ -1,5 +1,5 @@
 -- What the groups of a family tell, and that the admitted rules with one destination are those of its group.
-use Rattle.fs_flows.proofs.{Words.{◌≡◌, refl, sym, ap, ap₂, ◌∙◌, subst, Bool, true, false, cond, List, [], ◌∷◌, ◌++◌, filter, Option, Some, None, Ordering, Less, Equal, Greater, is_eq, ℕ, length, ◌≤◌, ◌<◌, ◌^◌, arith, append-nil, AllByRecursion, is_at, keys_of, lookup, unwrap_or, ordering_reverse, sorted_head, sorted_tail, Family, Prefix, prefix_cmp, prefix_total, each_both, filter_all, filter_none, filter-append, each_filtered, Kept, is_to, AreSorted, chosen, is_chosen, routes_of, Entry, kept_in, IsTo, ArePlaced, AreInOrder, IsGrouped, IsSound, AreLent, chosen_in, group_at, admitted}, Apart.{each_front, each_back, to_cmp}, Noting.{is_to_by}, Grouping.{chosen_now}, PuttingInGroups.{sorted_groups, sorted_rest}, TakingFromGroups.{length-filter, other_keys}}
+use Rattle.fs_flows.proofs.{Words.{◌≡◌, refl, sym, ap, ap₂, ◌∙◌, subst, Bool, true, false, cond, List, [], ◌∷◌, ◌++◌, filter, Option, Some, None, Ordering, Less, Equal, Greater, is_eq, ℕ, length, arith, append-nil, AllByRecursion, is_at, keys_of, lookup, unwrap_or, ordering_reverse, sorted_head, sorted_tail, Family, Prefix, prefix_cmp, prefix_total, each_both, filter_all, filter_none, filter-append, each_filtered, Kept, is_to, AreSorted, chosen, is_chosen, routes_of, Entry, kept_in, IsTo, ArePlaced, AreInOrder, IsGrouped, IsSound, AreLent, chosen_in, group_at}, Apart.{each_front, each_back, to_cmp}, Noting.{is_to_by}, Grouping.{chosen_now}, PuttingInGroups.{sorted_groups, sorted_rest}, TakingFromGroups.{length-filter, other_keys}}
 
 is_eq_back : (p q : Prefix) → is_eq (prefix_cmp q p) ≡ is_eq (prefix_cmp p q)
 is_eq_back p q = ap is_eq (prefix_total.antisymm q p) ∙ turned (prefix_cmp p q) where

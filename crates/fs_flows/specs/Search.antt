@@ -1,5 +1,5 @@
 -- Groups found by their destination, and what validating their routes anew does.
-use Rattle.std.specs.{Prelude.{◌≡◌, ℕ, ◌+◌, ◌≤◌, ◌⊎◌, Bool, true, false, Option, Some, None, List, [], ◌∷◌, map, length, MatchOption, if◌then◌else◌}, BTreeMap.{BTreeMap}, List.{list_any, AllByRecursion}, Ordering.{is_eq, is_lt, is_le}}
+use Rattle.std.specs.{Prelude.{◌≡◌, ℕ, ◌+◌, ◌≤◌, ◌⊎◌, Bool, true, Option, Some, None, List, [], ◌∷◌, map, length, MatchOption, if◌then◌else◌}, BTreeMap.{BTreeMap}, List.{list_any, AllByRecursion}, Ordering.{is_eq, is_lt, is_le}}
 use Rattle.fs_base.specs.{declared.{config.Config.{Config}, prefix.Prefix.{Prefix}}, Prefix.{prefix_cmp}}
 use Rattle.fs_unicast.specs.{Unicast.{Route, IsSwap}, declared.unicast.Swap.{Swap}}
 use Rattle.fs_validate.specs.Laws.{is_related}

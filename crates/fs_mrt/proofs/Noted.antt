@@ -1,11 +1,11 @@
 -- What is noted of a record takes its octets.
-use Rattle.fs_mrt.proofs.{Words.{◌≡◌, ℕ, List, Option, Some, None, Bool, true, false, ◌≤◌, ◌<◌, ◌+◌, ◌-◌, ◌*◌, ◌++◌, length, length-append, take, arith, got, Takes, whole, Scanner, and, field, gives, skips, Peer, front_in, ends_size, states_size, heard_in, head_of, DumpReason, address_of, address_size, number_at, Front, Head}, Written.{FrontSpelled, HeardSpelled, front_spells, heard_spells}}
+use Rattle.fs_mrt.proofs.{Words.{◌≡◌, ℕ, List, Option, Some, None, ◌≤◌, ◌+◌, ◌-◌, ◌*◌, ◌++◌, length, length-append, take, arith, got, Takes, whole, field, gives, skips, Peer, front_in, ends_size, states_size, heard_in, head_of, address_of, address_size, number_at, Front, Head}, Written.{FrontSpelled, HeardSpelled, front_spells, heard_spells}}
 use Rattle.std.specs.Prelude.{drop, ⊤}
 use Rattle.std.proofs.lemmas.List.{length-take}
 use Rattle.byteorder.specs.Endian.{big_number}
 use Rattle.fs_base.specs.declared.config.Address.{Address}
 use Rattle.fs_input.{proofs.Spelling.{Part, Spells, and_spells, field_spells, gives_spells, part_spells, skips_spells, weaker_spells}, specs.Coming.{part_in}}
-use Rattle.fs_mrt.specs.{Notes.{note_behind, note_body, note_ends, note_headed, note_record, spoke}, declared.{notes.{Note.{Note, TheVariants.{Skipped}}, Notes.{Notes}}, shape.Shape.{Shape as RecordShape}}}
+use Rattle.fs_mrt.specs.{Notes.{note_behind, note_body, note_ends, note_record, spoke}, declared.{notes.{Note.{Note, TheVariants.{Skipped}}, Notes.{Notes}}, shape.Shape.{Shape as RecordShape}}}
 
 abbrev Any : {A : Type 0} → A → List ℕ → Type 0
 Any value octets = ⊤

@@ -1,6 +1,6 @@
 -- What the readers of bodies have found, at each of their ends.
-use Rattle.fs_nlri.proofs.{Words.{◌≡◌, ℕ, zero, suc, ◌+◌, ◌-◌, ◌*◌, ◌%◌, ◌^◌, ◌<◌, ◌≤◌, List, [], ◌∷◌, Option, Some, length, get_or, take, drop, refl, ap, sym, subst, ◌∙◌, arith, take_all, length-take-le, pow-add, pow_pos, mul-lt-mul_of_pos_right, mod-eq_of_lt, pow-le-pow_right, pow-succ', big_number, big_from-lt, NoFront, IsCut, IsFirstFault, cleared, cut_as, fault_as, Kind, IsText, all_said, Form, V4Form, V6Form, ListForm, kept_bits, V6Body, ListBody, SpellsV6, SpellsList, IsRange, octets_for, IsBody, IsBodyFault, list_fault}, Bodies.{v4_length, v4_cut, v6_length, v6_one, v6_offset, v6_cut}}
-use Rattle.fs_ops.specs.{OperatorList.{Spells as SpellsPairs}, Fault.{CanBeWide, IsFault}, declared.fault.OpsFault.{OpsFault, TheVariants.{Cut, Width, Memory}}}
+use Rattle.fs_nlri.proofs.{Words.{◌≡◌, ℕ, zero, suc, ◌+◌, ◌-◌, ◌*◌, ◌%◌, ◌^◌, ◌<◌, ◌≤◌, List, [], ◌∷◌, Option, length, get_or, take, drop, refl, ap, sym, subst, ◌∙◌, arith, take_all, length-take-le, pow-add, pow_pos, mul-lt-mul_of_pos_right, mod-eq_of_lt, pow-le-pow_right, pow-succ', big_number, big_from-lt, NoFront, IsCut, IsFirstFault, cleared, cut_as, fault_as, Kind, IsText, all_said, Form, V4Form, V6Form, ListForm, kept_bits, V6Body, ListBody, SpellsV6, IsRange, octets_for, IsBody, IsBodyFault, list_fault}, Bodies.{v4_length, v4_cut, v6_length, v6_one, v6_offset, v6_cut}}
+use Rattle.fs_ops.specs.{Fault.{IsFault}, declared.fault.OpsFault.{OpsFault, TheVariants.{Cut, Width, Memory}}}
 
 pub none_left : (form : Form) → NoFront (IsBody form) [] × IsCut (IsBody form) [] 0 → (octets : List ℕ) → length octets < 1 → NoFront (IsBody form) octets × IsCut (IsBody form) octets 0
 none_left form empty [] none = empty

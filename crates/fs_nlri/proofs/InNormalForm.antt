@@ -1,4 +1,4 @@
-use Rattle.fs_nlri.proofs.Words.{◌≡◌, ℕ, ◌==◌, Bool, true, false, if◌then◌else◌, ◌&&◌, ◌||◌, List, [], ◌∷◌, Option, Some, None, Ok, Err, refl, ap, sym, ◌∙◌, inl, inr, ◌⊎◌, length, nat_le, nat_lt, and_from, lt-ltb, le-leb, eq-eqb, or_first, or_second, Family, V4, V6, TooLong, Form, V4Form, V6Form, ListForm, form_of, Body, V4Body, V6Body, ListBody, Part, part, ruled, IsRange, IsNormalBody, IsNormalAt, AreNormal, canonical_value, is_range, body_given, given_at, part_given, all_given, rises, cleared_body, cleared_at, cleared_part, cleared_parts, rule_of}
+use Rattle.fs_nlri.proofs.Words.{◌≡◌, ℕ, ◌==◌, true, if◌then◌else◌, ◌&&◌, ◌||◌, List, [], ◌∷◌, Option, Some, None, Ok, Err, refl, ap, sym, ◌∙◌, inl, inr, length, nat_le, nat_lt, and_from, lt-ltb, le-leb, eq-eqb, or_first, or_second, Family, V4, V6, TooLong, Form, V4Form, V6Form, ListForm, form_of, Body, V4Body, V6Body, ListBody, Part, part, ruled, IsRange, IsNormalBody, IsNormalAt, AreNormal, canonical_value, is_range, body_given, given_at, part_given, all_given, rises, cleared_body, cleared_at, cleared_part, cleared_parts, rule_of}
 
 -- Components that are in normal form are the family's, by rising types, and clearing changes nothing in them.
 

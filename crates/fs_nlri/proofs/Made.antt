@@ -1,5 +1,5 @@
 -- That components which are the family's, by rising types, are in normal form once the bits that it clears are cleared.
-use Rattle.fs_nlri.{proofs.{Words.{◌≡◌, ℕ, ◌-◌, ◌≤◌, ◌==◌, Bool, true, false, if◌then◌else◌, ◌&&◌, ◌||◌, List, [], ◌∷◌, Option, Some, None, map, bit_and, refl, ap, sym, subst, ◌∙◌, arith, inl, inr, length, nat_le, nat_lt, list_any, and_self, and_assoc, false≢true, and_parts, or_cases, ltb-true, leb-true, eqb-true, Family, V4, V6, cleared_again, width_code, with_bits, kept_is_normal, NotOfFamily, Form, V4Form, V6Form, ListForm, form_of, all_allowed, Body, V4Body, V6Body, ListBody, Part, ruled, IsRange, IsNormalBody, IsNormalAt, AreNormal, IsRule, canonical_value, is_range, body_given, given_at, part_given, all_given, rises, cleared_body, cleared_at, cleared_parts, IsTypedBody, IsTypedAt, AreTyped, fault_in}, NormalForm.{kept_again}}, specs.declared.fault.RuleFault.TheVariants.{Order}}
+use Rattle.fs_nlri.{proofs.{Words.{◌≡◌, ℕ, ◌-◌, ◌≤◌, ◌==◌, Bool, true, false, if◌then◌else◌, ◌&&◌, ◌||◌, List, [], ◌∷◌, Option, Some, None, map, refl, ap, sym, subst, ◌∙◌, arith, inl, inr, length, nat_le, nat_lt, list_any, false≢true, and_parts, or_cases, ltb-true, leb-true, eqb-true, Family, V4, V6, cleared_again, width_code, with_bits, kept_is_normal, NotOfFamily, Form, V4Form, V6Form, ListForm, form_of, all_allowed, Body, V4Body, V6Body, ListBody, Part, ruled, IsRange, IsNormalBody, IsNormalAt, AreNormal, IsRule, canonical_value, is_range, body_given, given_at, part_given, all_given, rises, cleared_body, cleared_at, cleared_parts, IsTypedBody, IsTypedAt, AreTyped, fault_in}, NormalForm.{kept_again}}, specs.declared.fault.RuleFault.TheVariants.{Order}}
 
 range_of : (len offset : ℕ) → is_range len offset ≡ true → IsRange len offset
 range_of len offset is =

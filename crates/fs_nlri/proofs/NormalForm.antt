@@ -1,5 +1,5 @@
 -- What octets spell is in normal form, and its canonical octets are as many as those.
-use Rattle.fs_nlri.proofs.Words.{◌≡◌, ℕ, zero, suc, ◌+◌, ◌-◌, ◌*◌, ◌/◌, ◌^◌, ◌≤◌, ◌==◌, ◌||◌, Bool, true, false, List, [], ◌∷◌, ◌++◌, Option, Some, None, length, Contains, bit_and, refl, ap, sym, subst, ◌∙◌, arith, length-append, list_any, and_self, and_assoc, eq-eqb, and_from, big_number, length-bytes_high_first, or_second, Family, IsOctets, cleared_again, octets_left, octets_right, octets_tail, Kind, width_code, IsNormal, kept_is_normal, spelled_normal, AreAllowed, spelled_allowed, canonical_size, kept_allowed, kept_size, Form, V4Form, V6Form, ListForm, form_of, kept_bits, all_allowed, Body, Part, SpellsV4, SpellsV6, SpellsList, SpellsBody, SpellsAt, Spells, octets_for, first_bits, IsNormalBody, IsNormalAt, AreNormal, first_octets, canonical_body, canonical_value}
+use Rattle.fs_nlri.proofs.Words.{◌≡◌, ℕ, zero, suc, ◌+◌, ◌-◌, ◌*◌, ◌/◌, ◌^◌, ◌≤◌, ◌==◌, true, List, [], ◌∷◌, ◌++◌, Option, Some, None, length, Contains, bit_and, refl, ap, sym, subst, ◌∙◌, arith, length-append, list_any, and_self, and_assoc, eq-eqb, and_from, big_number, length-bytes_high_first, or_second, Family, IsOctets, cleared_again, octets_left, octets_right, octets_tail, Kind, width_code, IsNormal, kept_is_normal, spelled_normal, AreAllowed, spelled_allowed, canonical_size, kept_allowed, kept_size, Form, V4Form, V6Form, ListForm, form_of, kept_bits, all_allowed, Body, Part, SpellsV4, SpellsV6, SpellsList, SpellsBody, SpellsAt, Spells, octets_for, first_bits, IsNormalBody, IsNormalAt, AreNormal, first_octets, canonical_body, canonical_value}
 use Rattle.fs_ops.specs.OperatorList.{canonical as canonical_pairs}
 
 -- a width that the list contains passes the test

@@ -1,5 +1,5 @@
 -- What the reader of a value has found when it stands before a type, and what follows from it at each of its ends.
-use Rattle.fs_nlri.proofs.{Words.{◌≡◌, ℕ, suc, ◌+◌, ◌-◌, ◌<◌, ◌≤◌, List, [], ◌∷◌, ◌++◌, Option, Some, None, IsSome, IsNone, length, get_or, take, drop, refl, ap, sym, subst, ◌∙◌, arith, append_assoc, length-append, append-nil, take-append-drop, take_all, take_rest, map-append, Family, NoFront, IsCut, IsFirstFault, fault_after, cut_after, Component, Reason, Cut, NoType, Order, PrefixLength, Offset, Width, Length, NlriFault, Bad, Memory, Form, form_of, Part, part_of, parts_of, SpellsAt, Spells, IsValue, IsTypePlace, IsBodyPlace, IsRole, IsValueBad, IsValueFault, moved, IsBody, IsFaultAt}, Fronts.{SpellsFront, front_whole, front_more, front_behind, front_leads}, ValueFaults.{kind_fault, body_fault, body_cut, no_value}}
+use Rattle.fs_nlri.proofs.{Words.{◌≡◌, ℕ, suc, ◌+◌, ◌-◌, ◌<◌, ◌≤◌, List, [], ◌∷◌, ◌++◌, Option, Some, None, IsSome, IsNone, length, get_or, take, drop, refl, ap, sym, subst, ◌∙◌, arith, append_assoc, length-append, append-nil, take-append-drop, take_all, take_rest, map-append, Family, NoFront, IsCut, IsFirstFault, fault_after, cut_after, Component, Reason, Cut, NoType, Order, PrefixLength, Offset, Width, NlriFault, Bad, Memory, Form, form_of, Part, part_of, parts_of, SpellsAt, Spells, IsValue, IsTypePlace, IsBodyPlace, IsRole, IsValueBad, IsValueFault, moved, IsBody, IsFaultAt}, Fronts.{SpellsFront, front_whole, front_more, front_behind, front_leads}, ValueFaults.{kind_fault, body_fault, body_cut, no_value}}
 
 -- these components stand before what is left
 pub record HasRead (family : Family) (octets rest : List ℕ) (last : ℕ) (parts : List Part) : Type 0 where

@@ -1,4 +1,4 @@
-use Rattle.fs_nlri.proofs.Words.{◌≡◌, ℕ, zero, suc, ◌+◌, ◌-◌, ◌*◌, ◌/◌, ◌^◌, ◌<◌, ◌≤◌, List, [], ◌∷◌, ◌++◌, Option, Some, None, All, length, take, refl, ap, sym, subst, ◌∙◌, arith, length-append, div-lt_iff_lt-mul, pow-suc, pow-add, pow_pos, take_at, take-take, All-nil, All-cons, Family, block_of, block_below, Component, Form, V4Form, V6Form, ListForm, form_of, Body, V4Body, V6Body, ListBody, part_of, parts_of, IsNormalBody, IsNormalAt, AreNormal, IsWritable}
+use Rattle.fs_nlri.proofs.Words.{◌≡◌, ℕ, zero, suc, ◌+◌, ◌-◌, ◌*◌, ◌/◌, ◌^◌, ◌<◌, ◌≤◌, List, [], ◌∷◌, ◌++◌, Option, Some, None, All, length, take, refl, ap, sym, subst, ◌∙◌, arith, length-append, div-lt_iff_lt-mul, pow-suc, pow-add, pow_pos, take_at, take-take, All-nil, All-cons, Family, block_of, block_below, Component, Form, V4Form, V6Form, form_of, Body, V4Body, V6Body, ListBody, part_of, parts_of, IsNormalBody, IsNormalAt, AreNormal, IsWritable}
 
 -- That the components of a rule can be written, and what stays in front while they are.
 

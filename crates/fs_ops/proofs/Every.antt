@@ -1,5 +1,5 @@
 -- Each octet list has exactly one outcome as the front of an operator list: a list of so many octets, or a cut, or an operator of a bad width.
-use Rattle.fs_ops.{proofs.{Words.{◌≡◌, ℕ, zero, suc, ◌-◌, ◌<◌, ◌≤◌, ◌==◌, List, [], ◌∷◌, ◌++◌, length, get_or, take, drop, refl, ap, sym, ◌∙◌, arith, ◌⊎◌, inl, inr, Any, Contains, Result, Ok, Err, bit_and, take-append-drop, length-drop, length-take, both_ways, cases_lt, cases_Bool, big_number, IsOctets, Kind, counted_bits, ends, width_code, width_of, IsText, Spells, IsFault}, Grammar.{same_list}, Found.{HasRead, said_at, cut_between, cut_within, bad_width, next_found, goes_on, ends_here}}, specs.declared.fault.OpsFault.{OpsFault, TheVariants.{Cut, Width, Memory}}}
+use Rattle.fs_ops.{proofs.{Words.{◌≡◌, ℕ, zero, suc, ◌-◌, ◌<◌, ◌≤◌, ◌==◌, List, [], ◌∷◌, ◌++◌, length, take, drop, refl, ap, sym, ◌∙◌, arith, ◌⊎◌, inl, inr, Any, Contains, Result, Ok, Err, take-append-drop, length-drop, length-take, both_ways, cases_lt, cases_Bool, IsOctets, Kind, ends, width_code, width_of, IsText, Spells, IsFault}, Grammar.{same_list}, Found.{HasRead, said_at, cut_between, cut_within, bad_width, next_found, goes_on, ends_here}}, specs.declared.fault.OpsFault.{OpsFault, TheVariants.{Cut, Width, Memory}}}
 use Rattle.std.{proofs.lemmas.Map.Made.{is_member-Decides}, specs.{Cmp.{unsigned_Decides}, Set.{is_member}}}
 use Rattle.fs_base.proofs.Languages.{one_fault, cut_or_fault}
 

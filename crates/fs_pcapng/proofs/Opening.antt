@@ -1,5 +1,5 @@
 -- The first block of a capture, octets of which may have been put back.
-use Rattle.fs_pcapng.proofs.{Words.{◌≡◌, ◌≢◌, inl, inr, ℕ, List, [], ◌++◌, Bool, true, false, Option, Some, None, Result, Ok, Err, IsTrue, ◌<◌, ◌≤◌, ◌==◌, ◌&&◌, not, length, take, refl, ap, sym, ◌∙◌, subst, arith, if◌then◌else◌, nat_le, unwrap_or, nat_tests, at_limit, window, Counted, End, bad, done, limited, Fault, Read, Limit, Bad, only_told, Scanner, Takes, Calls, Fails, HasMore, Reads, ahead, end_of, ends_by, whole, and, and_then, field, gives, got, partial, gives_for, reads_as, reads_ends, reads_then, big_number, Endian, Packet, Stands, block_in, kind_behind, opened, section_in, nothing, NgReason, Cut}, Bodies.{header_kind}, Spelled.{block_takes}}
+use Rattle.fs_pcapng.proofs.{Words.{◌≡◌, inl, inr, ℕ, List, [], ◌++◌, Bool, true, false, Option, Some, None, Result, Ok, Err, IsTrue, ◌<◌, ◌≤◌, ◌==◌, ◌&&◌, not, length, take, refl, ap, sym, ◌∙◌, subst, arith, if◌then◌else◌, nat_le, unwrap_or, nat_tests, at_limit, window, Counted, End, bad, done, limited, Fault, Read, Limit, Bad, only_told, Scanner, Takes, Calls, Fails, HasMore, Reads, ahead, end_of, ends_by, whole, and, and_then, field, gives, got, partial, gives_for, reads_as, reads_ends, reads_then, big_number, Endian, Packet, Stands, block_in, kind_behind, opened, section_in, nothing, NgReason, Cut}, Bodies.{header_kind}, Spelled.{block_takes}}
 use Rattle.fs_base.specs.Files.{LeavesOthers}
 use Rattle.fs_input.{proofs.{Advancing.{part_advances}, Again.{ahead_here, ahead_other, nothing_ahead, reads_ahead}, Coming.{end_comes}}, specs.{Coming.{Chain, told_to_come}, Opening.{Begins}}}
 

@@ -1,6 +1,6 @@
 -- The packets of a capture, each with its own time: the moment that it has where no packet stands before it. A simple
 -- packet's time is 0.
-use Rattle.std.specs.Prelude.{ℕ, List, [], Option, Some, None, Result, ◌==◌, ◌&&◌, not, if◌then◌else◌, length}
+use Rattle.std.specs.Prelude.{ℕ, List, [], Option, ◌==◌, ◌&&◌, not, if◌then◌else◌, length}
 use Rattle.fs_base.specs.Parts.{at_limit, window}
 use Rattle.fs_input.specs.{Coming.{told_to_come}, Records.{End, bad}, Scan.{Scanner}}
 use Rattle.fs_pcapng.specs.{Block.{Packet, Stands, block_in}, Pcapng.{NgState, nothing}, declared.fault.NgReason.{NgReason, TheVariants.{Cut}}}

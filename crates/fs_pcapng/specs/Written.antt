@@ -1,7 +1,7 @@
 -- A block as it stands in a capture, field by field (the pcapng draft's sections 'General Block Structure', 'Section
 -- Header Block', 'Interface Description Block', 'Options', 'Enhanced Packet Block' and 'Simple Packet Block'), and what it
 -- gives.
-use Rattle.std.specs.{Prelude.{ℕ, List, [], ◌∷◌, ◌++◌, Option, Some, None, Bool, true, false, ◌≡◌, ◌≤◌, ◌<◌, ◌+◌, ◌*◌, ◌%◌, ◌==◌, ◌&&◌, length, max, flat_map, slice_get, slice_index, if◌then◌else◌}, List.{AllByRecursion}}
+use Rattle.std.specs.{Prelude.{ℕ, List, [], ◌∷◌, ◌++◌, Option, Some, None, false, ◌≡◌, ◌≤◌, ◌<◌, ◌+◌, ◌*◌, ◌%◌, ◌==◌, ◌&&◌, length, max, flat_map, slice_get, slice_index, if◌then◌else◌}, List.{AllByRecursion}}
 use Rattle.byteorder.specs.Endian.{big_number}
 use Rattle.fs_pcap.specs.{Head.{longest_record}, Order.{number}, declared.order.Endian.{Endian}}
 use Rattle.fs_pcapng.specs.{Block.{Packet, Stands, behind_packet, cut_to, kind_of, opened, order_of, packet, section_header, with_interface}, Options.{padded}, Time.{time_of}, declared.{block.Kind.{Kind, TheVariants.{Described, Enhanced, Simple, Other}}, section.Interface.{Interface}}}

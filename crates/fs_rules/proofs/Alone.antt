@@ -1,5 +1,5 @@
 -- That a route between those of other rules is the only one of its rule.
-use Rattle.fs_rules.proofs.{Words.{ℕ, zero, suc, ◌≡◌, ◌+◌, ◌-◌, ◌<◌, refl, sym, ap, subst, ◌∙◌, Bool, true, false, true≢false, not, ◌&&◌, ◌||◌, List, [], ◌∷◌, length, slice_get, drop, Some, Ordering, Less, Equal, Greater, is_lt, nat_cmp, arith, AllByRecursion, ordering_then, is_gt, tied_itself, nat_tests, get_or_from_slice_get, false_of_not, each_of_map, each_weaker, rule_total, preferred, preference_total, Kept, key_cmp, is_valid, same_rule, beats, routes_of, AreSorted, place_in, is_beaten, is_apart, is_before_rule, NotBefore, not_after_later}, Stepping.{rest_is}, Runs.{run_ends, beaten_from, sorted-drop, starts_at, starts_first}}
+use Rattle.fs_rules.proofs.{Words.{ℕ, zero, suc, ◌≡◌, ◌+◌, ◌-◌, ◌<◌, refl, sym, ap, subst, ◌∙◌, Bool, true, false, true≢false, ◌&&◌, ◌||◌, List, [], ◌∷◌, length, slice_get, drop, Some, Ordering, Less, Equal, Greater, is_lt, nat_cmp, arith, AllByRecursion, ordering_then, is_gt, tied_itself, nat_tests, get_or_from_slice_get, false_of_not, each_of_map, each_weaker, rule_total, preferred, preference_total, Kept, key_cmp, is_valid, same_rule, beats, routes_of, AreSorted, place_in, is_beaten, is_apart, is_before_rule, NotBefore, not_after_later}, Stepping.{rest_is}, Runs.{run_ends, beaten_from, sorted-drop, starts_at, starts_first}}
 
 -- no route is preferred to itself
 itself : (k : Kept) (rest : Bool) → ((is_valid k.validity && beats k.route k.route) || rest) ≡ rest

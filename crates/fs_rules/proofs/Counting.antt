@@ -1,5 +1,5 @@
 -- How many routes a peer holds, and the counts of them.
-use Rattle.fs_rules.proofs.{Words.{◌≡◌, ℕ, ◌+◌, ◌-◌, refl, sym, ap, ap₂, ◌∙◌, Bool, true, false, true≢false, not, ◌&&◌, ◌||◌, ◌==◌, cond, if◌then◌else◌, List, [], ◌∷◌, length, filter, Some, is_some, Ordering, Less, Equal, Greater, is_eq, nat_cmp, arith, nat_tests, insert_entry, is_at, IsTotalOrder, AllByRecursion, IsStrictlySortedBy, lookup, remove_entry, keys_of, match_ordering, ordering_then, sorted_head, sorted_tail, Config, Path, Prefix, prefix_cmp, each, each_weaker, each_none, filter_all, equal_of_is_eq, is_eq_of_nats, Ruled, place_total, IsSwapOf, Route, Swap, place_cmp, put_path, take_path, has_path, FlowRoute, Held, held_count, without_peer, key_cmp, is_key, put_route, without_route, has_route, without_peer_unicast, without_peer_flows, count_in, AreSorted, Counts, count_of, flow_total}, Chosen.{held_of, with_flows}}
+use Rattle.fs_rules.proofs.{Words.{◌≡◌, ℕ, ◌+◌, ◌-◌, refl, sym, ap, ap₂, ◌∙◌, Bool, true, false, true≢false, not, ◌&&◌, ◌||◌, ◌==◌, cond, if◌then◌else◌, List, [], ◌∷◌, length, filter, Some, is_some, Ordering, Less, Equal, Greater, is_eq, nat_cmp, arith, nat_tests, insert_entry, is_at, IsTotalOrder, AllByRecursion, IsStrictlySortedBy, lookup, remove_entry, keys_of, match_ordering, ordering_then, sorted_head, sorted_tail, Config, Path, Prefix, prefix_cmp, each_weaker, each_none, filter_all, equal_of_is_eq, is_eq_of_nats, Ruled, place_total, IsSwapOf, Route, Swap, place_cmp, put_path, take_path, has_path, FlowRoute, Held, held_count, without_peer, key_cmp, is_key, put_route, without_route, has_route, without_peer_unicast, without_peer_flows, count_in, AreSorted, Counts, count_of, flow_total}, Chosen.{held_of, with_flows}}
 use Rattle.fs_base.proofs.NumberTests.{eq_itself}
 
 above : {K : Type 0} {cmp : K → K → Ordering} (total : IsTotalOrder cmp) (k p : K) (qs : List K) → cmp k p ≡ Less → AllByRecursion (λ q. cmp p q ≡ Less) qs → AllByRecursion (λ q. cmp k q ≡ Less) qs

@@ -1,5 +1,5 @@
 -- The prefixes at which peers gave unicast routes, and the routes that are taken away along them.
-use Rattle.fs_rules.proofs.{Words.{ℕ, ◌≡◌, ◌≤◌, ◌+◌, refl, sym, ap, subst, ◌∙◌, Bool, true, false, true≢false, not, ◌||◌, ◌==◌, cond, List, [], ◌∷◌, length, Some, is_some, Ordering, Less, Equal, Greater, is_eq, nat_cmp, arith, IsTotalOrder, IsStrictlySortedBy, keys_of, lookup, remove_entry, ordering_then, nat_tests, sorted_head, sorted_tail, Config, Path, Prefix, prefix_cmp, each_weaker, each_both, each_of_map, each_insert, each_remove, filter_all, same_from_cmp, equal_of_is_eq, is_eq_of_first, Place, Route, place_cmp, put_path, has_path, place_total, place, Counts, count_of, may_hold, StaysHeld, AreHeld, AreAmong, IsKept, routes_of, Kept, Held, without_peer_unicast, related_count, remove_nothing}, Chosen.{with_unicast}, Counting.{counted_as}, Losing.{is_place, peers_equal, Hit, hit_at, IsLosing, losing_more}}
+use Rattle.fs_rules.proofs.{Words.{ℕ, ◌≡◌, ◌≤◌, ◌+◌, refl, sym, ap, subst, ◌∙◌, Bool, true, false, true≢false, not, ◌||◌, ◌==◌, cond, List, [], ◌∷◌, Some, is_some, Ordering, Less, Equal, Greater, is_eq, nat_cmp, arith, IsTotalOrder, IsStrictlySortedBy, keys_of, lookup, remove_entry, ordering_then, nat_tests, sorted_head, sorted_tail, Config, Path, Prefix, prefix_cmp, each_weaker, each_both, each_of_map, each_insert, each_remove, filter_all, same_from_cmp, equal_of_is_eq, is_eq_of_first, Place, Route, place_cmp, put_path, has_path, place_total, place, Counts, count_of, may_hold, StaysHeld, AreHeld, AreAmong, IsKept, routes_of, Kept, Held, without_peer_unicast, related_count, remove_nothing}, Chosen.{with_unicast}, Counting.{counted_as}, Losing.{is_place, peers_equal, Hit, hit_at, IsLosing, losing_more}}
 use Rattle.std.proofs.lemmas.Bool.{eqb-true}
 use Rattle.fs_flows.specs.Listed.{is_among}
 

@@ -1,5 +1,5 @@
 -- Where no validity changes nothing is noted.
-use Rattle.fs_rules.proofs.{Words.{ℕ, ◌≡◌, refl, sym, ap, subst, ◌∙◌, List, [], ◌∷◌, AllByRecursion, Config, Prefix, each_both, each_of_map, Route, validity, FlowRoute, Kept, Held, Noted, IsRight, IsRightAt, AreRight, routes_of, without_path, ValiditiesStay, StayAlong, StayThroughout}, Chosen.{held_of}}
+use Rattle.fs_rules.proofs.{Words.{ℕ, ◌≡◌, refl, sym, subst, ◌∙◌, List, [], ◌∷◌, AllByRecursion, Config, Prefix, each_both, each_of_map, Route, validity, FlowRoute, Kept, Held, Noted, IsRight, IsRightAt, AreRight, routes_of, without_path, ValiditiesStay, StayAlong, StayThroughout}, Chosen.{held_of}}
 
 -- what was right over the earlier unicast routes is so over the later ones
 pub stay_right : (p : Prefix) (config : Config) (unicast other : List Route) (ks : List Kept) (flows : List FlowRoute) (old : Held) → held_of config unicast (routes_of ks) ≡ old → AreRight unicast config ks

@@ -1,5 +1,5 @@
 -- The parts of the words of prefixes, and the prefixes that are read of them.
-use Rattle.fs_text.{proofs.{Words.{append_assoc, ◌≡◌, ℕ, ◌+◌, ◌-◌, ◌*◌, ◌/◌, ◌%◌, ◌^◌, ◌<◌, ◌≤◌, ◌==◌, List, [], ◌∷◌, ◌++◌, Bool, true, false, Option, Some, None, if◌then◌else◌, refl, sym, ap, ◌∙◌, subst, arith, ⊎_elim, decimal, AllByRecursion, append-nil, pow_pos, pow-add, div-div-eq-div-mul, div-le_self, mod-eq_of_lt, mod-lt, mul-div_cancel, mul_assoc, eqb-true, none-some, some_pair_parts, Family, V4Form, V6Form, Body, V4Body, V6Body, ListBody, IsNormalBody, hexadecimal, groups_text, offset_text, v6_text, wide_address_text, body_text, Run, Delimiter, is_plain, parts_of, GivesV4, GivesV6, offset_parts, range_parts, wide_parts}, Numerals.{plain_digits}, WordParts.{IsRun, one_run, run_decimal, run_mark, v4_runs}}, specs.Pieces.{Part}}
+use Rattle.fs_text.{proofs.{Words.{append_assoc, ◌≡◌, ℕ, ◌+◌, ◌-◌, ◌*◌, ◌/◌, ◌%◌, ◌^◌, ◌<◌, ◌≤◌, ◌==◌, List, [], ◌∷◌, ◌++◌, Bool, true, false, Option, Some, None, if◌then◌else◌, refl, sym, ap, ◌∙◌, subst, arith, ⊎_elim, decimal, AllByRecursion, append-nil, pow_pos, pow-add, div-div-eq-div-mul, div-le_self, mod-eq_of_lt, mod-lt, mul-div_cancel, mul_assoc, eqb-true, none-some, some_pair_parts, Family, V4Form, V6Form, Body, V4Body, V6Body, IsNormalBody, hexadecimal, groups_text, offset_text, v6_text, wide_address_text, body_text, Run, Delimiter, is_plain, parts_of, GivesV4, GivesV6, offset_parts, range_parts, wide_parts}, Numerals.{plain_digits}, WordParts.{IsRun, one_run, run_decimal, run_mark, v4_runs}}, specs.Pieces.{Part}}
 use Rattle.std.specs.{Int.{to_be_bytes, w128}, Net.Addr.{segments_of}}
 use Rattle.fs_base.specs.Bits.{IsBlock, block_below, block_of, cleared}
 use Rattle.fs_nlri.specs.Spelling.{IsRange}

@@ -1,5 +1,5 @@
 -- What is answered of whole words, and of texts.
-use Rattle.fs_text.{proofs.{Words.{◌≡◌, ◌⊎◌, ⊎_elim, ℕ, ◌+◌, ◌<◌, List, [], ◌∷◌, ◌++◌, zero, suc, map, Result, Ok, Err, drop, length, refl, sym, ap, subst, ◌∙◌, arith, codes, IsErrAnd, join_with_byte, map-append, join_with_byte-slice_split, Family, Component, part_of, Part, Ruled, ruled, IsRule, text_of, words_of, Acts, AreAll, Led, IsActionFault, IsNextPart, IsNoEnd, IsPartFault, AreActions, IsBadWord, IsWhole, IsWordFault, Makes, ReadsAs, ReadsWords, words_in, Bad, TooLong, Memory}, Acted.{acts_first, bad_action_name, bad_action_value, no_action}, Led.{bad_part_name, bad_part_value, led_next, never_bad, no_words, whole_parts}, Spaceless.{words_back}}, specs.declared.fault.TextFault.{TextFault}}
+use Rattle.fs_text.{proofs.{Words.{◌≡◌, ◌⊎◌, ⊎_elim, ℕ, ◌+◌, ◌<◌, List, [], ◌∷◌, ◌++◌, zero, suc, map, Result, Ok, Err, drop, length, refl, sym, ap, subst, ◌∙◌, arith, codes, IsErrAnd, join_with_byte, map-append, join_with_byte-slice_split, Family, Component, part_of, Part, Ruled, IsRule, text_of, words_of, Acts, AreAll, Led, IsActionFault, IsNextPart, IsNoEnd, IsPartFault, AreActions, IsBadWord, IsWhole, IsWordFault, ReadsAs, ReadsWords, words_in, Bad, TooLong, Memory}, Acted.{acts_first, bad_action_name, bad_action_value, no_action}, Led.{bad_part_name, bad_part_value, led_next, never_bad, no_words, whole_parts}, Spaceless.{words_back}}, specs.declared.fault.TextFault.{TextFault}}
 use Rattle.std.specs.Prelude.{IfOk}
 use Rattle.fs_nlri.specs.Component.{parts_of}
 

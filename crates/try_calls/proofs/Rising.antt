@@ -1,5 +1,5 @@
 -- How a put changes the counts that bound the steps.
-use Rattle.std.{proofs.Common.{ℕ, ◌≡◌, ◌+◌, ◌≤◌, refl, sym, subst, Bool, true, false, ◌==◌, cond, List, [], ◌∷◌, ◌++◌, length, filter, Option, Ordering, Less, Equal, Greater, arith}, specs.{BTreeMap.{insert_entry}, Ordering.{match_ordering}}}
+use Rattle.std.{proofs.Common.{ℕ, ◌≡◌, ◌+◌, ◌≤◌, sym, subst, Bool, true, false, ◌==◌, cond, List, [], ◌∷◌, length, filter, Option, Ordering, Less, Equal, Greater, arith}, specs.{BTreeMap.{insert_entry}, Ordering.{match_ordering}}}
 use Rattle.fs_base.specs.declared.{prefix.Prefix.{Prefix}, path.Path.{Path}}
 use Rattle.fs_unicast.specs.{Unicast.{Route, place_cmp}, declared.unicast.Place.{Place}}
 use Rattle.fs_nlri.specs.Rule.{destination_prefix}

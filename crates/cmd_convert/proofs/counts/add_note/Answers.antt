@@ -1,4 +1,4 @@
-use Rattle.cmd_convert.proofs.{Words.{rules, ap, ℕ, ◌+◌, ◌≡◌, ◌∙◌, ◌++◌, ◌∷◌, [], Some, None, sym}, Surveying.{place_none, place_some}}
+use Rattle.cmd_convert.proofs.{Words.{rules, ap, ℕ, ◌+◌, ◌≡◌, ◌∙◌, ◌++◌, ◌∷◌, [], Some, None}, Surveying.{place_none, place_some}}
 use Rattle.std.specs.Prelude.{slice_index_or, slice_set}
 use Rattle.cmd_convert.specs.{Survey.{note_count, note_place, weight}}
 use Rattle.cmd_convert.proofs.counts.add_note.Goals as goal

@@ -1,4 +1,4 @@
-use Rattle.cmd_enforce.proofs.{Words.{◌≡◌, ◌⊎◌, inl, inr, ◌∙◌, ℕ, List, [], ap, refl, subst, sym, le_trans, Config, Desked, AnswersAt, WroteJudged, packets_of, Rose, Grew-refl, Grew-trans, Grew, arith, opened_due, openings_of, refused_at, Captured, coming, recorded, Names, tape_stage, Found, answered, EnforcesSo, capture_stage, answered_err, ends_early, accepted_stage, either_rose, rose_earlier}, Enforcing.{all_to_come, answers_opened, answers_so, config_ends, found_in, is_second, never_tape, none_judged, tape_ends, unfinished_so, whole_played, wrote_none, wrote_under}, AtMoments.{packet_no_tape, packet_wants_none, unplayed_no_tape}}
+use Rattle.cmd_enforce.proofs.{Words.{◌≡◌, ◌⊎◌, inl, inr, ◌∙◌, ℕ, List, [], ap, refl, subst, sym, le_trans, Desked, Rose, Grew-refl, Grew-trans, Grew, arith, opened_due, openings_of, refused_at, coming, recorded, Found, EnforcesSo, capture_stage, answered_err, ends_early, accepted_stage, either_rose, rose_earlier}, Enforcing.{all_to_come, answers_opened, answers_so, config_ends, found_in, is_second, never_tape, none_judged, tape_ends, unfinished_so, whole_played, wrote_none, wrote_under}, AtMoments.{packet_no_tape, packet_wants_none, unplayed_no_tape}}
 use Rattle.cmd_enforce.proofs.command.enforce.Goals as goal
 
 pub returns-in_err-config-clause-enforces : goal.returns-in_err-config-clause-enforces

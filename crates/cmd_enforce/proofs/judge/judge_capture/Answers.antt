@@ -1,4 +1,4 @@
-use Rattle.cmd_enforce.proofs.{Words.{◌≡◌, ◌⊎◌, ◌∙◌, inr, ap, le_refl, refl, subst, sym, Rose, Grew-refl, coming, recorded, PlayerState, Stands, Found, answered, Memory, answered_err, finished_by, rose_earlier, IsCompiled, IsOfPackets, AnswersAt, WroteJudged}, Enforcing.{answers_under, memory_of_packets, moments_finished, none_by_memory, outside_of_packets, rose_wider, wrote_judged, wrote_none, wrote_under}, AtMoments.{stands_at}}
+use Rattle.cmd_enforce.proofs.{Words.{◌≡◌, ◌∙◌, inr, ap, le_refl, refl, subst, sym, Grew-refl, PlayerState, Stands, answered, Memory, answered_err, finished_by, rose_earlier, IsCompiled, IsOfPackets}, Enforcing.{answers_under, memory_of_packets, moments_finished, none_by_memory, outside_of_packets, rose_wider, wrote_judged, wrote_none, wrote_under}, AtMoments.{stands_at}}
 use Rattle.cmd_enforce.proofs.judge.judge_capture.Goals as goal
 
 pub returns-in_err-buffer-clause-judges : goal.returns-in_err-buffer-clause-judges

@@ -1,6 +1,6 @@
 use Rattle.cmd_enforce.proofs.{Words.{◌≡◌, ◌≤◌, ◌∙◌, ℕ, List, IsTrue, End, ap, sym, subst, arith, rules, with_part, CaptureReason}, Surveying.{few_fit, with_few}}
 use Rattle.std.specs.List.{AllByRecursion}
-use Rattle.cmd_enforce.specs.{Stamps.{all_noted, noted, stamps_coming, with_packet}, Survey.{Tallied}, declared.{stamps.Stamp.{Stamp}, tally.LinkCount.{LinkCount}}}
+use Rattle.cmd_enforce.specs.{Stamps.{all_noted, noted, stamps_coming}, Survey.{Tallied}, declared.{stamps.Stamp.{Stamp}, tally.LinkCount.{LinkCount}}}
 use Rattle.cmd_enforce.proofs.survey.count_packets.Goals as goal
 
 pub packets-preserved : goal.packets-preserved

@@ -1,4 +1,4 @@
-use Rattle.cmd_enforce.proofs.{Words.{rules, ◌≡◌, ◌∙◌, ◌++◌, ◌∷◌, [], Some, None, sym}, Surveying.{place_none, place_some}}
+use Rattle.cmd_enforce.proofs.{Words.{rules, ◌≡◌, ◌∙◌, ◌++◌, ◌∷◌, [], Some, None}, Surveying.{place_none, place_some}}
 use Rattle.std.specs.Prelude.{slice_index_or}
 use Rattle.cmd_enforce.specs.{Stamps.{link_place}, Survey.{link_count}}
 use Rattle.cmd_enforce.proofs.tally.add_packet.Goals as goal

@@ -1,4 +1,4 @@
-use Rattle.cmd_gen.proofs.Words.{◌≡◌, ◌⊎◌, inl, inr, ℕ, ◌+◌, List, [], ◌∷◌, refl, open_of}
+use Rattle.cmd_gen.proofs.Words.{◌≡◌, ◌⊎◌, inl, inr, ℕ, ◌+◌, [], ◌∷◌, refl, open_of}
 use Rattle.cmd_gen.proofs.message.open_message.Goals as goal
 
 pub returns : goal.returns

@@ -1,4 +1,4 @@
-use Rattle.fs_buckets.proofs.{Words.{◌≡◌, ℕ, ◌≤◌, Option, Some, is_some, length, sym, ap, subst, ◌∙◌, arith, ◌+◌, ◌-◌, IfOk-weaker, splice, all_admitted, spans_of, AreTo, target_of, AreBucketsOf, HasStretch}, Replacing.{mended, none_stay, rules_size, same_stay, spans_size, subnet_to}, Stretching.{rest_bare}}
+use Rattle.fs_buckets.proofs.{Words.{◌≡◌, ℕ, Option, Some, is_some, length, sym, ap, subst, ◌∙◌, arith, ◌+◌, ◌-◌, IfOk-weaker, splice, all_admitted, spans_of, AreTo, target_of, AreBucketsOf, HasStretch}, Replacing.{mended, none_stay, rules_size, same_stay, spans_size, subnet_to}, Stretching.{rest_bare}}
 use Rattle.fs_buckets.proofs.mending.mended.Goals as goal
 
 pub returns-in_default : goal.returns-in_default

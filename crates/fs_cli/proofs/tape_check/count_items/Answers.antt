@@ -1,4 +1,4 @@
-use Rattle.fs_cli.proofs.{Words.{◌≡◌, ℕ, List, [], ◌∷◌, ◌++◌, subst, sym, ◌∙◌, arith, rules}, TapeChecking.{counting_done, counting_more}}
+use Rattle.fs_cli.proofs.{Words.{◌≡◌, ℕ, [], ◌∷◌, ◌++◌, subst, sym, ◌∙◌, arith, rules}, TapeChecking.{counting_done, counting_more}}
 use Rattle.fs_base.specs.Parts.{with_part}
 use Rattle.fs_tape.specs.Tape.{coming, item_from, timed}
 use Rattle.fs_cli.specs.TapeCheck.{CountsOf}

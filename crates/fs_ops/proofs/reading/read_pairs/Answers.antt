@@ -1,4 +1,4 @@
-use Rattle.fs_ops.proofs.{Words.{◌≡◌, ℕ, ◌-◌, ◌==◌, List, [], ◌∷◌, ◌++◌, length, take, drop, get_or, sym, subst, ◌∙◌, arith, Contains, both_ways, nil_from_length, width_of}, Found.{HasRead, NextPair, said_at, first_and_tail, cut_between, cut_within, bad_width, next_found, goes_on, ends_here}, reading.read_pairs.Goals.{After-is_last}}
+use Rattle.fs_ops.proofs.{Words.{◌≡◌, ℕ, ◌-◌, List, [], length, take, drop, get_or, sym, subst, ◌∙◌, arith, Contains, both_ways, nil_from_length, width_of}, Found.{HasRead, NextPair, first_and_tail, cut_between, cut_within, bad_width, next_found, goes_on, ends_here}, reading.read_pairs.Goals.{After-is_last}}
 use Rattle.fs_ops.proofs.reading.read_pairs.Goals as goal
 
 pub returns-then-not-allows-clause-fault : goal.returns-then-not-allows-clause-fault

@@ -1,4 +1,4 @@
-use Rattle.fs_ops.proofs.{Words.{◌≡◌, ℕ, ◌-◌, List, [], ◌∷◌, true, length, take, drop, get_or, refl, sym, subst, ◌∙◌, Contains, width_of}, Found.{HasRead, said_at, first_and_tail, next_found, ends_here}}
+use Rattle.fs_ops.proofs.{Words.{◌≡◌, ◌-◌, [], ◌∷◌, true, length, take, drop, get_or, refl, sym, subst, ◌∙◌, Contains, width_of}, Found.{HasRead, said_at, first_and_tail, next_found, ends_here}}
 use Rattle.fs_ops.proofs.reading.read_single.Goals as goal
 
 pub returns-clause-found : goal.returns-clause-found

@@ -1,4 +1,4 @@
-use Rattle.cmd_enforce.proofs.Words.{ap, subst, sym, ◌∙◌, Held, match_err}
+use Rattle.cmd_enforce.proofs.Words.{subst, sym, Held, match_err}
 use Rattle.fs_rules.specs.Changes.{Covers, Noted}
 use Rattle.cmd_enforce.proofs.following.Following.follow.Goals as goal
 

@@ -1,4 +1,4 @@
-use Rattle.cmd_stages.proofs.{Words.{◌≡◌, ◌∙◌, ℕ, List, Option, Some, ap, arith, subst, sym, with_items, with_items_is, with_part, Config, Desked, Plays, coming, item_from, timed, Gives}, Reading.{plays_noted}}
+use Rattle.cmd_stages.proofs.{Words.{◌≡◌, ◌∙◌, ℕ, List, Some, ap, arith, subst, sym, with_items, with_items_is, with_part, Config, Desked, Plays, coming, item_from, timed, Gives}, Reading.{plays_noted}}
 use Rattle.cmd_stages.proofs.items.ItemPlayer.play_next.Goals as goal
 
 pub returns-in_ok-play_item-in-Some-clause-played : goal.returns-in_ok-play_item-in-Some-clause-played

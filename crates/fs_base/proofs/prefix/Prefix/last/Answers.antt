@@ -1,4 +1,4 @@
-use Rattle.fs_base.proofs.{Words.{◌+◌, ◌<◌, ◌^◌, arith, width_of}, Blocks.{block_of, last_below}}
+use Rattle.fs_base.proofs.{Words.{arith, width_of}, Blocks.{block_of, last_below}}
 use Rattle.fs_base.proofs.prefix.Prefix.last.Goals as goal
 
 pub overflow_add-result : goal.overflow_add-result

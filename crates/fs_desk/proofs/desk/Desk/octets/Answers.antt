@@ -1,4 +1,4 @@
-use Rattle.fs_desk.proofs.{Idle.{desk_notes_none}, Words.{Closed, Desked, IsSome, Option, refl, session_at, ◌∙◌, subst, ◌≡◌, BTreeMap, Held, List, Live, Watched, ap, ℕ, sym}, Handed.{desk_handed, desk_unhanded}, Played.{desk_fed, desk_skipped, desk_replied, desk_silent, others_set, others_stay}, desk.Desk.octets.Goals.{in-Ok, in-Err}}
+use Rattle.fs_desk.proofs.{Idle.{desk_notes_none}, Words.{Closed, Desked, IsSome, Option, refl, session_at, ◌∙◌, subst, ◌≡◌, BTreeMap, List, Live, Watched, ap, ℕ, sym}, Handed.{desk_handed, desk_unhanded}, Played.{desk_fed, desk_skipped, desk_replied, desk_silent, others_set, others_stay}, desk.Desk.octets.Goals.{in-Ok, in-Err}}
 use Rattle.fs_desk.proofs.desk.Desk.octets.Goals as goal
 
 -- a session that has closed stays as it is

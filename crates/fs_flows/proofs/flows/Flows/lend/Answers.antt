@@ -1,4 +1,4 @@
-use Rattle.fs_flows.proofs.{Words.{ap, subst, ◌∙◌, filter, is_of_family, chosen, AreLent}, BothFamilies.{chosen_each, chosen_first, chosen_second, family_first, family_second, lent_family, sorted_first, sorted_second, sound_at}}
+use Rattle.fs_flows.proofs.{Words.{ap, ◌∙◌, filter, is_of_family, chosen}, BothFamilies.{chosen_each, chosen_first, chosen_second, family_first, family_second, lent_family, sorted_first, sorted_second, sound_at}}
 use Rattle.fs_flows.proofs.flows.Flows.lend.Goals as goal
 
 pub returns-in-V4-clause-lent : goal.returns-in-V4-clause-lent

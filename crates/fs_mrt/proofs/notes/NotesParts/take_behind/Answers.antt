@@ -1,5 +1,5 @@
 use Rattle.fs_mrt.proofs.Words.{rules, arith, ◌≡◌, ◌+◌, ◌-◌, ◌≤◌, ap, refl, ◌∙◌, Option, Some, None, drop, option_map, big_number, gives, gives_for, reads_as, reads_ends, reads_then, head_of}
-use Rattle.fs_mrt.specs.{Notes.{note_headed, note_record}, declared.notes.{Note.{Note}, Notes.{Notes}}}
+use Rattle.fs_mrt.specs.{Notes.{note_headed, note_record}, declared.notes.{Note.{Note}}}
 use Rattle.fs_mrt.proofs.notes.NotesParts.take_behind.Goals as goal
 
 same_told : (o : Option Note) → o ≡ option_map (λ (n : Note). n) o

@@ -1,4 +1,4 @@
-use Rattle.fs_rules.proofs.{Words.{◌≡◌, refl, sym, ap, ◌∙◌, subst, length, arith, is_at, is_some, remove_entry, place_cmp, Covers, IsKept, routes_of, Held, routes_mended, remove_nothing, removes_one}, Chosen.{held_of, unicast_changed, keeps_after, agree_taken}, Counting.{counted_taken}, Elsewhere.{covers_noted, mends_at, related_elsewhere, swap_told}, Prefixes.{held_taken}, Quiet.{stay_right}}
+use Rattle.fs_rules.proofs.{Words.{sym, ap, ◌∙◌, subst, length, arith, is_at, is_some, remove_entry, place_cmp, Covers, IsKept, routes_of, Held, routes_mended, remove_nothing, removes_one}, Chosen.{held_of, unicast_changed, keeps_after, agree_taken}, Counting.{counted_taken}, Elsewhere.{covers_noted, mends_at, related_elsewhere, swap_told}, Prefixes.{held_taken}, Quiet.{stay_right}}
 use Rattle.fs_rules.proofs.table.Table.withdraw_unicast_telling.Goals as goal
 
 pub invariant_of-self : goal.invariant_of-self
