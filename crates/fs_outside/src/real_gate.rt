@@ -14,7 +14,7 @@ use std::time::{Clock, Duration};
 use std::{io, rt, thread};
 
 /// Where nothing comes, the gate pauses so many milliseconds in all before it says so.
-const WAIT: u64 = 240;
+const WAIT: u64 = 200;
 
 /// It pauses for so many milliseconds where something has just come, and for longer and longer where nothing does.
 const LEAST_PAUSE: u64 = 1;

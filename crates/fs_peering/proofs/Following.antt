@@ -1,6 +1,6 @@
 -- What a keeper does, one part after the other.
 use Rattle.fs_peering.proofs.{KeeperWords.{ℕ, ◌*◌, min, most_wait, not, List, [], ◌∷◌, ◌++◌, append-nil, ◌≡◌, ◌==◌, ◌&&◌, Bool, true, false, Option, Some, None, IfSome, refl, ap, sym, subst, ◌∙◌, if◌then◌else◌, option_or, Turn, What, ended, gave, made, nothing, taken, shut, Grew, Grew-refl, Grew-trans, Config, Peer, CanSend, has_started, is_established, machine_in, open_sent, sender_of, state_in, terms_of, StandsAt, Closed, Lined, Machine, Point, Sending, Connection, Kept, Outcome, Said, at_line, begins, checks, ends, follows, hears, is_up, machine_of, news_up, outcome, rests, rises, received, receives, speaks, wakes, woken, BreaksSo, Fits, IsConnection, IsOwn, KeepsOwn, Keeping, LinkSaid, LinkSays, Linked, MayBeSaid, Stands, Took, TookQuietly, TookSo, let_go, terms_in, News, Ended, Unreached}, Standing.{going, linked_none, linked_some, machines, checks_none, checks_some, line_none, line_some, settled, settled_by, took_open, took_rests, took_shut}}
-use Rattle.fs_peering.proofs.Fitting.{all_short}
+use Rattle.fs_session.proofs.Fitting.{all_short}
 use Rattle.fs_session.specs.declared.transition.Phase.{Phase}
 use Rattle.fs_speaker.specs.declared.State.TheVariants.{Closed as IsClosed}
 

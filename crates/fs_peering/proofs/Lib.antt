@@ -32,7 +32,6 @@ mod Sendable
 mod Refusing
 mod KeeperWords
 pub mod Standing
-pub mod Fitting
 pub mod Following
 pub mod KeeperTells
 pub mod Stepped

@@ -6,7 +6,7 @@ pub mod Transitions
 mod Closing
 mod Quiet
 mod Ends
-mod Fitting
+pub mod Fitting
 pub mod Arriving
 pub mod TwoPieces
 pub mod Returning
