@@ -1,5 +1,10 @@
 -- A dump that is converted record by record: the texts that are written, in their parts, and what of all records they are.
-use Rattle.cmd_convert.proofs.Words.{◌≡◌, ℕ, Bool, Option, Result, Ok, Err, OnOk, subst, true, false, List, [], ◌∷◌, ◌++◌, length, refl, ap, sym, ◌∙◌, append_assoc, append-nil, ◌⊎◌, inr, ◌≤◌, arith, big_bytes, Config, Sent, Goes, Stops, DumpState, coming, said_from, change, message, Spoken, What, item_text_at, record_text, item_text, tape_text, Item, came_up, received, Timed, timed, Two, greeting, Life, Lives, has_width, with_life, asn_of, ended, is_taken, made_by, opening, text_at, items_from, made, timed_at, flat_map, Rose, End, goes_then, goes_stops, stops_more, goes_as, stops_as, DumpReason, Refusal, Outside, magic_of, Breaks}
+use Rattle.cmd_convert.proofs.Words.{◌≡◌, ℕ, Bool, Option, Result, Ok, Err, OnOk, subst, true, false, List, [], ◌∷◌, ◌++◌, length, refl, ap, sym, ◌∙◌}
+use Rattle.cmd_convert.proofs.Words.{append_assoc, append-nil, ◌⊎◌, inr, ◌≤◌, arith, big_bytes, Config, Sent, Goes, Stops, DumpState, coming}
+use Rattle.cmd_convert.proofs.Words.{said_from, change, message, Spoken, What, item_text_at, record_text, item_text, tape_text, Item, came_up}
+use Rattle.cmd_convert.proofs.Words.{received, Timed, timed, Two, greeting, Life, Lives, has_width, with_life, asn_of, ended, is_taken, made_by}
+use Rattle.cmd_convert.proofs.Words.{opening, text_at, items_from, made, timed_at, flat_map, Rose, End, goes_then, goes_stops, stops_more, goes_as}
+use Rattle.cmd_convert.proofs.Words.{stops_as, DumpReason, Refusal, Outside, magic_of, Breaks}
 use Rattle.std.proofs.lemmas.{Grind.{flat_map-append}, List.Folds.{flat_map-map}}
 use Rattle.fs_mrt.specs.declared.heard.What.TheVariants.{Change}
 use Rattle.fs_base.specs.Parts.{with_part}
@@ -18,7 +23,8 @@ pub opening_text : (moment peer asn : ℕ) (wide : Bool) (life : Life)
     → text_at moment (ended peer life) ++ (item_text_at Two moment (came_up peer) ++ item_text_at Two moment (received peer (greeting asn wide)))
     ≡ text_at moment (opening peer asn wide life)
 opening_text moment peer asn wide life =
-    ap (λ (text : List ℕ). text_at moment (ended peer life) ++ (item_text_at Two moment (came_up peer) ++ text)) (sym (append-nil (item_text_at Two moment (received peer (greeting asn wide)))))
+    ap (λ (text : List ℕ). text_at moment (ended peer life) ++ (item_text_at Two moment (came_up peer) ++ text))
+    (sym (append-nil (item_text_at Two moment (received peer (greeting asn wide)))))
     ∙ sym (flat_map-append (item_text_at Two moment) (ended peer life) (came_up peer ∷ received peer (greeting asn wide) ∷ []))
 
 -- one item behind others
@@ -36,11 +42,14 @@ message_text moment config peer wide octets life taken other =
     items_text moment (opening peer (asn_of config peer) wide life) (received peer octets) ∙ rw (taken, other) refl
 
 -- what was pending is the same
-pub sends_from : {T E : Type 0} {f g : ℕ} {a b : Option (List ℕ)} {p p' q xs : List ℕ} {result : Result T E} → p ≡ p' → Sent f g a b p q xs result → Sent f g a b p' q xs result
-sends_from {f = f} {g = g} {a = a} {b = b} {q = q} {xs = xs} {result = result} same sent = subst (λ (pending : List ℕ). Sent f g a b pending q xs result) same sent
+pub sends_from : {T E : Type 0} {f g : ℕ} {a b : Option (List ℕ)} {p p' q xs : List ℕ} {result : Result T E} → p ≡ p' → Sent f g a b p q xs result
+    → Sent f g a b p' q xs result
+sends_from {f = f} {g = g} {a = a} {b = b} {q = q} {xs = xs} {result = result} same sent =
+    subst (λ (pending : List ℕ). Sent f g a b pending q xs result) same sent
 
 -- the lives behind a change of state
-pub change_lives : {T E : Type 0} (result : Result T E) (now lives : Lives) (config : Config) (peer old new : ℕ) (what : What) (into : List ℕ) (wide : Bool) (life : Life)
+pub change_lives : {T E : Type 0} (result : Result T E) (now lives : Lives) (config : Config) (peer old new : ℕ) (what : What) (into : List ℕ)
+    (wide : Bool) (life : Life)
     → what ≡ Change old new
     → OnOk result ((w : Bool) (other : ℕ) → now other ≡ with_life peer (made_by config peer w (change old new) life).1 lives other)
     → OnOk result ((other : ℕ) → now other ≡ with_life peer (made_by config peer wide (said_from what into) life).1 lives other)
@@ -63,7 +72,8 @@ tape_more : (xs : List Timed) (moment : ℕ) (items : List Item)
 tape_more xs moment items = tape_append xs (timed_at moment items) ∙ ap (λ (text : List ℕ). tape_text Two xs ++ text) (text_timed moment items)
 
 -- of all records some were converted, and the rest is to come
-pub record Doing (config : Config) (first lives : Lives) (all rest : List Spoken × End DumpReason) (before now : Option (List ℕ)) (pending pending_now : List ℕ) : Type 0 where
+pub record Doing (config : Config) (first lives : Lives) (all rest : List Spoken × End DumpReason) (before now : Option (List ℕ))
+    (pending pending_now : List ℕ) : Type 0 where
   pub gone : List Timed
   pub parts : items_from config first all.0 ≡ gone ++ items_from config lives rest.0
   pub end_is : all.1 ≡ rest.1
@@ -94,7 +104,8 @@ module _ (config : Config) (first lives : Lives) (all rest : List Spoken × End 
       lives_are : next ≡ with_life heard.peer (made config heard (lives heard.peer)).1 lives
       lives_are i other = told other i
 
-  pub doing_stopped : (current : Config) (rest' : List Spoken × End DumpReason) (now' : Option (List ℕ)) (pending' : List ℕ) (heard : Spoken) (files : Type 0) (early mid late : ℕ) (refusal : Refusal)
+  pub doing_stopped : (current : Config) (rest' : List Spoken × End DumpReason) (now' : Option (List ℕ)) (pending' : List ℕ) (heard : Spoken)
+      (files : Type 0) (early mid late : ℕ) (refusal : Refusal)
       → current ≡ config
       → Doing config first lives all rest before now pending pending_now → rest ≡ with_part heard rest'
       → Stops now now' pending_now pending' (text_at heard.moment (made current heard (lives heard.peer)).0)
@@ -107,7 +118,8 @@ module _ (config : Config) (first lives : Lives) (all rest : List Spoken × End 
           inr (omega (arith, l, rose)),
           inr (stops_as (sym whole)
               (stops_more (flat_map (item_text Two) later)
-              (goes_stops p.goes (subst (λ (c : Config). Stops now now' pending_now pending' (text_at heard.moment (made c heard (lives heard.peer)).0)) same stop)))),
+              (goes_stops p.goes (subst (λ (c : Config).
+              Stops now now' pending_now pending' (text_at heard.moment (made c heard (lives heard.peer)).0)) same stop)))),
         ),
       )
     where
@@ -134,7 +146,8 @@ gives_as config current dump dump' left left' heard same slot e =
     (subst (λ (n : ℕ). coming current dump (left dump.slot) ≡ with_part heard (coming current dump' (left' n))) (sym slot) e)
 
 -- the sink failed within what a tape begins with
-pub begun_stopped : (end : End DumpReason) (items : List Timed) (before now : Option (List ℕ)) (pending pending_now : List ℕ) (files : Type 0) (early late : ℕ) (refusal : Refusal)
+pub begun_stopped : (end : End DumpReason) (items : List Timed) (before now : Option (List ℕ)) (pending pending_now : List ℕ) (files : Type 0)
+    (early late : ℕ) (refusal : Refusal)
     → Stops before now pending pending_now (magic_of Two) → Rose early late → refusal ≡ Outside
     → Breaks end before now pending pending_now (tape_text Two items) (files ⊎ Rose early late) refusal
 begun_stopped end items before now pending pending_now files early late refusal stop rose s =

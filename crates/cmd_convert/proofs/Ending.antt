@@ -1,8 +1,15 @@
 -- How the answer of `convert` follows from what its parts did.
-use Rattle.cmd_convert.proofs.Words.{◌≡◌, ◌⊎◌, inl, inr, ◌≤◌, ◌∙◌, ◌++◌, ℕ, List, [], Option, Some, None, Result, Ok, Err, refl, ap, sym, subst, Rose, Config, Goes, goes_flush, goes_flush_part, partly_flushed, DumpState, IsBegun, coming, heard_to_come, DumpReason, End, done, Refusal, Outside, answers_for, answers_memory, answers_outside, outside_one, rose_earlier, rose_later, tape_text, Two, Life, lives_of, no_lives, items_from, Breaks, ConvertsSo, IsAtRecord, dump_stage, status_at, verdict_of}
+use Rattle.cmd_convert.proofs.Words.{◌≡◌, ◌⊎◌, inl, inr, ◌≤◌, ◌∙◌, ◌++◌, ℕ, List, [], Option, Some, None, Result, Ok, Err, refl, ap, sym, subst, Rose}
+use Rattle.cmd_convert.proofs.Words.{Config, Goes, goes_flush, goes_flush_part, partly_flushed, DumpState, IsBegun, coming, heard_to_come, DumpReason}
+use Rattle.cmd_convert.proofs.Words.{End, done, Refusal, Outside, answers_for, answers_memory, answers_outside, outside_one, rose_earlier, rose_later}
+use Rattle.cmd_convert.proofs.Words.{tape_text, Two, Life, lives_of, no_lives, items_from, Breaks, ConvertsSo, IsAtRecord, dump_stage, status_at}
+use Rattle.cmd_convert.proofs.Words.{verdict_of}
 use Rattle.std.specs.Result.{MatchResult}
 use Rattle.fs_base.{specs.Sink.{Grew, GrewPart}, proofs.Grew.{Grew-refl, part_whole, part_none}}
-use Rattle.cmd_stages.{specs.{Load.{Names, config_stage}, Refusal.{Answers, Found, HasReason, Stage, Verdict, answered, or_stop, status_of, verdict_with}, Writing.{Finishes}}, proofs.Texts.{said_by, said_front}}
+use Rattle.cmd_stages.specs.Load.{Names, config_stage}
+use Rattle.cmd_stages.specs.Refusal.{Answers, Found, HasReason, Stage, Verdict, answered, or_stop, status_of, verdict_with}
+use Rattle.cmd_stages.specs.Writing.{Finishes}
+use Rattle.cmd_stages.proofs.Texts.{said_by, said_front}
 
 -- before the dump is read
 
@@ -31,7 +38,8 @@ module _ (limit : ℕ) (holds : Names) (config dump : List ℕ) (accepted : Conf
 pub read_verdict : (config accepted : Config) (limit : ℕ) (names : Names) (name : List ℕ) (left : ℕ → List ℕ) (dump : DumpState) (lives : List Life)
     → config ≡ accepted → names name ≡ Some (left 1) → IsBegun 1 limit [] dump → ((peer : ℕ) → lives_of lives peer ≡ None)
     → verdict_of accepted limit (dump_stage names name)
-    ≡ verdict_with (status_at (coming config dump (left dump.slot)).1) (tape_text Two (items_from config (lives_of lives) (coming config dump (left dump.slot)).0))
+    ≡ verdict_with (status_at (coming config dump (left dump.slot)).1)
+    (tape_text Two (items_from config (lives_of lives) (coming config dump (left dump.slot)).0))
 read_verdict config accepted limit names name left dump lives same h b down =
     ap (λ (c : Option (List ℕ)). verdict_of accepted limit (or_stop Outside c)) h
     ∙ (λ i. verdict_with
@@ -56,7 +64,8 @@ flushed end before mid now pending text failed (Ok value) went grew =
 flushed end before mid now pending text failed (Err refusal) (inl h) grew =
     said_by (status_at end) text failed before now (status_of refusal) (inl (sym h.0)) (goes_flush now h.1 grew)
 flushed end before mid now pending text failed (Err refusal) (inr h) grew =
-    said_front (status_at end) text failed before now (status_of refusal) (ap status_of h.0) h.1.0 (partly_flushed before mid now pending text h.1.1 (part_whole mid now pending grew))
+    said_front (status_at end) text failed before now (status_of refusal) (ap status_of h.0) h.1.0
+    (partly_flushed before mid now pending text h.1.1 (part_whole mid now pending grew))
 
 -- or couldn't be
 front : {T : Type 0} (end : End DumpReason) (before mid now : Option (List ℕ)) (pending text : List ℕ) (failed : Type 0) (result : Result T Refusal)
@@ -96,7 +105,8 @@ module _ (limit : ℕ) (holds names : Names) (config dump : List ℕ) (accepted 
       wider (inl r) = inl (rose_earlier f f1 f2 l r)
       wider (inr r) = inr (rose_later s s1 s2 r n)
 
-      by : Finishes pending (Rose s1 s2) mid now converted result → Answers (verdict_with (status_at end) text) (Rose f f2 ⊎ Rose s s2) before now (answered result)
+      by : Finishes pending (Rose s1 s2) mid now converted result
+          → Answers (verdict_with (status_at end) text) (Rose f f2 ⊎ Rose s s2) before now (answered result)
       by (inl h) =
           subst (λ (r : Result T Refusal). Answers (verdict_with (status_at end) text) (Rose f f2 ⊎ Rose s s2) before now (answered r)) (sym h.0)
           (answers_for (verdict_with (status_at end) text) (Rose f1 f2 ⊎ Rose s s1) (Rose f f2 ⊎ Rose s s2) before now (answered converted)

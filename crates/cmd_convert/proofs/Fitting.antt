@@ -1,7 +1,14 @@
 -- What a dump makes fits a tape of the second version.
-use Rattle.cmd_convert.{proofs.Words.{◌≡◌, ℕ, Bool, true, false, List, [], ◌∷◌, ◌++◌, Option, Some, None, ◌<◌, ◌≤◌, ◌+◌, ◌==◌, ◌^◌, length, refl, arith, le_trans, IsSome, find, flat_map, if◌then◌else◌, replicate, big_bytes, Config, dump_of, Said, Spoken, change, message, Fits, IsNumbered, IsWritable, after, item_text, item_text_at, record_text, tape_text, magic_of, Item, Timed, came_up, received, stands, was_lost, Two, greeting, made_open, parameters, Life, Lives, has_width, no_lives, with_life, asn_of, ended, is_established, is_taken, items_from, made, made_by, opening, remade, timed_at}, specs.Laws.{GivesBack, ReadsBackConverted}}
+use Rattle.cmd_convert.proofs.Words.{◌≡◌, ℕ, Bool, true, false, List, [], ◌∷◌, ◌++◌, Option, Some, None, ◌<◌, ◌≤◌, ◌+◌, ◌==◌, ◌^◌, length, refl}
+use Rattle.cmd_convert.proofs.Words.{arith, le_trans, IsSome, find, flat_map, if◌then◌else◌, replicate, big_bytes, Config, dump_of, Said, Spoken}
+use Rattle.cmd_convert.proofs.Words.{change, message, Fits, IsNumbered, IsWritable, after, item_text, item_text_at, record_text, tape_text, magic_of}
+use Rattle.cmd_convert.proofs.Words.{Item, Timed, came_up, received, stands, was_lost, Two, greeting, made_open, parameters, Life, Lives, has_width}
+use Rattle.cmd_convert.proofs.Words.{no_lives, with_life, asn_of, ended, is_established, is_taken, items_from, made, made_by, opening, remade}
+use Rattle.cmd_convert.proofs.Words.{timed_at}
+use Rattle.cmd_convert.specs.Laws.{GivesBack, ReadsBackConverted}
 use Rattle.std.{specs.List.{AllByRecursion}, proofs.lemmas.{Bool.Decides.{nat_tests}, List.Elements.{All-replicate}}}
-use Rattle.fs_base.{specs.{Language.{IsOctets}, declared.config.Peer.{Peer}}, proofs.{Digits.{big_octets}, Lists.{each_append, each_weaker}, Octets.{octets_append, octets_cons, octets_nil}}}
+use Rattle.fs_base.specs.{Language.{IsOctets}, declared.config.Peer.{Peer}}
+use Rattle.fs_base.proofs.{Digits.{big_octets}, Lists.{each_append, each_weaker}, Octets.{octets_append, octets_cons, octets_nil}}
 use Rattle.fs_conf.{specs.Laws.{HasPeerNumbers}, proofs.Accepted.{accepts_numbers}}
 use Rattle.fs_message.specs.Write.{as_field, message_text}
 use Rattle.fs_mrt.{specs.Laws.{AreHeard, IsHeard, IsSaid}, proofs.AllHeard.{heard_fits}}
@@ -25,7 +32,8 @@ parameters_octets asn false = octets_cons 0 [] (omega arith) octets_nil
 greeting_octets : (asn : ℕ) (wide : Bool) → IsOctets (greeting asn wide)
 greeting_octets asn wide =
     octets_append (made_open asn wide) (message_text 4 [])
-    (message_octets 1 ((4 ∷ big_bytes 2 (as_field asn)) ++ (big_bytes 2 0 ++ (big_bytes 4 1 ++ (length (parameters asn wide) ∷ parameters asn wide)))) (omega arith)
+    (message_octets 1 ((4 ∷ big_bytes 2 (as_field asn)) ++ (big_bytes 2 0 ++ (big_bytes 4 1 ++ (length (parameters asn wide) ∷ parameters asn wide))))
+    (omega arith)
     (octets_append (4 ∷ big_bytes 2 (as_field asn)) (big_bytes 2 0 ++ (big_bytes 4 1 ++ (length (parameters asn wide) ∷ parameters asn wide)))
     (octets_cons 4 (big_bytes 2 (as_field asn)) (omega arith) (big_octets 2 (as_field asn)))
     (octets_append (big_bytes 2 0) (big_bytes 4 1 ++ (length (parameters asn wide) ∷ parameters asn wide)) (big_octets 2 0)
@@ -57,7 +65,8 @@ good_up config peer numbered = record { writable = numbered; octets = λ moment.
 good_lost : (config : Config) (peer : ℕ) → IsNumbered config peer → Good config (was_lost peer)
 good_lost config peer numbered = record { writable = numbered; octets = λ moment. record_octets 3 peer moment [] (omega arith) octets_nil }
 
-good_received : (config : Config) (peer : ℕ) (payload : List ℕ) → IsNumbered config peer → IsOctets payload → length payload ≤ 65536 → Good config (received peer payload)
+good_received : (config : Config) (peer : ℕ) (payload : List ℕ) → IsNumbered config peer → IsOctets payload → length payload ≤ 65536
+    → Good config (received peer payload)
 good_received config peer payload numbered are small =
     record { writable = (numbered, small); octets = λ moment. record_octets 2 peer moment payload (omega arith) are }
 
@@ -104,7 +113,8 @@ number_by : (peer : Peer) (n : ℕ) (same : Bool) (rest : Option Peer) → (peer
 number_by peer n true rest e small later known = let is : peer.number ≡ n = grind (arith, nat_tests) in let s = small in omega arith
 number_by peer n false rest e small later known = later known
 
-number_small : (peers : List Peer) (n : ℕ) → AllByRecursion (λ (peer : Peer). peer.number < 65536) peers → IsSome (find (λ peer. peer.number == n) peers) → n < 65536
+number_small : (peers : List Peer) (n : ℕ) → AllByRecursion (λ (peer : Peer). peer.number < 65536) peers
+    → IsSome (find (λ peer. peer.number == n) peers) → n < 65536
 number_small [] n small known = absurd cc
 number_small (peer ∷ peers) n small known =
     number_by peer n (peer.number == n) (find (λ peer. peer.number == n) peers) refl small.0 (number_small peers n small.1) known
@@ -125,7 +135,8 @@ timed_fit config last moment [] rest before room good fit = fit_earlier config l
 timed_fit config last moment (item ∷ items) rest before room good fit =
     (record { writable = good.0.writable; room = room; is_timed = before }, timed_fit config moment moment items rest (omega arith) room good.1 fit)
 
-heard_good : (config : Config) (last : ℕ) (heard : Spoken) (life : Life) → AreNumbered config → IsHeard config.peers last heard → AreGood config (made config heard life).0
+heard_good : (config : Config) (last : ℕ) (heard : Spoken) (life : Life) → AreNumbered config → IsHeard config.peers last heard
+    → AreGood config (made config heard life).0
 heard_good config last heard life small h =
     made_good config heard.peer heard.wide heard.said life (number_small config.peers heard.peer small h.known, h.known) h.said
 
@@ -163,7 +174,8 @@ magic_octets =
     (octets_cons 80 (69 ∷ 50 ∷ 10 ∷ []) (omega arith) (octets_cons 69 (50 ∷ 10 ∷ []) (omega arith)
     (octets_cons 50 (10 ∷ []) (omega arith) (octets_cons 10 [] (omega arith) octets_nil)))))))
 
-gives_back : (config : Config) (limit tape_limit : ℕ) (content : List ℕ) → IsOctets content → AreNumbered config → GivesBack config tape_limit (remade config limit content).0
+gives_back : (config : Config) (limit tape_limit : ℕ) (content : List ℕ) → IsOctets content → AreNumbered config
+    → GivesBack config tape_limit (remade config limit content).0
 gives_back config limit tape_limit content are small =
     let heard = heard_fits config limit content are in
     let items = (remade config limit content).0 in
@@ -177,4 +189,5 @@ gives_back config limit tape_limit content are small =
 pub reads_back_converted : ReadsBackConverted
 reads_back_converted text config limit tape_limit content accepted are =
     gives_back config limit tape_limit content are
-    (each_weaker HasPeerNumbers (λ (peer : Peer). peer.number < 65536) (λ peer numbers. numbers.number) config.peers (accepts_numbers text config accepted).peers)
+    (each_weaker HasPeerNumbers (λ (peer : Peer). peer.number < 65536) (λ peer numbers. numbers.number) config.peers
+    (accepts_numbers text config accepted).peers)

@@ -1,5 +1,9 @@
 -- The lives by which a dump's items are made are those that these items tell a desk.
-use Rattle.cmd_convert.{proofs.Words.{◌≡◌, ◌==◌, ℕ, Bool, true, false, List, [], ◌∷◌, ◌++◌, Some, None, refl, ap, sym, ◌∙◌, append_assoc, if◌then◌else◌, Config, Said, Spoken, change, message, Item, Timed, came_up, received, was_lost, Life, Lives, has_width, no_lives, with_life, asn_of, ended, is_established, is_taken, items_from, made, made_by, opening, timed_at}, specs.Laws.{KeepsLives}}
+use Rattle.cmd_convert.proofs.Words.{◌≡◌, ◌==◌, ℕ, Bool, true, false, List, [], ◌∷◌, ◌++◌, Some, None, refl, ap, sym, ◌∙◌, append_assoc}
+use Rattle.cmd_convert.proofs.Words.{if◌then◌else◌, Config, Said, Spoken, change, message, Item, Timed, came_up, received, was_lost, Life, Lives}
+use Rattle.cmd_convert.proofs.Words.{has_width, no_lives, with_life, asn_of, ended, is_established, is_taken, items_from, made, made_by, opening}
+use Rattle.cmd_convert.proofs.Words.{timed_at}
+use Rattle.cmd_convert.specs.Laws.{KeepsLives}
 use Rattle.std.{specs.{List.{list_any}, Option.{is_some}, Prelude.{◌||◌}}, proofs.lemmas.{Bool.{eq-eqb, eqb-true}, List.{map-append}}}
 use Rattle.fs_desk.specs.Life.{begins_life, bounds_life, life, sent_by}
 use Rattle.cmd_stages.specs.Play.{untimed}
@@ -30,12 +34,14 @@ bound peer (item ∷ items) one other some = by (bounds_life peer item) refl som
         → is_up peer (if bounds_life peer item then begins_life peer item else one) items
         ≡ is_up peer (if bounds_life peer item then begins_life peer item else other) items
     by true e h on =
-        ap (λ (b : Bool). is_up peer (if b then begins_life peer item else one) items) e ∙ sym (ap (λ (b : Bool). is_up peer (if b then begins_life peer item else other) items) e)
+        ap (λ (b : Bool). is_up peer (if b then begins_life peer item else one) items) e
+        ∙ sym (ap (λ (b : Bool). is_up peer (if b then begins_life peer item else other) items) e)
     by false e h on =
         ap (λ (b : Bool). is_up peer (if b then begins_life peer item else one) items) e ∙ on h
         ∙ sym (ap (λ (b : Bool). is_up peer (if b then begins_life peer item else other) items) e)
 
-started : (peer : ℕ) (octets : List ℕ) (item : Item) → is_some (if begins_life peer item then Some octets else None) ≡ (if bounds_life peer item then begins_life peer item else false)
+started : (peer : ℕ) (octets : List ℕ) (item : Item)
+    → is_some (if begins_life peer item then Some octets else None) ≡ (if bounds_life peer item then begins_life peer item else false)
 started peer octets (came_up other) = by (other == peer)
   where
     by : (t : Bool) → is_some (if t then Some octets else None) ≡ (if t then t else false)
@@ -126,9 +132,11 @@ left_as : (config : Config) (lives : Lives) (heard : Spoken) (peer : ℕ)
 left_as config lives heard peer = by (heard.peer == peer) (peer == heard.peer) refl refl
   where
     by : (t s : Bool) → (heard.peer == peer) ≡ t → (peer == heard.peer) ≡ s
-        → is_up peer (is_some (lives peer)) (made config heard (lives heard.peer)).0 ≡ is_some (if s then (made config heard (lives heard.peer)).1 else lives peer)
+        → is_up peer (is_some (lives peer)) (made config heard (lives heard.peer)).0
+        ≡ is_some (if s then (made config heard (lives heard.peer)).1 else lives peer)
     by true true e f =
-        made_up config heard.peer peer heard.wide (is_some (lives peer)) true e heard.said (lives heard.peer) (λ same. ap (λ (n : ℕ). is_some (lives n)) (sym (eqb-true heard.peer peer e)))
+        made_up config heard.peer peer heard.wide (is_some (lives peer)) true e heard.said (lives heard.peer)
+        (λ same. ap (λ (n : ℕ). is_some (lives n)) (sym (eqb-true heard.peer peer e)))
     by false false e f = made_up config heard.peer peer heard.wide (is_some (lives peer)) false e heard.said (lives heard.peer) (λ same. absurd cc)
     by true false e f = absurd (never (sym (eq-eqb peer heard.peer (sym (eqb-true heard.peer peer e))) ∙ f))
       where
@@ -150,7 +158,8 @@ goes_on config begun (heard ∷ first) rest =
     let on = goes_on config next first rest in (
       on.0,
       (
-        ap (λ (z : List Timed). timed_at heard.moment one ++ z) on.1.0 ∙ sym (append_assoc (timed_at heard.moment one) (items_from config next first) (items_from config on.0 rest)),
+        ap (λ (z : List Timed). timed_at heard.moment one ++ z) on.1.0
+            ∙ sym (append_assoc (timed_at heard.moment one) (items_from config next first) (items_from config on.0 rest)),
         λ peer.
             on.1.1 peer
             ∙ sym (ap (λ (b : Bool). is_up peer b (untimed (items_from config next first))) (left_as config begun heard peer))

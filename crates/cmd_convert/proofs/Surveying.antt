@@ -3,11 +3,17 @@ use Rattle.std.specs.{Prelude.{MatchResult, filter, nat_lt, not, slice_index_or,
 use Rattle.std.proofs.lemmas.Bool.Decides.{nat_tests}
 use Rattle.fs_base.specs.declared.config.Address.{Address, TheVariants.{V4, V6}}
 use Rattle.fs_input.specs.{Records.{limited, bad}, declared.fault.Fault.{Fault, TheVariants.{Read, Limit, Bad}}}
-use Rattle.fs_mrt.specs.{Notes.{NotedState, noted_none, notes_coming, notes_of, notes_to_come, same_note}, Peers.{is_same}, declared.notes.Note.{Note, TheVariants.{Skipped, Spoke}}}
-use Rattle.cmd_convert.proofs.Words.{◌≡◌, ◌≤◌, ◌<◌, ◌++◌, ◌∙◌, ◌∷◌, ◌+◌, ◌==◌, ℕ, Bool, true, false, if◌then◌else◌, List, [], Option, Some, None, Result, Ok, Err, inl, inr, length, refl, ap, sym, subst, arith, append-nil, append_assoc, End, done, DumpReason, Config, Refusal, Outside}
+use Rattle.fs_mrt.specs.Notes.{NotedState, noted_none, notes_coming, notes_of, notes_to_come, same_note}
+use Rattle.fs_mrt.specs.{Peers.{is_same}, declared.notes.Note.{Note, TheVariants.{Skipped, Spoke}}}
+use Rattle.cmd_convert.proofs.Words.{◌≡◌, ◌≤◌, ◌<◌, ◌++◌, ◌∙◌, ◌∷◌, ◌+◌, ◌==◌, ℕ, Bool, true, false, if◌then◌else◌, List, [], Option, Some, None}
+use Rattle.cmd_convert.proofs.Words.{Result, Ok, Err, inl, inr, length, refl, ap, sym, subst, arith, append-nil, append_assoc, End, done, DumpReason}
+use Rattle.cmd_convert.proofs.Words.{Config, Refusal, Outside}
 use Rattle.std.specs.Prelude.{◌&&◌, suc}
 use Rattle.cmd_stages.specs.{Load.{Names, config_stage}, Refusal.{Found, Verdict, or_stop, verdict_with}}
-use Rattle.cmd_convert.specs.{Survey.{Counts, IsUnsaid, SaysEnd, accepted_verdict, all_noted, content_verdict, count_of, counts_of, counts_text, dump_fault_line, dump_verdict, ended_verdict, has_note, is_other, note_count, note_place, notes_verdict, one_more, said_shown, weight, with_note}, declared.{counts.NoteCount.{NoteCount}, survey.DumpSaid.{DumpSaid}}}
+use Rattle.cmd_convert.specs.Survey.{Counts, IsUnsaid, SaysEnd, accepted_verdict, all_noted, content_verdict, count_of, counts_of, counts_text}
+use Rattle.cmd_convert.specs.Survey.{dump_fault_line, dump_verdict, ended_verdict, has_note, is_other, note_count, note_place, notes_verdict}
+use Rattle.cmd_convert.specs.Survey.{one_more, said_shown, weight, with_note}
+use Rattle.cmd_convert.specs.declared.{counts.NoteCount.{NoteCount}, survey.DumpSaid.{DumpSaid}}
 
 -- records of one peer, or of one type
 
@@ -111,7 +117,8 @@ links_by : (p : Note) (gone : List Note) (packet : Note) (b : Bool) → same_not
 links_by p gone packet true e h =
     let back : same_note packet p ≡ true = same_sym p packet true e in
     let size : weight p + count_of p gone + weight packet ≡ weight p + count_of p (gone ++ packet ∷ []) =
-    rw (count_snoc p gone packet) (rw back (let n : weight p + count_of p gone + weight packet ≡ weight p + (count_of p gone + weight packet) = omega arith in n)) in
+    rw (count_snoc p gone packet) (rw back (let n : weight p + count_of p gone + weight packet ≡ weight p + (count_of p gone + weight packet) =
+    omega arith in n)) in
     ap (λ (n : ℕ). note_count p n ∷ filter (is_other p) (counts_of gone)) size
     ∙ ap (λ (l : List NoteCount). note_count p (weight p + count_of p (gone ++ packet ∷ [])) ∷ l)
     (sym (dropped_all p packet back (counts_of gone)) ∙ ap (filter (is_other p)) h)
@@ -235,7 +242,8 @@ verdict_done found counts ends is =
 pub verdict_limited : (found : List Note × End DumpReason) → found.1 ≡ limited → verdict_with 7 [] ≡ notes_verdict found
 verdict_limited found ends = ap (ended_verdict found.0) (sym ends)
 
-pub verdict_bad : (found : List Note × End DumpReason) (counts : List NoteCount) (reason : DumpReason) (place : ℕ) → found.1 ≡ bad reason place → counts ≡ all_noted [] found.0
+pub verdict_bad : (found : List Note × End DumpReason) (counts : List NoteCount) (reason : DumpReason) (place : ℕ) → found.1 ≡ bad reason place
+    → counts ≡ all_noted [] found.0
     → verdict_with 10 (counts_text counts ++ dump_fault_line reason place) ≡ notes_verdict found
 verdict_bad found counts reason place ends is =
     ap (λ (l : List NoteCount). verdict_with 10 (counts_text l ++ dump_fault_line reason place)) (is ∙ noted_all found.0)
@@ -244,13 +252,15 @@ verdict_bad found counts reason place ends is =
 -- of the configuration that is accepted, and of the dump that is opened
 
 -- the dump of which nothing was read yet
-pub from_start : (config : Config) (dump : NotedState) (limit limit' slot : ℕ) (back : List ℕ) (left : ℕ → List ℕ) → dump ≡ noted_none slot limit' back → limit' ≡ limit → back ≡ [] → slot ≡ 1
+pub from_start : (config : Config) (dump : NotedState) (limit limit' slot : ℕ) (back : List ℕ) (left : ℕ → List ℕ)
+    → dump ≡ noted_none slot limit' back → limit' ≡ limit → back ≡ [] → slot ≡ 1
     → notes_coming config dump (left dump.slot) ≡ notes_of config limit (left 1)
 from_start config dump limit limit' slot back left d l b s =
     (λ i. notes_coming config (d i) (left (d i).slot)) ∙ (λ i. notes_to_come config.peers (l i) 0 (record {}) (b i ++ left (s i)))
 
 -- what is said of it is due
-pub say_said : (found : List Note × End DumpReason) (counts : List NoteCount) (ended : Result Unit (Fault DumpReason)) (result : Result DumpSaid Refusal) (due : Verdict) (failed wider : Type 0)
+pub say_said : (found : List Note × End DumpReason) (counts : List NoteCount) (ended : Result Unit (Fault DumpReason))
+    (result : Result DumpSaid Refusal) (due : Verdict) (failed wider : Type 0)
     → Counts [] counts found failed ended → SaysEnd counts ended result → notes_verdict found ≡ due → (failed → wider)
     → MatchResult result (λ said. said_shown said ≡ due) (IsUnsaid due wider)
 say_said found counts (Ok done_so) (Ok said) due failed wider h says is f = says ∙ verdict_done found counts h.0 h.1 ∙ is

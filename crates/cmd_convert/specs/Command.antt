@@ -4,7 +4,9 @@ use Rattle.fs_base.specs.{Happened.{Happened, FilesFailed, SinkFailed, Wrote}, L
 use Rattle.fs_input.specs.Records.{End, done, limited, bad}
 use Rattle.fs_line.specs.Output.{Goes, Partly}
 use Rattle.fs_mrt.specs.{Dump.{spoken_from}, Record.{Spoken}, declared.{fault.DumpReason.{DumpReason}, heard.Heard.{Heard}}}
-use Rattle.cmd_stages.specs.{Load.{HoldsConfig, Names, config_stage}, Refusal.{Answers, EndsEarly, HasReason, Stage, Found, Stopped, Verdict, or_stop, status_of, verdict_with}, declared.refusal.Refusal.{Refusal, TheVariants.{Outside}}}
+use Rattle.cmd_stages.specs.Load.{HoldsConfig, Names, config_stage}
+use Rattle.cmd_stages.specs.Refusal.{Answers, EndsEarly, HasReason, Stage, Found, Stopped, Verdict, or_stop, status_of, verdict_with}
+use Rattle.cmd_stages.specs.declared.refusal.Refusal.{Refusal, TheVariants.{Outside}}
 use Rattle.fs_tape.specs.{Laws.{tape_text}, Tape.{Timed}, declared.magic.Version.TheVariants.{Two}}
 use Rattle.cmd_convert.specs.{Laws.{GivesBack}, Lives.{lives_of}, Making.{MakingState, items_from, remade}}
 

@@ -1,5 +1,6 @@
 -- A dump as a tape of the second version: the items that its records make, one after the other.
-use Rattle.std.specs.{Prelude.{ℕ, Bool, false, List, [], ◌∷◌, ◌++◌, Some, None, ◌==◌, ◌||◌, flat_map, map, if◌then◌else◌}, List.{slice_get}, Option.{option_map_or}}
+use Rattle.std.specs.Prelude.{ℕ, Bool, false, List, [], ◌∷◌, ◌++◌, Some, None, ◌==◌, ◌||◌, flat_map, map, if◌then◌else◌}
+use Rattle.std.specs.{List.{slice_get}, Option.{option_map_or}}
 use Rattle.fs_base.specs.{Config.{peer_of}, declared.config.Config.{Config}}
 use Rattle.fs_input.specs.Records.{End}
 use Rattle.fs_mrt.specs.{Dump.{dump_of}, Record.{Said, Spoken, change, message}, declared.fault.DumpReason.{DumpReason}}

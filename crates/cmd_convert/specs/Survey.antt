@@ -1,9 +1,14 @@
 -- What `check` says of a dump: who speaks in it, and of which types its records are that `convert` passes over; and its fault.
-use Rattle.std.specs.{Prelude.{ℕ, List, [], ◌∷◌, ◌++◌, Option, Some, None, Bool, not, Result, Ok, Err, ◌≡◌, ◌⊎◌, ◌+◌, MatchResult, codes, decimal, filter, flat_map, if◌then◌else◌, position, string_bytes}, Int.{to_be_bytes, w32, w128}, Net.{Addr.{segments_of}, Text.{ipv4_text, ipv6_text}}}
+use Rattle.std.specs.Prelude.{ℕ, List, [], ◌∷◌, ◌++◌, Option, Some, None, Bool, not, Result, Ok, Err, ◌≡◌, ◌⊎◌, ◌+◌, MatchResult, codes, decimal}
+use Rattle.std.specs.Prelude.{filter, flat_map, if◌then◌else◌, position, string_bytes}
+use Rattle.std.specs.{Int.{to_be_bytes, w32, w128}, Net.{Addr.{segments_of}, Text.{ipv4_text, ipv6_text}}}
 use Rattle.fs_base.specs.declared.config.{Address.{Address, TheVariants.{V4, V6}}, Config.{Config}}
 use Rattle.fs_input.specs.{Records.{End, done, limited, bad}, declared.fault.Fault.{Fault, TheVariants.{Read, Limit, Bad}}}
-use Rattle.fs_mrt.specs.{Fault.{reason_name}, Notes.{notes_of, same_note}, declared.{fault.DumpReason.{DumpReason}, notes.Note.{Note, TheVariants.{Skipped, Spoke}}}}
-use Rattle.cmd_stages.specs.{Load.{Names, config_stage}, Refusal.{Stage, Found, Stopped, Verdict, or_stop, status_of, verdict_with}, declared.refusal.Refusal.{Refusal, TheVariants.{Outside, Memory, Limit as LimitReached}}}
+use Rattle.fs_mrt.specs.{Fault.{reason_name}, Notes.{notes_of, same_note}}
+use Rattle.fs_mrt.specs.declared.{fault.DumpReason.{DumpReason}, notes.Note.{Note, TheVariants.{Skipped, Spoke}}}
+use Rattle.cmd_stages.specs.Load.{Names, config_stage}
+use Rattle.cmd_stages.specs.Refusal.{Stage, Found, Stopped, Verdict, or_stop, status_of, verdict_with}
+use Rattle.cmd_stages.specs.declared.refusal.Refusal.{Refusal, TheVariants.{Outside, Memory, Limit as LimitReached}}
 use Rattle.cmd_convert.specs.declared.{counts.NoteCount.{NoteCount}, survey.DumpSaid.{DumpSaid}}
 
 abbrev pub note_count : Note → ℕ → NoteCount

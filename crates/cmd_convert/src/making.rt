@@ -6,7 +6,8 @@ ghost use Rattle.cmd_stages.specs.Writing.{Finishes};
 ghost use Rattle.fs_line.specs.Output.{Sends};
 ghost use Rattle.fs_mrt.specs.{Dump.{IsWithin, spoken_from}, Record.{change, message, spoken}};
 ghost use Rattle.fs_tape.specs.{Laws.{item_text_at}, Magic.{magic_of}, Tape.{received}, declared.magic.Version.TheVariants.{Two}};
-ghost use Rattle.cmd_convert.specs.{Greeting.{greeting}, Lives.{lives_of, no_lives, with_life}, Making.{asn_of, is_established, is_taken, made, opening, text_at, ended}};
+ghost use Rattle.cmd_convert.specs.{Greeting.{greeting}, Lives.{lives_of, no_lives, with_life}};
+ghost use Rattle.cmd_convert.specs.Making.{asn_of, is_established, is_taken, made, opening, text_at, ended};
 
 use crate::greeting::{narrow_greeting, wide_greeting};
 use crate::lives::{Lives, has_width};

@@ -4,7 +4,9 @@ ghost use Rattle.std.specs.{Prelude.{◌≡◌, ◌≢◌, ◌≤◌, ◌<◌, �
 ghost use Rattle.fs_base.specs.{Files.{one_opening}, Outside.{Rose}, Sink.{Grew}};
 ghost use Rattle.fs_mrt.specs.Notes.{notes_coming};
 ghost use Rattle.cmd_stages.specs.{Load.{OpensFront, config_then}, Refusal.{answered, or_stop}, declared.refusal.Refusal.TheVariants.{Outside}};
-ghost use Rattle.cmd_convert.specs.{Command.{IsOfDump}, Survey.{Counts as AreCounted, IsUnsaid, SaysEnd, content_verdict, dump_verdict, said_shown}, declared.counts.NoteCount.{NoteCount}};
+ghost use Rattle.cmd_convert.specs.Command.{IsOfDump};
+ghost use Rattle.cmd_convert.specs.Survey.{Counts as AreCounted, IsUnsaid, SaysEnd, content_verdict, dump_verdict, said_shown};
+ghost use Rattle.cmd_convert.specs.declared.counts.NoteCount.{NoteCount};
 
 use crate::command::LONGEST_MESSAGE;
 use crate::counts::{NoteCount, add_note};

@@ -1,7 +1,8 @@
 //! What is written of a dump by `check`.
 
 ghost use Rattle.std.specs.{Prelude.{◌≡◌, ◌++◌, OnOk, IfOk, flat_map}, String.{string_bytes}};
-ghost use Rattle.cmd_convert.specs.Survey.{address_text, counts_text, dump_fault_line, number_text, peer_line, peer_part, peer_text, skipped_part, skipped_text};
+ghost use Rattle.cmd_convert.specs.Survey.{address_text, counts_text, dump_fault_line, number_text, peer_line, peer_part, peer_text, skipped_part};
+ghost use Rattle.cmd_convert.specs.Survey.{skipped_text};
 
 use crate::counts::NoteCount;
 use fs_base::{Address, Memory};

@@ -1,5 +1,11 @@
 -- A capture that is judged packet by packet, each under the routes held at its moment.
-use Rattle.cmd_enforce.{proofs.Words.{◌≡◌, ◌≢◌, ◌⊎◌, inl, inr, ◌≤◌, ◌<◌, ◌+◌, ◌^◌, ◌==◌, ℕ, List, [], ◌∷◌, ◌++◌, Bool, true, false, Option, Some, None, length, refl, ap, sym, ◌∙◌, subst, append_assoc, append-nil, length-append, arith, IsErrAnd, Rose, with_part, Config, End, done, Goes, Stops, goes_none, goes_then, goes_stops, goes_as, stops_as, Captured, CaptureState, Recorded, coming, CaptureReason, Held, Item, Timed, Refusal, Outside, Memory, until, IsUnplayed, PlayerState, Stands, due_item, answered, status_of, rose_earlier, AdmittedRules, Ceases, IsAtPacket, admitted_rules, always, lines_from, output_of, packet_text, rules_by, status_at, BreaksBehind, BreaksOff, CameTo, Follows, HoldAt, IsUnjudged, Judging, LeaveSameAt, Outcome, Progress, came_lines, outcome, progress}}
+use Rattle.cmd_enforce.proofs.Words.{◌≡◌, ◌≢◌, ◌⊎◌, inl, inr, ◌≤◌, ◌<◌, ◌+◌, ◌^◌, ◌==◌, ℕ, List, [], ◌∷◌, ◌++◌, Bool, true, false, Option, Some, None}
+use Rattle.cmd_enforce.proofs.Words.{length, refl, ap, sym, ◌∙◌, subst, append_assoc, append-nil, length-append, arith, IsErrAnd, Rose, with_part}
+use Rattle.cmd_enforce.proofs.Words.{Config, End, done, Goes, Stops, goes_none, goes_then, goes_stops, goes_as, stops_as, Captured, CaptureState}
+use Rattle.cmd_enforce.proofs.Words.{Recorded, coming, CaptureReason, Held, Item, Timed, Refusal, Outside, Memory, until, IsUnplayed, PlayerState}
+use Rattle.cmd_enforce.proofs.Words.{Stands, due_item, answered, status_of, rose_earlier, AdmittedRules, Ceases, IsAtPacket, admitted_rules, always}
+use Rattle.cmd_enforce.proofs.Words.{lines_from, output_of, packet_text, rules_by, status_at, BreaksBehind, BreaksOff, CameTo, Follows, HoldAt}
+use Rattle.cmd_enforce.proofs.Words.{IsUnjudged, Judging, LeaveSameAt, Outcome, Progress, came_lines, outcome, progress}
 use Rattle.std.{specs.{Option.{is_some}, Prelude.{Result, Ok, Err, if◌then◌else◌}}, proofs.lemmas.Bool.{eq-eqb, eqb-true}}
 use Rattle.fs_base.proofs.Lists.{each_append}
 use Rattle.fs_desk.specs.{Laws.{LeaveSame}, Leaves.{Leaves}}
@@ -13,7 +19,8 @@ OneList =
     → LeaveSame config items other → Leaves config items held → Leaves config other kept → held ≡ kept
 
 -- the lines of packets, and then of others
-lines_append : (rules : ℕ → AdmittedRules) (n : ℕ) (xs ys : List Captured) → lines_from n rules (xs ++ ys) ≡ lines_from n rules xs ++ lines_from (n + length xs) rules ys
+lines_append : (rules : ℕ → AdmittedRules) (n : ℕ) (xs ys : List Captured)
+    → lines_from n rules (xs ++ ys) ≡ lines_from n rules xs ++ lines_from (n + length xs) rules ys
 lines_append rules n [] ys = ap (λ (k : ℕ). lines_from k rules ys) (omega (arith))
 lines_append rules n (x ∷ xs) ys =
     ap (λ (z : List ℕ). packet_text (n + 1) (rules x.moment) x.link x.octets ++ z) (lines_append rules (n + 1) xs ys)
@@ -112,7 +119,8 @@ followed_more one {work} {now} next packet table f e l g n =
       count = n ∙ ap (λ (k : ℕ). k + 1) f.count ∙ sym (length-append f.gone (packet ∷ []));
       leaves = more.leaves;
       goes = goes_as
-          (ap (λ (k : ℕ). lines_from 0 (rules_by f.held) f.gone ++ packet_text (k + 1) (admitted_rules table) packet.link packet.octets) f.count ∙ sym more.lines)
+          (ap (λ (k : ℕ). lines_from 0 (rules_by f.held) f.gone ++ packet_text (k + 1) (admitted_rules table) packet.link packet.octets) f.count
+          ∙ sym more.lines)
           (goes_then f.goes g);
     }
 
@@ -121,7 +129,8 @@ abbrev came_of : {work : Judging} {now : Progress} → Follows work now → Came
 came_of {now = now} f = record { held = f.held; judged = f.gone; rest = now.rest.0; parts = f.parts; leaves = f.leaves }
 
 pub followed_done : {work : Judging} {now : Progress} → Follows work now → now.rest ≡ ([], done)
-    → (came : CameTo work.config work.items work.all.0) × (came.rest ≡ []) × (work.all.1 ≡ done) × Goes work.before now.written work.pending now.pending (came_lines came)
+    → (came : CameTo work.config work.items work.all.0) × (came.rest ≡ []) × (work.all.1 ≡ done)
+    × Goes work.before now.written work.pending now.pending (came_lines came)
 followed_done f e = (came_of f, ap (λ (r : List Captured × End CaptureReason). r.0) e, f.end_is ∙ ap (λ (r : List Captured × End CaptureReason). r.1) e, f.goes)
 
 -- a call on the files failed
@@ -166,7 +175,9 @@ followed_unplayed {work} {now} left early mid after other cause f u l (inr h) =
     (files_failed left (Rose early after ⊎ other) f (inl (rose_earlier early mid after l h.1)))
 
 -- the sink failed within the line of a packet
-pub followed_stopped : OneList → {work : Judging} {now : Progress} (rest : List Captured × End CaptureReason) (written : Option (List ℕ)) (pending : List ℕ) (packet : Captured) (table : Held)
+pub followed_stopped : OneList
+    → {work : Judging} {now : Progress} (rest : List Captured × End CaptureReason) (written : Option (List ℕ)) (pending : List ℕ) (packet : Captured)
+    (table : Held)
     (files : Type 0) (first after : ℕ) → Follows work now → now.rest ≡ with_part packet rest → Leaves work.config (until packet.moment work.items) table
     → Stops now.written written now.pending pending (packet_text (now.number + 1) (admitted_rules table) packet.link packet.octets)
     → Rose first after → BreaksOff work (outcome rest.0 written pending) (files ⊎ Rose first after) Outside
@@ -183,7 +194,8 @@ followed_stopped one {work} {now} rest written pending packet table files first 
         refl,
         inr rose,
         inr (stops_as
-            (ap (λ (k : ℕ). lines_from 0 (rules_by f.held) f.gone ++ packet_text (k + 1) (admitted_rules table) packet.link packet.octets) f.count ∙ sym more.lines)
+            (ap (λ (k : ℕ). lines_from 0 (rules_by f.held) f.gone ++ packet_text (k + 1) (admitted_rules table) packet.link packet.octets) f.count
+            ∙ sym more.lines)
             (goes_stops f.goes stop)),
       )),
     )
@@ -207,7 +219,8 @@ followed_left written pending number f g n = record {
 }
 
 -- the sink failed while they left
-pub followed_held : {work : Judging} {now : Progress} (left : List Captured) (written : Option (List ℕ)) (pending : List ℕ) (files : Type 0) (first mid after : ℕ)
+pub followed_held : {work : Judging} {now : Progress} (left : List Captured) (written : Option (List ℕ)) (pending : List ℕ) (files : Type 0)
+    (first mid after : ℕ)
     → Follows work now → Stops now.written written now.pending pending [] → first ≤ mid → Rose mid after
     → BreaksOff work (outcome left written pending) (files ⊎ Rose first after) Outside
 followed_held left written pending files first mid after f stop l rose = (
@@ -261,7 +274,8 @@ awaits items player t t' slot tape left left' two one kept l s =
 
 -- the capture is read from its own slot
 pub read_on : (capture capture' : CaptureState) (packet : Captured) (slot : ℕ) (left left' : ℕ → List ℕ)
-    → slot ≡ 2 → coming capture (left slot) ≡ with_part packet (coming capture' (left' slot)) → coming capture (left 2) ≡ with_part packet (coming capture' (left' 2))
+    → slot ≡ 2 → coming capture (left slot) ≡ with_part packet (coming capture' (left' slot))
+    → coming capture (left 2) ≡ with_part packet (coming capture' (left' 2))
 read_on capture capture' packet slot left left' two e =
     subst (λ (n : ℕ). coming capture (left n) ≡ with_part packet (coming capture' (left' n))) two e
 
@@ -281,7 +295,8 @@ six_of (Ok t) cause h six = absurd h
 six_of (Err e) cause h six = ap status_of (sym h) ∙ six
 
 -- a run that was refused so doesn't answer this
-refused_not : {T A : Type 0} (status : ℕ) (r : Result T Refusal) (cause : Refusal) → IsErrAnd r (λ e. e ≡ cause) → status_of cause ≢ status → answered r ≡ status → A
+refused_not : {T A : Type 0} (status : ℕ) (r : Result T Refusal) (cause : Refusal) → IsErrAnd r (λ e. e ≡ cause) → status_of cause ≢ status
+    → answered r ≡ status → A
 refused_not status (Ok t) cause h never same = absurd h
 refused_not status (Err e) cause h never same = absurd (never (ap status_of (sym h) ∙ same))
 
@@ -289,12 +304,14 @@ pub packet_no_tape : {T A : Type 0} (r : Result T Refusal) (cause : Refusal) →
 packet_no_tape r cause h at four = refused_not 4 r cause h at.0.1 four
 
 -- nor does one of which the tape wasn't begun
-pub unplayed_no_tape : {T A : Type 0} {failed : Type 0} (r : Result T Refusal) (cause : Refusal) → IsErrAnd r (λ e. e ≡ cause) → IsUnplayed failed cause → answered r ≡ 4 → A
+pub unplayed_no_tape : {T A : Type 0} {failed : Type 0} (r : Result T Refusal) (cause : Refusal) → IsErrAnd r (λ e. e ≡ cause)
+    → IsUnplayed failed cause → answered r ≡ 4 → A
 unplayed_no_tape {failed = failed} r cause h unplayed four = refused_not 4 r cause h (by unplayed) four
   where
     by : IsUnplayed failed cause → status_of cause ≢ 4
     by (inl e) same = let at : 6 ≡ 4 = sym (ap status_of e) ∙ same in absurd cc
     by (inr e) same = let at : 1 ≡ 4 = sym (ap status_of e.0) ∙ same in absurd cc
 
-pub packet_wants_none : {T A : Type 0} (r : Result T Refusal) (cause : Refusal) → IsErrAnd r (λ e. e ≡ cause) → IsAtPacket (status_of cause) → answered r ≡ 6 → A
+pub packet_wants_none : {T A : Type 0} (r : Result T Refusal) (cause : Refusal) → IsErrAnd r (λ e. e ≡ cause) → IsAtPacket (status_of cause)
+    → answered r ≡ 6 → A
 packet_wants_none r cause h at six = refused_not 6 r cause h at.1 six

@@ -1,5 +1,12 @@
 -- How the answer of `enforce` follows from those of its stages, and from what was judged at the packets' moments.
-use Rattle.cmd_enforce.proofs.Words.{◌≡◌, ◌≢◌, ◌⊎◌, inl, inr, ◌∙◌, ◌≤◌, ℕ, List, [], Option, Result, Ok, Err, refl, ap, sym, subst, IsErrAnd, Grew, GrewPart, Config, Grew-refl, part_whole, part_none, End, done, limited, bad, Rose, Goes, Partly, partly_flushed, goes_flush, goes_flush_part, Captured, Recorded, recorded, CaptureState, coming, CaptureReason, Held, Timed, Stage, Found, Stopped, answered, status_of, and_then, HasReason, Refusal, Memory, answered_err, answers_for, outside_one, rose_earlier, rose_later, accepted_with, ends_early, reason_then, IsOfPackets, always, status_at, capture_stage, AnswersAt, CameTo, EndsBefore, IsUnjudged, Judged, Judging, Outcome, WroteJudged, came_lines, judging, packets_of, verdict_at, Desked, Played, EnforcesSo, Unfinished, Names, config_stage, HasVersion, HaveNoMoments, IsWhole, tape_stage, accepted_stage, untimed, PlayerState, Stands}
+use Rattle.cmd_enforce.proofs.Words.{◌≡◌, ◌≢◌, ◌⊎◌, inl, inr, ◌∙◌, ◌≤◌, ℕ, List, [], Option, Result, Ok, Err, refl, ap, sym, subst, IsErrAnd, Grew}
+use Rattle.cmd_enforce.proofs.Words.{GrewPart, Config, Grew-refl, part_whole, part_none, End, done, limited, bad, Rose, Goes, Partly, partly_flushed}
+use Rattle.cmd_enforce.proofs.Words.{goes_flush, goes_flush_part, Captured, Recorded, recorded, CaptureState, coming, CaptureReason, Held, Timed}
+use Rattle.cmd_enforce.proofs.Words.{Stage, Found, Stopped, answered, status_of, and_then, HasReason, Refusal, Memory, answered_err, answers_for}
+use Rattle.cmd_enforce.proofs.Words.{outside_one, rose_earlier, rose_later, accepted_with, ends_early, reason_then, IsOfPackets, always, status_at}
+use Rattle.cmd_enforce.proofs.Words.{capture_stage, AnswersAt, CameTo, EndsBefore, IsUnjudged, Judged, Judging, Outcome, WroteJudged, came_lines}
+use Rattle.cmd_enforce.proofs.Words.{judging, packets_of, verdict_at, Desked, Played, EnforcesSo, Unfinished, Names, config_stage, HasVersion}
+use Rattle.cmd_enforce.proofs.Words.{HaveNoMoments, IsWhole, tape_stage, accepted_stage, untimed, PlayerState, Stands}
 use Rattle.cmd_stages.{specs.Writing.{Finishes}, proofs.Texts.{said_by, said_front}}
 use Rattle.fs_tape.specs.declared.magic.Version.{Version, TheVariants.{One, Two}}
 
@@ -48,10 +55,12 @@ pub outside_of_packets : IsOfPackets 1
 outside_of_packets = (λ e. absurd cc, λ e. absurd cc, λ e. absurd cc)
 
 -- so at want of memory
-pub none_by_memory : {T : Type 0} {config : Config} {items : List Timed} {stage : Stage Recorded} {failed : Type 0} {a : Option (List ℕ)} (result : Result T Refusal)
+pub none_by_memory : {T : Type 0} {config : Config} {items : List Timed} {stage : Stage Recorded} {failed : Type 0} {a : Option (List ℕ)}
+    (result : Result T Refusal)
     → IsErrAnd result (λ e. e ≡ Memory) → AnswersAt config items stage failed a a (answered result)
 none_by_memory (Ok value) is = absurd is
-none_by_memory {config = config} {items = items} {stage = stage} {failed = failed} {a = a} (Err refusal) is = none_judged config items stage failed failed a refusal (inr (inl is)) (λ f. f)
+none_by_memory {config = config} {items = items} {stage = stage} {failed = failed} {a = a} (Err refusal) is =
+    none_judged config items stage failed failed a refusal (inr (inl is)) (λ f. f)
 
 at_for : (config : Config) (items : List Timed) (stage : Stage Recorded) (failed failed' : Type 0) (before now : Option (List ℕ)) (answer : ℕ)
     → AnswersAt config items stage failed before now answer → (failed → failed') → AnswersAt config items stage failed' before now answer
@@ -83,7 +92,8 @@ ends_behind {T} work now failed result e judged =
     by (Err refusal) (came, inr (inr h)) = (came, inr (inr (ap status_of h.0, h.1, h.2)))
 
 -- a call on the outside failed
-part_lines : (config : Config) (items : List Timed) (found : List Captured × End CaptureReason) (failed : Type 0) (before now : Option (List ℕ)) (answer : ℕ) (came : CameTo config items found.0)
+part_lines : (config : Config) (items : List Timed) (found : List Captured × End CaptureReason) (failed : Type 0) (before now : Option (List ℕ))
+    (answer : ℕ) (came : CameTo config items found.0)
     → answer ≡ 1 → failed → GrewPart before now (came_lines came) → AnswersAt config items (Found (recorded found)) failed before now answer
 part_lines config items found failed before now answer came e f part = record {
   came = came;
@@ -120,10 +130,12 @@ module _ {T : Type 0} (work : Judging) (mid : Outcome) (now : Option (List ℕ))
       front came (inr (inl h)) part = goes_flush_part now h.2 part
       front came (inr (inr h)) part = partly_flushed work.before mid.written now mid.pending (came_lines came) h.2 part
 
-      by : (came : CameTo work.config work.items work.all.0) → EndsBehind work mid came failed (answered judged) → Finishes mid.pending rose mid.written now judged result
+      by : (came : CameTo work.config work.items work.all.0) → EndsBehind work mid came failed (answered judged)
+          → Finishes mid.pending rose mid.written now judged result
           → AnswersAt work.config work.items (Found (recorded work.all)) other work.before now (answered result)
       by came behind (inl h) =
-          subst (λ (r : Result T Refusal). AnswersAt work.config work.items (Found (recorded work.all)) other work.before now (answered r)) (sym h.0) (whole came behind h.1)
+          subst (λ (r : Result T Refusal). AnswersAt work.config work.items (Found (recorded work.all)) other work.before now (answered r)) (sym h.0)
+          (whole came behind h.1)
       by came behind (inr h) =
           part_lines work.config work.items work.all other work.before now (answered result) came (outside_one result h.0) (g h.1) (front came behind h.2)
 
@@ -136,7 +148,8 @@ module _ {T : Type 0} (work : Judging) (mid : Outcome) (now : Option (List ℕ))
       of_end limited h = absurd cc
       of_end (bad reason place) h = absurd cc
 
-      by : (came : CameTo work.config work.items work.all.0) → EndsBehind work mid came failed (answered judged) → Finishes mid.pending rose mid.written now judged result
+      by : (came : CameTo work.config work.items work.all.0) → EndsBehind work mid came failed (answered judged)
+          → Finishes mid.pending rose mid.written now judged result
           → WroteJudged work.config work.items work.all.0 mid.left work.before now
       by came (inl h) (inl done_so) = absurd (of_end work.all.1 (sym six ∙ ap answered done_so.0 ∙ h.0))
       by came (inr (inl h)) (inl done_so) = record { came = came; unjudged = h.1; wrote = goes_flush now h.2 done_so.1 }
@@ -150,11 +163,14 @@ answers_under {items = items} {stage = stage} {failed = failed} {before = before
     subst (λ (c : Config). AnswersAt c items stage failed before now answer) e a
 
 -- of a capture that was opened so
-pub answers_opened : {config config' : Config} {items : List Timed} {stage : Stage Recorded} {found : Recorded} {failed failed' : Type 0} {before now : Option (List ℕ)} {answer : ℕ}
+pub answers_opened : {config config' : Config} {items : List Timed} {stage : Stage Recorded} {found : Recorded} {failed failed' :
+    Type 0} {before now : Option (List ℕ)} {answer : ℕ}
     → stage ≡ Found found → config' ≡ config → AnswersAt config' items (Found found) failed before now answer → (failed → failed')
     → AnswersAt config items stage failed' before now answer
-answers_opened {config} {items = items} {stage = stage} {found = found} {failed = failed} {failed' = failed'} {before = before} {now = now} {answer = answer} e same a f =
-    subst (λ (s : Stage Recorded). AnswersAt config items s failed' before now answer) (sym e) (at_for config items (Found found) failed failed' before now answer (answers_under same a) f)
+answers_opened {config} {items = items} {stage = stage} {found = found} {failed = failed} {failed' = failed'} {before = before} {now = now} {answer =
+    answer} e same a f =
+    subst (λ (s : Stage Recorded). AnswersAt config items s failed' before now answer) (sym e)
+    (at_for config items (Found found) failed failed' before now answer (answers_under same a) f)
 
 -- a count that rose in a part rose in the whole
 pub rose_wider : (f f1 f2 s s1 s2 : ℕ) → f ≤ f1 → s1 ≤ s2 → Rose f1 f2 ⊎ Rose s s1 → Rose f f2 ⊎ Rose s s2
@@ -164,7 +180,8 @@ rose_wider f f1 f2 s s1 s2 l m (inr r) = inr (rose_later s s1 s2 r m)
 -- at want of memory
 
 -- no packet was read
-abbrev pub wrote_none : (config : Config) (items : List Timed) (packets left : List Captured) (before now : Option (List ℕ)) → packets ≡ left → Grew before now []
+abbrev pub wrote_none : (config : Config) (items : List Timed) (packets left : List Captured) (before now : Option (List ℕ)) → packets ≡ left
+    → Grew before now []
     → WroteJudged config items packets left before now
 wrote_none config items packets left before now e g = record { came = came_to_none config items packets; unjudged = inl e; wrote = g }
 
@@ -175,29 +192,35 @@ wrote_under {config} {items = items} {packets' = packets'} {left = left} {before
     subst (λ (l : List Captured). WroteJudged config items l left before now) p (subst (λ (c : Config). WroteJudged c items packets' left before now) e w)
 
 -- the configuration ended the run
-pub config_ends : {T : Type 0} (limit : ℕ) (holds : Names) (config tape capture : List ℕ) (failed failed' : Type 0) (a : Option (List ℕ)) (result : Result T Refusal) (refusal : Refusal)
+pub config_ends : {T : Type 0} (limit : ℕ) (holds : Names) (config tape capture : List ℕ) (failed failed' : Type 0) (a : Option (List ℕ))
+    (result : Result T Refusal) (refusal : Refusal)
     → IsErrAnd result (λ e. e ≡ refusal) → HasReason (config_stage limit holds config) failed refusal → (failed → failed')
     → EnforcesSo limit holds config tape capture failed' a a (answered result)
 config_ends limit holds config tape capture failed failed' a result refusal is h f =
     answered_err (EnforcesSo limit holds config tape capture failed' a a) result refusal is
     (inl (ends_early (accepted_stage limit holds config tape) failed failed' a refusal
-    (reason_then (config_stage limit holds config) (λ accepted. and_then (tape_stage accepted limit holds tape) (λ items. Found (accepted, items))) failed refusal h) f))
+    (reason_then (config_stage limit holds config) (λ accepted. and_then (tape_stage accepted limit holds tape) (λ items. Found (accepted, items)))
+    failed refusal h) f))
 
 -- the tape ended the run
 pub tape_ends : {T : Type 0} (limit : ℕ) (holds holds' : Names) (config tape capture : List ℕ) (accepted : Config) (failed failed' : Type 0)
     (a : Option (List ℕ)) (result : Result T Refusal) (refusal : Refusal)
-    → IsErrAnd result (λ e. e ≡ refusal) → config_stage limit holds config ≡ Found accepted → holds' ≡ holds → HasReason (tape_stage accepted limit holds' tape) failed refusal
+    → IsErrAnd result (λ e. e ≡ refusal) → config_stage limit holds config ≡ Found accepted → holds' ≡ holds
+    → HasReason (tape_stage accepted limit holds' tape) failed refusal
     → (failed → failed') → EnforcesSo limit holds config tape capture failed' a a (answered result)
 tape_ends limit holds holds' config tape capture accepted failed failed' a result refusal is e same h f =
-    let told : HasReason (tape_stage accepted limit holds tape) failed refusal = subst (λ (names : Names). HasReason (tape_stage accepted limit names tape) failed refusal) same h in
+    let told : HasReason (tape_stage accepted limit holds tape) failed refusal =
+    subst (λ (names : Names). HasReason (tape_stage accepted limit names tape) failed refusal) same h in
     let whole : HasReason (accepted_stage limit holds config tape) failed refusal =
     subst (λ (s : Stage (Config × List Timed)). HasReason s failed refusal) (sym (accepted_with limit holds config tape accepted e))
     (reason_then (tape_stage accepted limit holds tape) (λ items. Found (accepted, items)) failed refusal told) in
-    answered_err (EnforcesSo limit holds config tape capture failed' a a) result refusal is (inl (ends_early (accepted_stage limit holds config tape) failed failed' a refusal whole f))
+    answered_err (EnforcesSo limit holds config tape capture failed' a a) result refusal is
+    (inl (ends_early (accepted_stage limit holds config tape) failed failed' a refusal whole f))
 
 pub found_in : {limit : ℕ} {holds tape_holds : Names} {tape : List ℕ} {accepted : Config} {version : Version} {desk : Desked} → tape_holds ≡ holds
     → (w : IsWhole accepted limit tape_holds tape version desk) → tape_stage accepted limit holds tape ≡ Found w.played.items
-found_in {limit} {tape = tape} {accepted = accepted} same w = subst (λ (names : Names). tape_stage accepted limit names tape ≡ Found w.played.items) same w.played.found
+found_in {limit} {tape = tape} {accepted = accepted} same w =
+    subst (λ (names : Names). tape_stage accepted limit names tape ≡ Found w.played.items) same w.played.found
 
 -- the capture was judged, by what the tape holds at the packets' moments
 pub answers_so : {tape_holds : Names} {accepted : Config} {version : Version} {desk : Desked}
@@ -210,7 +233,8 @@ answers_so {tape_holds} {accepted} limit holds capture_holds config tape capture
     inr (record {
       accepted = accepted;
       items = w.played.items;
-      found = accepted_with limit holds config tape accepted e ∙ ap (λ (s : Stage (List Timed)). and_then s (λ items. Found (accepted, items))) (found_in same w);
+      found = accepted_with limit holds config tape accepted e
+          ∙ ap (λ (s : Stage (List Timed)). and_then s (λ items. Found (accepted, items))) (found_in same w);
       judged = subst (λ (names : Names). AnswersAt accepted w.played.items (capture_stage limit names capture) failed before now answer) (same' ∙ same) a;
     })
 
@@ -229,7 +253,8 @@ unfinished_so {tape_holds} {accepted} limit holds capture_holds config tape capt
     record {
       accepted = accepted;
       items = w.played.items;
-      found = accepted_with limit holds config tape accepted e ∙ ap (λ (s : Stage (List Timed)). and_then s (λ items. Found (accepted, items))) (found_in same w);
+      found = accepted_with limit holds config tape accepted e
+          ∙ ap (λ (s : Stage (List Timed)). and_then s (λ items. Found (accepted, items))) (found_in same w);
       reader = reader;
       judged = both.0;
       none = both.1;

@@ -1,5 +1,7 @@
 -- A capture that is opened, as its first four octets tell.
-use Rattle.cmd_enforce.proofs.Words.{◌≡◌, ◌≤◌, ◌++◌, ◌∙◌, ◌-◌, ℕ, List, Bool, Result, length, take, drop, ap, sym, subst, arith, append_assoc, take-append-drop, length-take, take-take, window, End, Captured, captured_in, coming, is_section, captured_by, CaptureReason}
+use Rattle.cmd_enforce.proofs.Words.{◌≡◌, ◌≤◌, ◌++◌, ◌∙◌, ◌-◌, ℕ, List, Bool, Result, length, take, drop, ap, sym, subst, arith, append_assoc}
+use Rattle.cmd_enforce.proofs.Words.{take-append-drop, length-take, take-take, window, End, Captured, captured_in, coming, is_section, captured_by}
+use Rattle.cmd_enforce.proofs.Words.{CaptureReason}
 use Rattle.fs_base.specs.Filling.{Fills}
 use Rattle.fs_input.{specs.{declared.fault.Fault.{Fault}, Opening.{Begins}}, proofs.Records.{head_filled}}
 

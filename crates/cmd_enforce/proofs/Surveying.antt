@@ -3,8 +3,16 @@ use Rattle.std.specs.{Prelude.{filter, max, nat_lt, slice_index_or, slice_set}, 
 use Rattle.std.proofs.lemmas.Bool.Decides.{nat_tests}
 use Rattle.fs_base.specs.{declared.link.Link.{Link}, Filling.{Fills}}
 use Rattle.fs_input.{specs.{declared.fault.Fault.{Fault, TheVariants.{Read, Limit, Bad}}}, proofs.Records.{head_filled}}
-use Rattle.cmd_enforce.proofs.{Words.{◌≡◌, ◌≤◌, ◌<◌, ◌++◌, ◌∙◌, ◌∷◌, ◌+◌, ◌-◌, ℕ, Bool, true, false, if◌then◌else◌, List, [], Option, Some, None, Result, Err, length, take, refl, ap, sym, subst, suc, arith, append-nil, append_assoc, window, CaptureReason, End, done, limited, bad, is_section, Names, Outside}, Opened.{put_back_whole}}
-use Rattle.cmd_enforce.specs.{Survey.{Tallied, count_of, fall_behind, first_time, greatest_time, is_other, last_time, link_count, links_of, same_link, survey_by, survey_in, survey_verdict, capture_fault_line, capture_verdict, content_verdict, tally_text, tallied, Surveyed}, Stamps.{BeginsSurvey, Counts, StampState, Surveys, own_link, stamps_coming, survey_coming, all_noted, fall_with, has_link, link_place, noted, nothing_noted, one_more, with_packet}, declared.{stamps.Stamp.{Stamp}, survey.Survey.{Survey}, tally.LinkCount.{LinkCount}}}
+use Rattle.cmd_enforce.proofs.Words.{◌≡◌, ◌≤◌, ◌<◌, ◌++◌, ◌∙◌, ◌∷◌, ◌+◌, ◌-◌, ℕ, Bool, true, false, if◌then◌else◌, List, [], Option, Some, None}
+use Rattle.cmd_enforce.proofs.Words.{Result, Err, length, take, refl, ap, sym, subst, suc, arith, append-nil, append_assoc, window, CaptureReason}
+use Rattle.cmd_enforce.proofs.Words.{End, done, limited, bad, is_section, Names, Outside}
+use Rattle.cmd_enforce.proofs.Opened.{put_back_whole}
+use Rattle.cmd_enforce.specs.Survey.{Tallied, count_of, fall_behind, first_time, greatest_time, is_other, last_time, link_count, links_of, same_link}
+use Rattle.cmd_enforce.specs.Survey.{survey_by, survey_in, survey_verdict, capture_fault_line, capture_verdict, content_verdict, tally_text, tallied}
+use Rattle.cmd_enforce.specs.Survey.{Surveyed}
+use Rattle.cmd_enforce.specs.Stamps.{BeginsSurvey, Counts, StampState, Surveys, own_link, stamps_coming, survey_coming, all_noted, fall_with}
+use Rattle.cmd_enforce.specs.Stamps.{has_link, link_place, noted, nothing_noted, one_more, with_packet}
+use Rattle.cmd_enforce.specs.declared.{stamps.Stamp.{Stamp}, survey.Survey.{Survey}, tally.LinkCount.{LinkCount}}
 use Rattle.cmd_stages.specs.Refusal.{Verdict, or_stop, verdict_with}
 
 -- counts of link types
@@ -35,7 +43,8 @@ module _ (link other : Option Link) where
   kept_by c cs false true e s f h = rw (e, s) (ap (λ (l : List LinkCount). c ∷ l) h)
   kept_by c cs false false e s f h = rw s h
 
-  kept_all : same_link other link ≡ false → (cs : List LinkCount) → filter (is_other link) (with_packet other cs) ≡ with_packet other (filter (is_other link) cs)
+  kept_all : same_link other link ≡ false → (cs : List LinkCount)
+      → filter (is_other link) (with_packet other cs) ≡ with_packet other (filter (is_other link) cs)
   kept_all f [] = rw f refl
   kept_all f (c ∷ cs) = kept_by c cs (same_link c.link other) (is_other link c) refl refl f (kept_all f cs)
 
@@ -137,7 +146,8 @@ place_some link (c ∷ cs) i it h at = by (has_link link c) refl (nat_lt (positi
         some_none i (sym h ∙ place_step link c cs false e ∙ gone)
 
 -- no count passes the number of packets
-still_few : (n m : ℕ) → n < m → (cs : List LinkCount) → AllByRecursion (λ (c : LinkCount). c.packets ≤ n) cs → AllByRecursion (λ (c : LinkCount). c.packets ≤ m) cs
+still_few : (n m : ℕ) → n < m → (cs : List LinkCount) → AllByRecursion (λ (c : LinkCount). c.packets ≤ n) cs
+    → AllByRecursion (λ (c : LinkCount). c.packets ≤ m) cs
 still_few n m more [] all = tt
 still_few n m more (c ∷ cs) all = let first = all.0 in (omega (arith, more, first), still_few n m more cs all.1)
 
@@ -191,7 +201,8 @@ fall_snoc time count (p ∷ gone) packet = by (nat_lt p.time time) (fall_snoc p.
         ≡ (if b then Some (count + 1) else fall_behind p.time (count + 1) (gone ++ packet ∷ []))
     by true others = refl
     by false others =
-        ap (λ (n : ℕ). fall_then (fall_behind p.time (count + 1) gone) (last_time p.time gone) n packet.time) (let n : count + suc (length gone) ≡ count + 1 + length gone = omega arith in n)
+        ap (λ (n : ℕ). fall_then (fall_behind p.time (count + 1) gone) (last_time p.time gone) n packet.time)
+        (let n : count + suc (length gone) ≡ count + 1 + length gone = omega arith in n)
         ∙ others
 
 fall_same : (now : Tallied) (time : ℕ) → fall_with now time ≡ fall_then now.fall now.last now.count time
@@ -270,7 +281,8 @@ ended_same found end e = ap (λ (n : End CaptureReason). survey_verdict (record 
     by limited = refl
     by (bad reason place) = refl
 
-pub verdict_done : (all : Surveyed) (survey : Survey) (text : List ℕ) → (all.end ≡ done) × (survey.link ≡ all.link) × (survey.tally ≡ all_noted nothing_noted all.packets)
+pub verdict_done : (all : Surveyed) (survey : Survey) (text : List ℕ)
+    → (all.end ≡ done) × (survey.link ≡ all.link) × (survey.tally ≡ all_noted nothing_noted all.packets)
     → text ≡ tally_text survey.link survey.tally → verdict_with 0 text ≡ survey_verdict all
 verdict_done all survey text h is =
     ap (λ (t : List ℕ). verdict_with 0 t)
@@ -278,7 +290,8 @@ verdict_done all survey text h is =
     ∙ sym (ended_same all done h.0)
 
 -- the capture of this content is the one that is opened
-pub opened_verdict : (limit : ℕ) (holds : Names) (name left : List ℕ) → holds name ≡ Some left → survey_verdict (survey_in limit left) ≡ capture_verdict limit holds name
+pub opened_verdict : (limit : ℕ) (holds : Names) (name left : List ℕ) → holds name ≡ Some left
+    → survey_verdict (survey_in limit left) ≡ capture_verdict limit holds name
 opened_verdict limit holds name left h = ap (λ (o : Option (List ℕ)). content_verdict limit (or_stop Outside o)) (sym h)
 
 -- what is counted behind the front of a capture
@@ -293,7 +306,8 @@ surveys_from all capture left link tally tally' failed is none own ends counted 
 )
 
 -- the capture whose front was read
-pub begun : (limit limit' slot : ℕ) (back : List ℕ) (left left' : ℕ → List ℕ) (capture : StampState) → limit' ≡ limit → back ≡ [] → slot ≡ 2 → capture.slot ≡ slot
+pub begun : (limit limit' slot : ℕ) (back : List ℕ) (left left' : ℕ → List ℕ) (capture : StampState) → limit' ≡ limit → back ≡ [] → slot ≡ 2
+    → capture.slot ≡ slot
     → survey_in limit' (back ++ left slot) ≡ survey_coming capture (left' slot) → survey_in limit (left 2) ≡ survey_coming capture (left' capture.slot)
 begun limit limit' slot back left left' capture l b s own h =
     (λ i. survey_in (sym l i) (sym b i ++ left (sym s i))) ∙ h ∙ ap (λ (n : ℕ). survey_coming capture (left' n)) (sym own)
@@ -304,7 +318,8 @@ surveys_fault all capture left now now' Read failed wider is h f = f h
 surveys_fault all capture left now now' Limit failed wider is h f = ap (λ (s : Surveyed). s.end) is ∙ h
 surveys_fault all capture left now now' (Bad reason place) failed wider is h f = ap (λ (s : Surveyed). s.end) is ∙ h
 
-pub surveys_unbegun : (limit limit' slot : ℕ) (back : List ℕ) (left : ℕ → List ℕ) (coming : StampState → Surveyed) (fault : Fault CaptureReason) (failed : Type 0)
+pub surveys_unbegun : (limit limit' slot : ℕ) (back : List ℕ) (left : ℕ → List ℕ) (coming : StampState
+    → Surveyed) (fault : Fault CaptureReason) (failed : Type 0)
     → limit' ≡ limit → back ≡ [] → slot ≡ 2 → BeginsSurvey (survey_in limit' (back ++ left slot)) coming (Err fault) → (fault ≡ Read → failed)
     → Surveys (survey_in limit (left 2)) failed (Err fault)
 surveys_unbegun limit limit' slot back left coming Read failed l b s h f = f refl

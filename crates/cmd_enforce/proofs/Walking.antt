@@ -1,5 +1,9 @@
 -- How the walk goes on from one matching rule to the next.
-use Rattle.cmd_enforce.proofs.Words.{◌≡◌, ◌+◌, ◌<◌, ◌≤◌, ℕ, zero, suc, List, [], ◌∷◌, ◌++◌, Bool, true, false, Option, Some, None, IfSome, Ok, Err, if◌then◌else◌, length, drop, get_or, refl, ap, sym, subst, ◌∙◌, arith, append_assoc, append-nil, map-append, length-map, StandsForLists, WalksOn, admitted_in, AreMatchesOf, Matching, behind, Walked, entry_of, entries, Listed, Held, first_from, goes_on, walk_from, walk_of, line_of, unread_line_of, AdmittedRules, admitted_rules, packet_text, rules_for, seen_of, text_by, HasRoom, StandsFor, WalksWith}
+use Rattle.cmd_enforce.proofs.Words.{◌≡◌, ◌+◌, ◌<◌, ◌≤◌, ℕ, zero, suc, List, [], ◌∷◌, ◌++◌, Bool, true, false, Option, Some, None, IfSome, Ok, Err}
+use Rattle.cmd_enforce.proofs.Words.{if◌then◌else◌, length, drop, get_or, refl, ap, sym, subst, ◌∙◌, arith, append_assoc, append-nil, map-append}
+use Rattle.cmd_enforce.proofs.Words.{length-map, StandsForLists, WalksOn, admitted_in, AreMatchesOf, Matching, behind, Walked, entry_of, entries}
+use Rattle.cmd_enforce.proofs.Words.{Listed, Held, first_from, goes_on, walk_from, walk_of, line_of, unread_line_of, AdmittedRules, admitted_rules}
+use Rattle.cmd_enforce.proofs.Words.{packet_text, rules_for, seen_of, text_by, HasRoom, StandsFor, WalksWith}
 use Rattle.fs_base.specs.declared.{prefix.Family.{Family}, link.Link.{Link}}
 use Rattle.fs_compile.{specs.{Index.{actions_of}, declared.compiled.Compiled.{Compiled}}, proofs.Walking.{walks_by_next_law}}
 use Rattle.fs_packet.specs.{Fields.{Viewed, unread_number}, declared.fields.Unread.{Unread}}
@@ -17,7 +21,8 @@ FindsFrom from view rules found =
     (found ≡ first_from from view (drop from rules)) × IfSome found (λ place. (from ≤ place) × (place < length rules))
 
 -- behind a rule that was found they are the same matches
-pub matches_on : (view : Viewed) (rules : List Listed) (old new : Matching) (n : ℕ) → new ≡ behind (Some n) old → AreMatchesOf view rules old → AreMatchesOf view rules new
+pub matches_on : (view : Viewed) (rules : List Listed) (old new : Matching) (n : ℕ) → new ≡ behind (Some n) old → AreMatchesOf view rules old
+    → AreMatchesOf view rules new
 matches_on view rules old new n e m = subst (AreMatchesOf view rules) (sym e) (record { facts = m.facts; rules_are = m.rules_are })
 
 -- what a search from a place on finds is where the walk goes on
@@ -64,7 +69,8 @@ pub walk_on : (view : Viewed) (list : List Listed) (place found : ℕ) (walked :
     → WalkGoesOn view list (found + 1) (walked ++ next ∷ [])
 walk_on view list place found walked next actions a w f same e g =
     let r : Listed = some_rule list found f.1.1 in
-    let at : get_or actions found a ≡ (get_or list found r).actions = ap (λ (l : List (List (List ℕ))). get_or l found a) same ∙ actions_at list found a r f.1.1 in
+    let at : get_or actions found a ≡ (get_or list found r).actions = ap (λ (l : List (List (List ℕ))). get_or l found a) same
+    ∙ actions_at list found a r f.1.1 in
     let two : found + 2 ≡ found + 1 + 1 = omega arith in
     one_more view list place found walked next (get_or list found r).actions (walk_from (found + 1 + 1) view (drop (found + 1) list)) w
     (found_on view list place (Some found) f r
@@ -74,13 +80,15 @@ walk_on view list place found walked next actions a w f same e g =
     (e ∙ ap (λ (x : List (List ℕ)). (found + 1, x)) at)
 
 -- or is clear
-pub walk_ends : (view : Viewed) (list : List Listed) (place found : ℕ) (walked : List Walked) (next : Walked) (actions : List (List (List ℕ))) (a : List (List ℕ))
+pub walk_ends : (view : Viewed) (list : List Listed) (place found : ℕ) (walked : List Walked) (next : Walked) (actions : List (List (List ℕ)))
+    (a : List (List ℕ))
     → WalkGoesOn view list place walked → FindsFrom place view list (Some found) → actions ≡ actions_of list
     → entry_of next ≡ (found + 1, get_or actions found a) → goes_on (get_or actions found a) ≡ false
     → entries (walked ++ next ∷ []) ≡ walk_of view list
 walk_ends view list place found walked next actions a w f same e g =
     let r : Listed = some_rule list found f.1.1 in
-    let at : get_or actions found a ≡ (get_or list found r).actions = ap (λ (l : List (List (List ℕ))). get_or l found a) same ∙ actions_at list found a r f.1.1 in
+    let at : get_or actions found a ≡ (get_or list found r).actions = ap (λ (l : List (List (List ℕ))). get_or l found a) same
+    ∙ actions_at list found a r f.1.1 in
     sym (append-nil (entries (walked ++ next ∷ [])))
     ∙ one_more view list place found walked next (get_or list found r).actions [] w
     (found_on view list place (Some found) f r
@@ -100,7 +108,8 @@ pub stands_for : (held : Held) (compiled : Compiled) → StandsForLists (admitte
 stands_for held compiled s = record { v4 = s.v4; v6 = s.v6 }
 
 -- the rules of the packet's family
-pub walks_with : (view : Viewed) (family : Family) (rules : AdmittedRules) (compiled : Compiled) (actions : List (List (List ℕ))) → StandsFor rules compiled → family ≡ view.family
+pub walks_with : (view : Viewed) (family : Family) (rules : AdmittedRules) (compiled : Compiled) (actions : List (List (List ℕ)))
+    → StandsFor rules compiled → family ≡ view.family
     → actions ≡ actions_of (rules_for family rules) → WalksWith view (rules_for view.family rules) compiled actions
 walks_with view family rules compiled actions s e a = record {
   lists = λ family. rules_for family rules;
@@ -110,7 +119,8 @@ walks_with view family rules compiled actions s e a = record {
 }
 
 -- there is room for them
-pub room_for : (family : Family) (rules : AdmittedRules) (compiled : Compiled) (actions : List (List (List ℕ))) (room : ℕ) → StandsFor rules compiled → HasRoom compiled room
+pub room_for : (family : Family) (rules : AdmittedRules) (compiled : Compiled) (actions : List (List (List ℕ))) (room : ℕ) → StandsFor rules compiled
+    → HasRoom compiled room
     → actions ≡ actions_of (rules_for family rules) → length actions ≤ room
 room_for family rules compiled actions room s h a =
     let size : length actions ≡ length (rules_for family rules) = ap length a ∙ length-map (rules_for family rules) (λ (rule : Listed). rule.actions) in

@@ -3,7 +3,8 @@ use Rattle.std.specs.Prelude.{Option, Some, None, Result, Ok, Err}
 use Rattle.fs_pcap.specs.declared.{capture.Caught.{Caught as Record}, fault.CaptureReason.{CaptureReason as PcapReason}}
 use Rattle.fs_base.specs.declared.link.Link.{Link}
 use Rattle.fs_pcapng.specs.declared.{caught.NgCaught.{NgCaught}, fault.NgReason.{NgReason}}
-use Rattle.fs_input.specs.{Records.{End, done, limited, bad}, declared.fault.{Ended.{Ended, TheVariants.{Done, Stopped}}, Fault.{Fault, TheVariants.{Read, Limit, Bad}}}}
+use Rattle.fs_input.specs.Records.{End, done, limited, bad}
+use Rattle.fs_input.specs.declared.fault.{Ended.{Ended, TheVariants.{Done, Stopped}}, Fault.{Fault, TheVariants.{Read, Limit, Bad}}}
 use Rattle.cmd_enforce.specs.declared.{caught.Caught.{Caught}, fault.CaptureReason.{CaptureReason, TheVariants.{Pcap, Pcapng}}}
 
 -- the same, with the reason as this capture has it

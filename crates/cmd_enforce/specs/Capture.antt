@@ -1,12 +1,16 @@
 -- A capture of either format: of the pcapng format where its first four octets are the type of a section header, and of
 -- the libpcap format else.
-use Rattle.std.specs.{Prelude.{ℕ, List, [], Option, Some, None, Bool, Result, Ok, Err, IfOk, ◌≡◌, ◌≤◌, ◌<◌, ◌^◌, ◌==◌, ◌&&◌, if◌then◌else◌, length, map, take, ⊤}, Result.{IsErrOf}}
+use Rattle.std.specs.Prelude.{ℕ, List, [], Option, Some, None, Bool, Result, Ok, Err, IfOk, ◌≡◌, ◌≤◌, ◌<◌, ◌^◌, ◌==◌, ◌&&◌, if◌then◌else◌, length}
+use Rattle.std.specs.Prelude.{map, take, ⊤}
+use Rattle.std.specs.Result.{IsErrOf}
 use Rattle.byteorder.specs.Endian.{big_number}
 use Rattle.fs_base.specs.{Files.{OnlySlot}, Outside.{Rose}, Parts.{window, with_part}}
 use Rattle.fs_base.specs.declared.Files as files
 use Rattle.fs_base.specs.declared.{counted.Counted.{Counted}, link.Link.{Link}}
-use Rattle.fs_pcap.specs.{Capture.{Captured as Record, Recorded as Records, capture_of as pcap_of, packets_to_come as records_to_come}, Head.{longest_record}, declared.header.Heading.{Heading}}
-use Rattle.fs_pcapng.specs.{Block.{Packet as Block, Stands, section_header}, Pcapng.{packets_to_come as blocks_to_come, pcapng_of}, declared.fault.NgReason.{NgReason}}
+use Rattle.fs_pcap.specs.Capture.{Captured as Record, Recorded as Records, capture_of as pcap_of, packets_to_come as records_to_come}
+use Rattle.fs_pcap.specs.{Head.{longest_record}, declared.header.Heading.{Heading}}
+use Rattle.fs_pcapng.specs.{Block.{Packet as Block, Stands, section_header}, Pcapng.{packets_to_come as blocks_to_come, pcapng_of}}
+use Rattle.fs_pcapng.specs.declared.fault.NgReason.{NgReason}
 use Rattle.fs_input.specs.{NextRecord.{GivesNext, Grows as GrowsBy}, Records.{End}, declared.fault.{Ended.{Ended}, Fault.{Fault, TheVariants.{Read}}}}
 use Rattle.cmd_enforce.specs.{Answer.{end_as}, declared.{caught.Caught.{Caught}, fault.CaptureReason.{CaptureReason, TheVariants.{Pcap, Pcapng}}}}
 
@@ -103,7 +107,8 @@ Times old new (Ok None) = ⊤
 Times old new (Err fault) = ⊤
 
 -- a capture is begun behind the octets that were counted in a slot
-pub record BeginsSo {F : Type 0} (of_files : files.Ghosts F) (old new : F) (counted : Counted) (result : Result CaptureState (Fault CaptureReason)) : Type 0 where
+pub record BeginsSo {F : Type 0} (of_files : files.Ghosts F) (old new : F) (counted : Counted) (result : Result CaptureState (Fault CaptureReason)) :
+    Type 0 where
   pub later : of_files.faults old ≤ of_files.faults new
   pub read : IsErrOf result Read → Rose (of_files.faults old) (of_files.faults new)
   pub slot : IfOk result (λ capture. capture.slot ≡ counted.slot)

@@ -3,8 +3,10 @@ use Rattle.std.specs.Prelude.{ℕ, List, [], ◌≡◌, ◌≤◌, ◌⊎◌, �
 use Rattle.fs_input.specs.Records.{done}
 use Rattle.fs_base.specs.{declared.config.Config.{Config}, Files.{Opened, one_opening}, Happened.{Happened, FilesFailed, SinkFailed, Wrote}, Sink.{Grew}}
 use Rattle.fs_tape.specs.{Tape.{Timed}, declared.magic.Version.TheVariants.{Two}}
-use Rattle.cmd_enforce.specs.{Capture.{CaptureState, Recorded, capture_of, coming}, Judge.{capture_stage, status_at, output_of}, Moments.{AnswersAt, HoldAt, WroteJudged, packets_of}}
-use Rattle.cmd_stages.specs.{Refusal.{Stage, Found, Stopped, and_then, status_of, EndsEarly}, Load.{HoldsConfig, Names, Openings}, Play.{HasVersion, HoldsTape, accepted_stage}}
+use Rattle.cmd_enforce.specs.{Capture.{CaptureState, Recorded, capture_of, coming}, Judge.{capture_stage, status_at, output_of}}
+use Rattle.cmd_enforce.specs.Moments.{AnswersAt, HoldAt, WroteJudged, packets_of}
+use Rattle.cmd_stages.specs.Refusal.{Stage, Found, Stopped, and_then, status_of, EndsEarly}
+use Rattle.cmd_stages.specs.{Load.{HoldsConfig, Names, Openings}, Play.{HasVersion, HoldsTape, accepted_stage}}
 use Rattle.fs_rules.specs.Table.{Held}
 
 pub record Inputs : Type 0 where

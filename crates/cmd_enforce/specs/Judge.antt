@@ -6,7 +6,8 @@ use Rattle.fs_packet.specs.{Fields.{Viewed, unread_number}, Reading.{view_of}, d
 use Rattle.cmd_enforce.specs.{Capture.{Captured, Recorded, capture_of, packet_from}, declared.{fault.CaptureReason.{CaptureReason}, caught.Caught.{Caught}}}
 use Rattle.fs_rules.specs.{Table.{admitted, Held}, Lent.{Listed, listed}, Walk.{walk_of}}
 use Rattle.fs_input.specs.Records.{End, done, limited, bad}
-use Rattle.cmd_stages.specs.{Refusal.{Stage, Found, and_then, or_stop, status_of}, declared.refusal.Refusal.{Refusal, TheVariants.{Outside}}, Load.{Names}, Play.{EndsBy, IsOpenOrDone}, Player.{PlayerState}}
+use Rattle.cmd_stages.specs.{Refusal.{Stage, Found, and_then, or_stop, status_of}, declared.refusal.Refusal.{Refusal, TheVariants.{Outside}}}
+use Rattle.cmd_stages.specs.{Load.{Names}, Play.{EndsBy, IsOpenOrDone}, Player.{PlayerState}}
 
 -- the admitted rules of each family in order
 pub record AdmittedRules : Type 0 where

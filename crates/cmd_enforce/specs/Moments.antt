@@ -2,12 +2,15 @@
 use Rattle.std.specs.{Prelude.{ℕ, List, [], ◌∷◌, ◌++◌, Option, Result, ◌≡◌, ◌≢◌, ◌⊎◌, MatchResult, length}, List.{AllByRecursion}}
 use Rattle.fs_base.specs.{Sink.{Grew}, declared.config.Config.{Config}}
 use Rattle.fs_input.specs.Records.{End, done}
-use Rattle.cmd_enforce.specs.{Capture.{Captured, CaptureState, Recorded, coming, recorded}, declared.fault.CaptureReason.{CaptureReason}, Judge.{capture_stage, lines_from, rules_by, status_at}}
+use Rattle.cmd_enforce.specs.{Capture.{Captured, CaptureState, Recorded, coming, recorded}, declared.fault.CaptureReason.{CaptureReason}}
+use Rattle.cmd_enforce.specs.Judge.{capture_stage, lines_from, rules_by, status_at}
 use Rattle.fs_rules.specs.Table.{Held}
 use Rattle.fs_tape.specs.Tape.{Timed}
 use Rattle.fs_desk.specs.{Laws.{LeaveSame}, Leaves.{Leaves}}
 use Rattle.fs_line.specs.Output.{Goes, Partly}
-use Rattle.cmd_stages.specs.{Play.{until}, Load.{Names}, Refusal.{Answers, Stage, Found, Stopped, Verdict, status_of, verdict_with}, declared.refusal.Refusal.{Refusal, TheVariants.{Outside, Memory}}}
+use Rattle.cmd_stages.specs.{Play.{until}, Load.{Names}}
+use Rattle.cmd_stages.specs.Refusal.{Answers, Stage, Found, Stopped, Verdict, status_of, verdict_with}
+use Rattle.cmd_stages.specs.declared.refusal.Refusal.{Refusal, TheVariants.{Outside, Memory}}
 
 -- At the moment of each of these packets the items up to that moment leave these routes held.
 abbrev pub HoldAt : Config → List Timed → (ℕ → Held) → List Captured → Type 0
@@ -106,7 +109,8 @@ verdict_at held judged (Stopped refusal) = verdict_with (status_of refusal) []
 
 -- The packets of a capture were judged under the routes that the tape holds at their moments. All of them were, but for
 -- want of memory and for a call on the outside that failed.
-pub record AnswersAt (config : Config) (items : List Timed) (stage : Stage Recorded) (failed : Type 0) (before now : Option (List ℕ)) (answer : ℕ) : Type 0 where
+pub record AnswersAt (config : Config) (items : List Timed) (stage : Stage Recorded) (failed : Type 0) (before now : Option (List ℕ)) (answer : ℕ) :
+    Type 0 where
   pub came : CameTo config items (packets_of stage)
   pub answers : Answers (verdict_at came.held came.judged stage) failed before now answer
   pub all : answer ≢ 6 → answer ≢ 1 → came.rest ≡ []

@@ -1,6 +1,7 @@
 -- What a capture shows, by its format.
 use Rattle.std.specs.Option.{option_map}
-use Rattle.cmd_enforce.specs.{Answer.{ended_as}, Capture.{CaptureState, blocks, records}, declared.{fault.CaptureReason.TheVariants.{Pcap, Pcapng}, reader.Reader.{Reader, TheVariants.{Records, Blocks}}}}
+use Rattle.cmd_enforce.specs.{Answer.{ended_as}, Capture.{CaptureState, blocks, records}}
+use Rattle.cmd_enforce.specs.declared.{fault.CaptureReason.TheVariants.{Pcap, Pcapng}, reader.Reader.{Reader, TheVariants.{Records, Blocks}}}
 
 abbrev pub state_of : Reader → CaptureState
 state_of (Records capture) = record {

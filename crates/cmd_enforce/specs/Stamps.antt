@@ -1,15 +1,24 @@
 -- What a capture shows that is surveyed, and what is counted of its packets one by one.
-use Rattle.std.specs.Prelude.{ℕ, Bool, List, [], ◌∷◌, Option, Some, None, Result, Ok, Err, ◌≡◌, ◌≤◌, ◌+◌, ◌⊎◌, if◌then◌else◌, max, nat_lt, position, IfOk, MatchResult, ⊤, string_bytes}
+use Rattle.std.specs.Prelude.{ℕ, Bool, List, [], ◌∷◌, Option, Some, None, Result, Ok, Err, ◌≡◌, ◌≤◌, ◌+◌, ◌⊎◌, if◌then◌else◌, max, nat_lt, position}
+use Rattle.std.specs.Prelude.{IfOk, MatchResult, ⊤, string_bytes}
 use Rattle.std.specs.Option.{option_map, unwrap_or}
 use Rattle.std.specs.Result.{IsErrOf}
 use Rattle.fs_base.specs.{Files.{OnlySlot}, Outside.{Rose}, declared.{counted.Counted.{Counted}, link.Link.{Link}}}
 use Rattle.fs_base.specs.declared.Files as files
-use Rattle.fs_pcap.specs.declared.{capture.Caught.{Caught as Record}, fault.CaptureReason.{CaptureReason as PcapReason}, header.Heading.{Heading}, order.Unit.{Unit as FractionUnit}}
+use Rattle.fs_pcap.specs.declared.{capture.Caught.{Caught as Record}, fault.CaptureReason.{CaptureReason as PcapReason}, header.Heading.{Heading}}
+use Rattle.fs_pcap.specs.declared.order.Unit.{Unit as FractionUnit}
 use Rattle.fs_pcap.specs.Order.{time_of}
 use Rattle.fs_pcapng.specs.{Block.{Stands}, Own.{own_to_come}, declared.{caught.NgCaught.{NgCaught}, fault.NgReason.{NgReason}}}
-use Rattle.fs_input.specs.{NextRecord.{Grows as GrowsBy}, Records.{End, done, limited, bad}, declared.fault.{Ended.{Ended}, Fault.{Fault, TheVariants.{Read, Limit, Bad}}}}
-use Rattle.cmd_enforce.specs.{Answer.{answer_as, ended_as}, Survey.{Surveyed, Tallied, link_count, of_blocks, records_coming, same_link, stamp, surveyed, capture_fault_line}, declared.{fault.CaptureReason.{CaptureReason, TheVariants.{Pcap, Pcapng}}, survey.{CaptureSaid.{CaptureSaid}, Survey.{Survey}}, stamps.{Stamp.{Stamp}, StampReader.{StampReader, TheVariants.{Records, Blocks}}}, tally.LinkCount.{LinkCount}}}
-use Rattle.cmd_stages.specs.{Refusal.{Verdict, status_of, verdict_with}, declared.refusal.Refusal.{Refusal, TheVariants.{Outside, Memory, Limit as LimitReached}}}
+use Rattle.fs_input.specs.{NextRecord.{Grows as GrowsBy}, Records.{End, done, limited, bad}}
+use Rattle.fs_input.specs.declared.fault.{Ended.{Ended}, Fault.{Fault, TheVariants.{Read, Limit, Bad}}}
+use Rattle.cmd_enforce.specs.Answer.{answer_as, ended_as}
+use Rattle.cmd_enforce.specs.Survey.{Surveyed, Tallied, link_count, of_blocks, records_coming, same_link, stamp, surveyed, capture_fault_line}
+use Rattle.cmd_enforce.specs.declared.fault.CaptureReason.{CaptureReason, TheVariants.{Pcap, Pcapng}}
+use Rattle.cmd_enforce.specs.declared.survey.{CaptureSaid.{CaptureSaid}, Survey.{Survey}}
+use Rattle.cmd_enforce.specs.declared.stamps.{Stamp.{Stamp}, StampReader.{StampReader, TheVariants.{Records, Blocks}}}
+use Rattle.cmd_enforce.specs.declared.tally.LinkCount.{LinkCount}
+use Rattle.cmd_stages.specs.Refusal.{Verdict, status_of, verdict_with}
+use Rattle.cmd_stages.specs.declared.refusal.Refusal.{Refusal, TheVariants.{Outside, Memory, Limit as LimitReached}}
 
 -- what the packets to come depend on: what the header says and the moment of the last record, or where the blocks stand
 pub data StampContext : Type 0 where
@@ -65,7 +74,8 @@ BeginsSurvey all coming (Err Limit) = all.end ≡ limited
 BeginsSurvey all coming (Err (Bad reason place)) = all.end ≡ bad reason place
 
 -- a capture is begun behind the octets that were counted in a slot
-pub record BeginsStamps {F : Type 0} (of_files : files.Ghosts F) (old new : F) (counted : Counted) (result : Result StampState (Fault CaptureReason)) : Type 0 where
+pub record BeginsStamps {F : Type 0} (of_files : files.Ghosts F) (old new : F) (counted : Counted)
+    (result : Result StampState (Fault CaptureReason)) : Type 0 where
   pub later : of_files.faults old ≤ of_files.faults new
   pub read : IsErrOf result Read → Rose (of_files.faults old) (of_files.faults new)
   pub slot : IfOk result (λ capture. capture.slot ≡ counted.slot)

@@ -1,12 +1,19 @@
 -- What `check` says of a capture: how many packets it has, when they were captured, and behind which link types; or its
 -- fault.
-use Rattle.std.specs.Prelude.{ℕ, List, [], ◌∷◌, ◌++◌, Option, Some, None, Bool, not, Result, Ok, Err, ◌+◌, ◌==◌, codes, decimal, drop, filter, flat_map, length, map, max, nat_lt, take, if◌then◌else◌}
+use Rattle.std.specs.Prelude.{ℕ, List, [], ◌∷◌, ◌++◌, Option, Some, None, Bool, not, Result, Ok, Err, ◌+◌, ◌==◌, codes, decimal, drop, filter}
+use Rattle.std.specs.Prelude.{flat_map, length, map, max, nat_lt, take, if◌then◌else◌}
 use Rattle.fs_base.specs.{Link.{link_number}, Parts.{window}, declared.link.Link.{Link}}
-use Rattle.fs_pcap.specs.{Capture.{Captured as Record, heading_of, packets_to_come as records_to_come}, Order.{time_of}, Fault.{reason_name as pcap_reason_name}, declared.{fault.CaptureReason.{CaptureReason as PcapReason}, header.Heading.{Heading}}}
+use Rattle.fs_pcap.specs.Capture.{Captured as Record, heading_of, packets_to_come as records_to_come}
+use Rattle.fs_pcap.specs.{Order.{time_of}, Fault.{reason_name as pcap_reason_name}}
+use Rattle.fs_pcap.specs.declared.{fault.CaptureReason.{CaptureReason as PcapReason}, header.Heading.{Heading}}
 use Rattle.fs_pcapng.specs.{Block.{Packet as Block}, Fault.{reason_name as ng_reason_name}, Own.{own_of}, declared.fault.NgReason.{NgReason}}
 use Rattle.fs_input.specs.{Records.{End, done, limited, bad}}
-use Rattle.cmd_enforce.specs.{Answer.{end_as}, Capture.{is_section}, declared.{fault.CaptureReason.{CaptureReason, TheVariants.{Pcap, Pcapng}}, stamps.Stamp.{Stamp}, tally.LinkCount.{LinkCount}}}
-use Rattle.cmd_stages.specs.{Load.{Names}, Refusal.{Stage, Found, Stopped, Verdict, or_stop, status_of, verdict_with}, declared.refusal.Refusal.{TheVariants.{Outside}}}
+use Rattle.cmd_enforce.specs.{Answer.{end_as}, Capture.{is_section}}
+use Rattle.cmd_enforce.specs.declared.fault.CaptureReason.{CaptureReason, TheVariants.{Pcap, Pcapng}}
+use Rattle.cmd_enforce.specs.declared.{stamps.Stamp.{Stamp}, tally.LinkCount.{LinkCount}}
+use Rattle.cmd_stages.specs.Load.{Names}
+use Rattle.cmd_stages.specs.Refusal.{Stage, Found, Stopped, Verdict, or_stop, status_of, verdict_with}
+use Rattle.cmd_stages.specs.declared.refusal.Refusal.TheVariants.{Outside}
 
 -- a packet: its link type, where it is one of the six that are read, and its own time, in nanoseconds since the start of
 -- 1970

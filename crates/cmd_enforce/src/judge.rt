@@ -2,7 +2,10 @@
 
 ghost use Rattle.std.specs.{Prelude.{◌≡◌, ◌≤◌, ◌<◌, ◌^◌, ◌⊎◌, List, None, true, IsTrue, IfOk, IfSome, MatchResult, length}, Option.{is_some}};
 ghost use Rattle.fs_base.specs.Outside.{Rose};
-ghost use Rattle.cmd_enforce.specs.{Capture.{IsRead, coming, recorded}, Judge.{admitted_rules, EndsTape, found_behind, IsOfCapture, IsOfPackets}, Matcher.{IsCompiled, StandsFor}, Moments.{AnswersAt, BreaksOff, Follows, Judged, Judging, WroteJudged, judging, outcome, progress}};
+ghost use Rattle.cmd_enforce.specs.Capture.{IsRead, coming, recorded};
+ghost use Rattle.cmd_enforce.specs.Judge.{admitted_rules, EndsTape, found_behind, IsOfCapture, IsOfPackets};
+ghost use Rattle.cmd_enforce.specs.Matcher.{IsCompiled, StandsFor};
+ghost use Rattle.cmd_enforce.specs.Moments.{AnswersAt, BreaksOff, Follows, Judged, Judging, WroteJudged, judging, outcome, progress};
 ghost use Rattle.fs_pcap.specs.Head.{longest_record};
 ghost use Rattle.cmd_stages.specs.{Play.{IsOpenOrDone}, Player.{Stands, due_item}, Refusal.{Found, answered}};
 ghost use Rattle.fs_tape.specs.Tape.{Timed};

@@ -3,7 +3,9 @@ ghost use Rattle.std.specs.Prelude.{◌≡◌, ◌≤◌, ◌++◌, None, IsTrue
 ghost use Rattle.fs_base.specs.Parts.{with_part};
 ghost use Rattle.fs_input.specs.NextRecord.{GivesNext};
 ghost use Rattle.fs_pcap.specs.Head.{longest_record};
-ghost use Rattle.cmd_enforce.specs.{Stamps.{BeginsStamps, BeginsSurvey, GrowsStamp, block_stamped, own_link, record_stamped, stamps_coming, survey_coming}, Survey.{survey_by, survey_in}};
+ghost use Rattle.cmd_enforce.specs.Stamps.{BeginsStamps, BeginsSurvey, GrowsStamp, block_stamped, own_link, record_stamped, stamps_coming};
+ghost use Rattle.cmd_enforce.specs.Stamps.{survey_coming};
+ghost use Rattle.cmd_enforce.specs.Survey.{survey_by, survey_in};
 
 use crate::answer::{block_fault, record_fault};
 use crate::capture::is_section;

@@ -3,7 +3,9 @@
 ghost use Rattle.std.specs.{Prelude.{◌≡◌, ◌≢◌, ◌≤◌, ◌<◌, ◌^◌, ◌⊎◌, None, IsTrue, IfOk, MatchResult, length}, List.{AllByRecursion}};
 ghost use Rattle.fs_base.specs.{Files.{one_opening}, Outside.{Rose}, Sink.{Grew}};
 ghost use Rattle.fs_pcap.specs.Head.{longest_record};
-ghost use Rattle.cmd_enforce.specs.{Judge.{IsOfCapture}, Stamps.{Counts, IsUnsaid, SaysFault, Surveys, own_link, said_shown, stamps_coming}, Survey.{capture_verdict, survey_in}, declared.tally.LinkCount.{LinkCount}};
+ghost use Rattle.cmd_enforce.specs.Judge.{IsOfCapture};
+ghost use Rattle.cmd_enforce.specs.Stamps.{Counts, IsUnsaid, SaysFault, Surveys, own_link, said_shown, stamps_coming};
+ghost use Rattle.cmd_enforce.specs.{Survey.{capture_verdict, survey_in}, declared.tally.LinkCount.{LinkCount}};
 ghost use Rattle.cmd_stages.specs.Refusal.{answered};
 
 use crate::fault::{Answer, CaptureFault};

@@ -1,5 +1,9 @@
 -- How `gen` counts.
-use Rattle.cmd_gen.{proofs.Words.{◌≡◌, ◌≤◌, ◌+◌, ◌∙◌, ℕ, suc, List, [], ◌∷◌, ◌++◌, Bool, true, false, cond, refl, ap, sym, subst, arith, length, append_assoc, append-nil, Config, Desked, Played, behind_pair, behind_pairs, pair_behind, pair_of, packet_of, packets, packets_of_seed, peer_of, step_of, steps, update_of, Held, admitted, Item, received, dropped_of, gen_line, gen_text, one_if, passed_of, admitted_rules}, specs.declared.pair.Pair.{Pair}}
+use Rattle.cmd_gen.proofs.Words.{◌≡◌, ◌≤◌, ◌+◌, ◌∙◌, ℕ, suc, List, [], ◌∷◌, ◌++◌, Bool, true, false, cond, refl, ap, sym, subst, arith, length}
+use Rattle.cmd_gen.proofs.Words.{append_assoc, append-nil, Config, Desked, Played, behind_pair, behind_pairs, pair_behind, pair_of, packet_of}
+use Rattle.cmd_gen.proofs.Words.{packets, packets_of_seed, peer_of, step_of, steps, update_of, Held, admitted, Item, received, dropped_of, gen_line}
+use Rattle.cmd_gen.proofs.Words.{gen_text, one_if, passed_of, admitted_rules}
+use Rattle.cmd_gen.specs.declared.pair.Pair.{Pair}
 use Rattle.std.{specs.List.{count_by}, proofs.lemmas.List.Sums.{sum_by_push}}
 use Rattle.fs_base.specs.declared.prefix.Family.TheVariants.{V4}
 

@@ -3,7 +3,9 @@
 use Rattle.std.specs.Prelude.{ℕ, zero, suc, ◌+◌, ◌/◌, ◌%◌, ◌==◌, List, [], ◌∷◌, ◌++◌, if◌then◌else◌}
 use Rattle.byteorder.specs.Endian.{big_bytes}
 use Rattle.fs_tape.specs.Tape.{Item, came_up, received}
-use Rattle.cmd_gen.specs.{Draws.{pair_behind}, Messages.{announcement, keepalive, net, open_of, rule_announcement, rule_of, wide, withdrawal}, declared.pair.Pair.{Pair}}
+use Rattle.cmd_gen.specs.Draws.{pair_behind}
+use Rattle.cmd_gen.specs.Messages.{announcement, keepalive, net, open_of, rule_announcement, rule_of, wide, withdrawal}
+use Rattle.cmd_gen.specs.declared.pair.Pair.{Pair}
 
 -- what the two numbers choose: the peer, the octets of addresses, and the destination port
 abbrev pub peer_of : Pair → ℕ

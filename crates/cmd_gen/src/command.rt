@@ -3,7 +3,8 @@
 ghost use Rattle.std.specs.Prelude.{◌≡◌, ◌++◌, ◌⊎◌, List, IfOk, IsSome, OnOk, vec_capacity};
 ghost use Rattle.fs_base.specs.{Config.{peer_of}, Outside.{Rose}, declared.config.Config.{Config}};
 ghost use Rattle.cmd_enforce.specs.{Judge.{AdmittedRules}, Matcher.{HasRoom, IsSound, StandsFor}};
-ghost use Rattle.cmd_gen.specs.{Command.{GeneratesSo, dropped_of, gen_line, gen_text, passed_of}, Configuration.{three_peers}, Draws.{behind_pairs}, Generator.{opening, packets_of_seed, steps, tape_of_seed}};
+ghost use Rattle.cmd_gen.specs.Command.{GeneratesSo, dropped_of, gen_line, gen_text, passed_of};
+ghost use Rattle.cmd_gen.specs.{Configuration.{three_peers}, Draws.{behind_pairs}, Generator.{opening, packets_of_seed, steps, tape_of_seed}};
 ghost use Rattle.cmd_stages.specs.Refusal.{IsLate, answered};
 ghost use Rattle.fs_desk.specs.Desk.{Played};
 ghost use Rattle.fs_tape.specs.Tape.{Item};

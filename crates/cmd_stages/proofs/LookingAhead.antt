@@ -1,5 +1,12 @@
 -- A player that holds one item ahead.
-use Rattle.cmd_stages.proofs.{Words.{◌≡◌, inl, inr, ◌≤◌, ◌<◌, ◌-◌, ℕ, suc, List, [], ◌∷◌, ◌++◌, Bool, true, false, Option, Some, None, refl, ap, sym, ◌∙◌, subst, append_assoc, append-nil, arith, filter, nat_le, if◌then◌else◌, IfSome, each_append, each_weaker, filter-append, filter_all, filter_none, OnlySlot, Rose, with_part, End, done, limited, bad, Config, IsItem, Item, TapeState, Timed, coming, item_from, items_to_come, timed, version_of, TapeReason, Version, One, Two, Desked, Played, Plays, Leaves, nobody, Covers, Noted, Refusal, Names, Stage, Found, Stopped, HasReason, Gives, HasVersion, HaveNoMoments, IsOpened, played_to, tape_stage, until, untimed, IsReady, IsUnplayed, PlayerState, Stands, due_item, items_ahead, to_play, rose_earlier}, Playing.{untimed_more}}
+use Rattle.cmd_stages.proofs.Words.{◌≡◌, inl, inr, ◌≤◌, ◌<◌, ◌-◌, ℕ, suc, List, [], ◌∷◌, ◌++◌, Bool, true, false, Option, Some, None, refl, ap, sym}
+use Rattle.cmd_stages.proofs.Words.{◌∙◌, subst, append_assoc, append-nil, arith, filter, nat_le, if◌then◌else◌, IfSome, each_append, each_weaker}
+use Rattle.cmd_stages.proofs.Words.{filter-append, filter_all, filter_none, OnlySlot, Rose, with_part, End, done, limited, bad, Config, IsItem, Item}
+use Rattle.cmd_stages.proofs.Words.{TapeState, Timed, coming, item_from, items_to_come, timed, version_of, TapeReason, Version, One, Two, Desked}
+use Rattle.cmd_stages.proofs.Words.{Played, Plays, Leaves, nobody, Covers, Noted, Refusal, Names, Stage, Found, Stopped, HasReason, Gives, HasVersion}
+use Rattle.cmd_stages.proofs.Words.{HaveNoMoments, IsOpened, played_to, tape_stage, until, untimed, IsReady, IsUnplayed, PlayerState, Stands}
+use Rattle.cmd_stages.proofs.Words.{due_item, items_ahead, to_play, rose_earlier}
+use Rattle.cmd_stages.proofs.Playing.{untimed_more}
 use Rattle.std.{specs.{Prelude.{option_map, Result, Ok}, Option.{is_some}, List.{AllByRecursion}}, proofs.lemmas.Bool.{le-leb, leb-false, leb-true, lt-leb}}
 use Rattle.fs_tape.{specs.{Laws.{AreFrom}, declared.item.TapeItem.{TapeItem}}, proofs.Rising.{moments_rise}}
 use Rattle.fs_desk.proofs.Leaves.{played_leaves}
@@ -22,7 +29,8 @@ pub unplayed : {A : Type 0} (stage : Stage A) (a : A) (failed : Type 0) (refusal
 unplayed stage a failed refusal e (inl h) = let wrong : Found a ≡ Stopped refusal = sym e ∙ h in absurd cc
 unplayed stage a failed refusal e (inr h) = h
 
-one_version : {A : Type 0} (x : Option A) (view : A → Result Version (End TapeReason)) (a b : Version) → option_map view x ≡ Some (Ok a) → option_map view x ≡ Some (Ok b) → a ≡ b
+one_version : {A : Type 0} (x : Option A) (view : A → Result Version (End TapeReason)) (a b : Version) → option_map view x ≡ Some (Ok a)
+    → option_map view x ≡ Some (Ok b) → a ≡ b
 one_version x view a b e f = let both : Some (Ok a) ≡ Some (Ok b) = sym e ∙ f in cc
 
 -- none is due where one is
@@ -42,7 +50,8 @@ abbrev pub player_with : TapeState → Option TapeItem → List ℕ → Desked �
 player_with tape ahead into desk = record { tape = tape; ahead = ahead; into = into; desk = desk }
 
 -- nothing is played yet
-pub stands_first : (config : Config) (limit : ℕ) (holds : Names) (name left left' : List ℕ) (items : List Timed) (tape tape' : TapeState) (ahead : Option TapeItem) (into : List ℕ) (desk : Desked)
+pub stands_first : (config : Config) (limit : ℕ) (holds : Names) (name left left' : List ℕ) (items : List Timed) (tape tape' : TapeState)
+    (ahead : Option TapeItem) (into : List ℕ) (desk : Desked)
     → tape_stage config limit holds name ≡ Found items → HasVersion limit holds name Two → IsOpened limit holds name left tape
     → Gives (coming config tape left) (coming config tape' left') tape'.moment into ahead → tape'.version ≡ tape.version
     → Played config [] desk → Stands items 0 (player_with tape' ahead into desk) left'
@@ -86,7 +95,8 @@ stands_step items t old new left left' item h m s plays same g v =
     }
 
 -- whatever the desk notes
-pub stands_noted : (items : List Timed) (t : ℕ) (player : PlayerState) (desk : Desked) (noted : Noted) (left : List ℕ) → desk ≡ record player.desk { changes = noted } → Stands items t player left → Stands items t (record player { desk = desk }) left
+pub stands_noted : (items : List Timed) (t : ℕ) (player : PlayerState) (desk : Desked) (noted : Noted) (left : List ℕ)
+    → desk ≡ record player.desk { changes = noted } → Stands items t player left → Stands items t (record player { desk = desk }) left
 stands_noted items t player desk noted left e s = subst (λ (d : Desked). Stands items t (record player { desk = d }) left) (sym e) (record {
   gone = s.gone;
   parts = s.parts;
@@ -97,8 +107,11 @@ stands_noted items t player desk noted left e s = subst (λ (d : Desked). Stands
 })
 
 -- from there on nothing has changed
-pub covers_first : (base : Held) (old desk : Desked) → base ≡ old.held → desk ≡ record old { changes = record { places = []; all = false } } → Covers base desk.changes desk.held
-covers_first base old desk b e = subst (λ (d : Desked). Covers base d.changes d.held) (sym e) (subst (λ (h : Held). Covers h (record { places = []; all = false }) old.held) (sym b) (λ none family. refl))
+pub covers_first : (base : Held) (old desk : Desked) → base ≡ old.held → desk ≡ record old { changes = record { places = []; all = false } }
+    → Covers base desk.changes desk.held
+covers_first base old desk b e =
+    subst (λ (d : Desked). Covers base d.changes d.held) (sym e)
+    (subst (λ (h : Held). Covers h (record { places = []; all = false }) old.held) (sym b) (λ none family. refl))
 
 -- a later moment is no less late
 pub stands_later : (items : List Timed) (t t' : ℕ) (player : PlayerState) (left : List ℕ) → t ≤ t' → Stands items t player left → Stands items t' player left
@@ -124,7 +137,8 @@ late (Some item) at t into rest h all =
     by true e h = absurd cc
     by false e h = leb-false at t e
 
-rises : (config : Config) (version : Version) (limit taken moment : ℕ) (left : List ℕ) → version ≡ Two → AreFrom moment (items_to_come config version limit taken moment left).0
+rises : (config : Config) (version : Version) (limit taken moment : ℕ) (left : List ℕ) → version ≡ Two
+    → AreFrom moment (items_to_come config version limit taken moment left).0
 rises config version limit taken moment left e =
     subst (λ (v : Version). AreFrom moment (items_to_come config v limit taken moment left).0) (sym e) (moments_rise config limit taken moment left)
 
@@ -134,8 +148,10 @@ until_gone : (t : ℕ) (gone rest : List Timed) → AllByRecursion (λ (x : Time
 until_gone t gone rest early late =
     let up_to : Timed → Bool = λ x. nat_le x.moment t in
     filter-append up_to gone rest
-    ∙ ap (λ (l : List Timed). l ++ filter up_to rest) (filter_all up_to gone (each_weaker (λ x. x.moment ≤ t) (λ x. up_to x ≡ true) (λ x l. le-leb x.moment t l) gone early))
-    ∙ ap (λ (l : List Timed). gone ++ l) (filter_none up_to rest (each_weaker (λ x. t < x.moment) (λ x. up_to x ≡ false) (λ x l. lt-leb x.moment t l) rest late))
+    ∙ ap (λ (l : List Timed). l ++ filter up_to rest)
+    (filter_all up_to gone (each_weaker (λ x. x.moment ≤ t) (λ x. up_to x ≡ true) (λ x l. le-leb x.moment t l) gone early))
+    ∙ ap (λ (l : List Timed). gone ++ l)
+    (filter_none up_to rest (each_weaker (λ x. t < x.moment) (λ x. up_to x ≡ false) (λ x l. lt-leb x.moment t l) rest late))
     ∙ append-nil gone
 
 -- Where no item is due any more, the desk holds what the items up to this moment leave.
@@ -201,7 +217,8 @@ fewer_left old new item limit place limit' place' h e g =
 
 -- the first item was read ahead, or why it wasn't
 
-pub stands_begun : (config : Config) (limit : ℕ) (holds : Names) (name : List ℕ) (left left' : ℕ → List ℕ) (items : List Timed) (tape tape' : TapeState) (ahead : Option TapeItem) (into : List ℕ) (desk : Desked)
+pub stands_begun : (config : Config) (limit : ℕ) (holds : Names) (name : List ℕ) (left left' : ℕ
+    → List ℕ) (items : List Timed) (tape tape' : TapeState) (ahead : Option TapeItem) (into : List ℕ) (desk : Desked)
     → tape_stage config limit holds name ≡ Found items → HasVersion limit holds name Two → IsOpened limit holds name (left 1) tape → tape.slot ≡ 1
     → Gives (coming config tape (left tape.slot)) (coming config tape' (left' tape.slot)) tape'.moment into ahead → tape'.version ≡ tape.version
     → Played config [] desk → Stands items 0 (player_with tape' ahead into desk) (left' 1)
@@ -209,7 +226,8 @@ stands_begun config limit holds name left left' items tape tape' ahead into desk
     stands_first config limit holds name (left 1) (left' 1) items tape tape' ahead into desk e v o
     (subst (λ (n : ℕ). Gives (coming config tape (left n)) (coming config tape' (left' n)) tape'.moment into ahead) one g) same p
 
-pub unbegun : (config : Config) (limit : ℕ) (holds : Names) (name : List ℕ) (left : ℕ → List ℕ) (items : List Timed) (tape : TapeState) (before mid after : ℕ) (refusal : Refusal)
+pub unbegun : (config : Config) (limit : ℕ) (holds : Names) (name : List ℕ) (left : ℕ
+    → List ℕ) (items : List Timed) (tape : TapeState) (before mid after : ℕ) (refusal : Refusal)
     → tape_stage config limit holds name ≡ Found items → IsOpened limit holds name (left 1) tape → tape.slot ≡ 1 → before ≤ mid
     → HasReason (played_to (coming config tape (left tape.slot))) (Rose mid after) refusal → IsUnplayed (Rose before after) refusal
 unbegun config limit holds name left items tape before mid after refusal e o one l h =

@@ -1,5 +1,7 @@
 -- What a command opened, by where it ends.
-use Rattle.cmd_stages.proofs.{Words.{◌≡◌, ◌≤◌, ℕ, List, Option, Result, subst, sym, take, Opened, Grew, Openings, OpensFront, answered, status_of, Refusal, Capture, Dump, Limit, Memory, Outside, Rejected, Session, Tape}, Stages.{answered_err}}
+use Rattle.cmd_stages.proofs.Words.{◌≡◌, ◌≤◌, ℕ, List, Option, Result, subst, sym, take, Opened, Grew, Openings, OpensFront, answered, status_of}
+use Rattle.cmd_stages.proofs.Words.{Refusal, Capture, Dump, Limit, Memory, Outside, Rejected, Session, Tape}
+use Rattle.cmd_stages.proofs.Stages.{answered_err}
 use Rattle.std.specs.Result.{IsErrAnd}
 
 -- no refusal ends a run with status 0

@@ -1,5 +1,9 @@
 -- A tape that is played item by item.
-use Rattle.cmd_stages.proofs.Words.{◌≡◌, inl, inr, ◌≤◌, ℕ, List, [], ◌∷◌, ◌++◌, Option, Some, option_map, Result, Ok, Err, refl, ap, sym, ◌∙◌, subst, append_assoc, append-nil, drop, map-append, each_append, Rose, with_part, End, done, Config, IsBegun, Item, TapeState, Timed, coming, items_to_come, tape_of, version_of, TapeReason, IsTimed, Version, One, Two, Refusal, Outside, Stage, Found, and_then, or_stop, HasReason, Names, HasVersion, HaveNoMoments, IsOpened, IsWhole, PlaysOn, played_to, tape_stage, untimed, Desked, Played, rose_earlier}
+use Rattle.cmd_stages.proofs.Words.{◌≡◌, inl, inr, ◌≤◌, ℕ, List, [], ◌∷◌, ◌++◌, Option, Some, option_map, Result, Ok, Err, refl, ap, sym, ◌∙◌, subst}
+use Rattle.cmd_stages.proofs.Words.{append_assoc, append-nil, drop, map-append, each_append, Rose, with_part, End, done, Config, IsBegun, Item}
+use Rattle.cmd_stages.proofs.Words.{TapeState, Timed, coming, items_to_come, tape_of, version_of, TapeReason, IsTimed, Version, One, Two, Refusal}
+use Rattle.cmd_stages.proofs.Words.{Outside, Stage, Found, and_then, or_stop, HasReason, Names, HasVersion, HaveNoMoments, IsOpened, IsWhole, PlaysOn}
+use Rattle.cmd_stages.proofs.Words.{played_to, tape_stage, untimed, Desked, Played, rose_earlier}
 
 -- of all items some were played, and the rest is to come
 pub record Playing (config : Config) (version : Version) (all rest : List Timed × End TapeReason) (old now : Desked) : Type 0 where
@@ -31,7 +35,8 @@ playing_more config version all rest rest' old now now' timed p e m f = record {
       (f (items ++ untimed p.gone) (p.played items q));
 }
 
-pub playing_done : (config : Config) (version : Version) (all rest : List Timed × End TapeReason) (old now : Desked) → Playing config version all rest old now → rest ≡ ([], done) → PlaysOn config version all old now
+pub playing_done : (config : Config) (version : Version) (all rest : List Timed × End TapeReason) (old now : Desked)
+    → Playing config version all rest old now → rest ≡ ([], done) → PlaysOn config version all old now
 playing_done config version all rest old now p e = record {
   done_is = p.end_is ∙ ap (λ (r : List Timed × End TapeReason). r.1) e;
   moments = subst (HaveNoMoments version) (sym (p.parts ∙ ap (λ (r : List Timed × End TapeReason). p.gone ++ r.0) e ∙ append-nil p.gone)) p.moments;
@@ -40,7 +45,8 @@ playing_done config version all rest old now p e = record {
 }
 
 -- a tape that was played to its end
-pub all_played : (config : Config) (version : Version) (all : List Timed × End TapeReason) (old new : Desked) → PlaysOn config version all old new → played_to all ≡ Found all.0
+pub all_played : (config : Config) (version : Version) (all : List Timed × End TapeReason) (old new : Desked) → PlaysOn config version all old new
+    → played_to all ≡ Found all.0
 all_played config version all old new p = subst (λ (e : End TapeReason). played_to (all.0, e) ≡ Found all.0) (sym p.done_is) refl
 
 -- what a tape of this content is to give, where it was opened so
@@ -66,7 +72,8 @@ tape_read : (config : Config) (limit : ℕ) (holds : Names) (name : List ℕ) (b
     → (version_of counted (before slot) ≡ Ok tape.version) × (after slot ≡ drop 8 (before slot)) → IsBegun slot counted tape
     → tape_stage config limit holds name ≡ played_to (coming config tape (after 1))
 tape_read config limit holds name before after tape slot counted one h l o begun =
-    ap (λ (content : Option (List ℕ)). and_then (or_stop Outside content) (λ z. played_to (tape_of config limit z))) (h ∙ ap (λ (n : ℕ). Some (before n)) (sym one))
+    ap (λ (content : Option (List ℕ)). and_then (or_stop Outside content) (λ z. played_to (tape_of config limit z))) (h
+    ∙ ap (λ (n : ℕ). Some (before n)) (sym one))
     ∙ ap played_to
     (tape_opened config limit (before slot) (after 1) tape slot counted l (o.0, sym (ap after one) ∙ o.1) begun)
 

@@ -1,5 +1,9 @@
 -- A tape that is read up to its end, whatever that is, and played item by item.
-use Rattle.cmd_stages.proofs.{Words.{◌≡◌, inl, inr, ℕ, List, [], Option, Some, Ok, Err, refl, ap, sym, ◌∙◌, subst, drop, End, limited, bad, Config, IsBegun, Item, TapeState, Timed, coming, tape_of, version_of, TapeReason, Refusal, Outside, Stage, Found, Stopped, and_then, or_stop, HasReason, Names, played_to, Ceases, GivesNone, read_stage, Desked, Played, Leaves, Noted, Plays, IsStrictlySortedBy}, Playing.{opened_to, tape_opened}}
+use Rattle.cmd_stages.proofs.Words.{◌≡◌, inl, inr, ℕ, List, [], Option, Some, Ok, Err, refl, ap, sym, ◌∙◌, subst, drop, End, limited, bad, Config}
+use Rattle.cmd_stages.proofs.Words.{IsBegun, Item, TapeState, Timed, coming, tape_of, version_of, TapeReason, Refusal, Outside, Stage, Found, Stopped}
+use Rattle.cmd_stages.proofs.Words.{and_then, or_stop, HasReason, Names, played_to, Ceases, GivesNone, read_stage, Desked, Played, Leaves, Noted}
+use Rattle.cmd_stages.proofs.Words.{Plays, IsStrictlySortedBy}
+use Rattle.cmd_stages.proofs.Playing.{opened_to, tape_opened}
 use Rattle.fs_base.specs.declared.prefix.Family.{Family}
 use Rattle.fs_desk.{specs.{Desk.{PlayedBut}, Laws.{LeaveSame}}, proofs.Leaves.{played_leaves}}
 use Rattle.fs_input.specs.{NextRecord.{Advances}, Opening.{Opens}, declared.fault.Fault.{Fault, TheVariants.{Read, Limit, Bad}}}
@@ -38,8 +42,10 @@ none_given config limit holds name before slot counted end refusal one h l e sto
     ∙ ap Found (ap (λ (n : ℕ). tape_of config n (before slot)) (sym l) ∙ ap (opened_to config counted (before slot)) e)))
     (refl, stops)
 
-pub unbegun_tape : (config : Config) (limit : ℕ) (holds : Names) (name : List ℕ) (before : ℕ → List ℕ) (behind left : List ℕ) (slot counted : ℕ) (fault : Fault TapeReason) (refusal : Refusal) (failed : Type 0)
-    → slot ≡ 1 → holds name ≡ Some (before 1) → counted ≡ limit → Opens (λ (tape : TapeState). tape.version) (version_of counted (before slot)) behind left (Err fault)
+pub unbegun_tape : (config : Config) (limit : ℕ) (holds : Names) (name : List ℕ) (before : ℕ → List ℕ) (behind left : List ℕ) (slot counted : ℕ)
+    (fault : Fault TapeReason) (refusal : Refusal) (failed : Type 0)
+    → slot ≡ 1 → holds name ≡ Some (before 1) → counted ≡ limit
+    → Opens (λ (tape : TapeState). tape.version) (version_of counted (before slot)) behind left (Err fault)
     → (fault ≡ Read → failed) → refusal ≡ refused_by fault → Ceases (read_stage config limit holds name) failed refusal
 unbegun_tape config limit holds name before behind left slot counted Read refusal failed one h l o f same = inr (inr (same, f refl))
 unbegun_tape config limit holds name before behind left slot counted Limit refusal failed one h l o f same =
@@ -48,7 +54,8 @@ unbegun_tape config limit holds name before behind left slot counted (Bad reason
     inl (none_given config limit holds name before slot counted (bad reason place) refusal one h l o (ap Stopped (sym same)))
 
 -- no further item is given
-pub ceased : {T : Type 0} (before : List Timed × End TapeReason) (behind : T → List Timed × End TapeReason) (fault : Fault TapeReason) (refusal : Refusal) (failed : Type 0)
+pub ceased : {T : Type 0} (before : List Timed × End TapeReason) (behind : T → List Timed × End TapeReason) (fault : Fault TapeReason)
+    (refusal : Refusal) (failed : Type 0)
     → Advances before behind (Err fault) → (fault ≡ Read → failed) → refusal ≡ refused_by fault → Ceases (Found before) failed refusal
 ceased before behind Read refusal failed a f same = inr (inr (same, f refl))
 ceased before behind Limit refusal failed a f same =
@@ -70,14 +77,17 @@ leaves_none config = record {
   flows = λ rule peer. refl;
 }
 
-pub none_admitted : ((config : Config) (items other : List Item) (held kept : Held) → LeaveSame config items other → Leaves config items held → Leaves config other kept → held ≡ kept)
+pub none_admitted : ((config : Config) (items other : List Item) (held kept : Held) → LeaveSame config items other → Leaves config items held
+    → Leaves config other kept → held ≡ kept)
     → (config : Config) (desk : Desked) (family : Family) → Played config [] desk → admitted family desk.held ≡ []
 none_admitted one config desk family p =
     ap (admitted family)
-    (one config [] [] desk.held (empty_held config) (record { unicast = λ place. refl; flows = λ rule peer. refl }) (played_leaves config [] desk p) (leaves_none config))
+    (one config [] [] desk.held (empty_held config) (record { unicast = λ place. refl; flows = λ rule peer. refl }) (played_leaves config [] desk p)
+    (leaves_none config))
 
 -- whatever the desk notes
-pub plays_noted : (item : Item) (old watched new : Desked) (noted : Noted) → watched ≡ record old { changes = noted } → Plays item watched new → Plays item old new
+pub plays_noted : (item : Item) (old watched new : Desked) (noted : Noted) → watched ≡ record old { changes = noted } → Plays item watched new
+    → Plays item old new
 plays_noted item old watched new noted e plays expired config items p =
     plays expired config items (subst (λ (d : Desked). PlayedBut expired config items d) (sym e)
     (record { config_is = p.config_is; held_is = p.held_is; listed = p.listed; sessions = p.sessions; each = p.each }))

@@ -4,7 +4,8 @@ use Rattle.cmd_stages.proofs.Words.{◌≡◌, ℕ, List, Bool, true, false, Opt
 use Rattle.toml.specs.Data.{Members, get_member}
 use Rattle.fs_base.specs.declared.config.Peer.{Peer}
 use Rattle.fs_speaker.specs.{Announcer.{CanSend}, Sending.{is_sending, sender_of}, declared.Sending.{Sending}}
-use Rattle.fs_conf.specs.{Address.{ipv4_of}, Config.{kept_if, written}, Document.{document_of}, Fields.{keys_among}, Rules.{as_path_in, file_keys, rules_in, rules_of, sendable, sending_of_document, sending_of_members}}
+use Rattle.fs_conf.specs.{Address.{ipv4_of}, Config.{kept_if, written}, Document.{document_of}, Fields.{keys_among}}
+use Rattle.fs_conf.specs.Rules.{as_path_in, file_keys, rules_in, rules_of, sendable, sending_of_document, sending_of_members}
 
 then_some : {A B : Type 0} (o : Option A) (f : A → Option B) (b : B) → option_and_then f o ≡ Some b → (a : A) × (f a ≡ Some b)
 then_some (Some a) f b e = (a, e)
@@ -31,7 +32,8 @@ then_if : {A : Type 0} (b : Bool) (o : Option A) (a : A) → (if b then o else N
 then_if true o a e = e
 then_if false o a e = absurd cc
 
-of_members : (config : Config) (members : Members) (found : Sending) → sending_of_members config members ≡ Some found → CanSend config (sender_of config.peers) found
+of_members : (config : Config) (members : Members) (found : Sending) → sending_of_members config members ≡ Some found
+    → CanSend config (sender_of config.peers) found
 of_members config members found e =
     let id = then_some (written ipv4_of (get_member (codes "id") members)) _ found e in
     let as_path = then_some (as_path_in (get_member (codes "as_path") members)) _ found id.1 in

@@ -1,5 +1,7 @@
 -- How the answer of a run follows from those of its stages.
-use Rattle.cmd_stages.proofs.Words.{◌≡◌, ◌⊎◌, inl, inr, ◌≤◌, arith, ℕ, List, [], Option, Result, Ok, Err, take, refl, ap, sym, subst, Rose, Config, Grew-refl, part_none, Names, config_stage, tape_stage, accepted_stage, Verdict, answered, Answers, EndsEarly, Stage, Found, and_then, status_of, HasReason, Finishes, Refusal, Outside, Memory, rose_earlier}
+use Rattle.cmd_stages.proofs.Words.{◌≡◌, ◌⊎◌, inl, inr, ◌≤◌, arith, ℕ, List, [], Option, Result, Ok, Err, take, refl, ap, sym, subst, Rose, Config}
+use Rattle.cmd_stages.proofs.Words.{Grew-refl, part_none, Names, config_stage, tape_stage, accepted_stage, Verdict, answered, Answers, EndsEarly}
+use Rattle.cmd_stages.proofs.Words.{Stage, Found, and_then, status_of, HasReason, Finishes, Refusal, Outside, Memory, rose_earlier}
 use Rattle.std.{specs.Result.{IsErrAnd, MatchResult}, proofs.lemmas.Grind.{common_steps}}
 
 -- a stage that ends the run ends it for all that would follow
@@ -9,14 +11,16 @@ reason_then stage next failed refusal (inl h) = inl (ap (λ s. and_then s next) 
 reason_then stage next failed refusal (inr h) = inr h
 
 -- want of memory answers 6, and a failure outside 1, before anything is written
-pub answers_memory : (verdict : Verdict) (failed : Type 0) (a : Option (List ℕ)) (refusal : Refusal) → refusal ≡ Memory → Answers verdict failed a a (status_of refusal)
+pub answers_memory : (verdict : Verdict) (failed : Type 0) (a : Option (List ℕ)) (refusal : Refusal) → refusal ≡ Memory
+    → Answers verdict failed a a (status_of refusal)
 answers_memory verdict failed a refusal e = record {
   status_is = inr (inl (ap status_of e));
   part = part_none a a verdict.text (Grew-refl a);
   whole = λ six one. absurd (six (ap status_of e));
 }
 
-pub answers_outside : (verdict : Verdict) (failed : Type 0) (a : Option (List ℕ)) (refusal : Refusal) → refusal ≡ Outside → failed → Answers verdict failed a a (status_of refusal)
+pub answers_outside : (verdict : Verdict) (failed : Type 0) (a : Option (List ℕ)) (refusal : Refusal) → refusal ≡ Outside → failed
+    → Answers verdict failed a a (status_of refusal)
 answers_outside verdict failed a refusal e f = record {
   status_is = inr (inr (ap status_of e, f));
   part = part_none a a verdict.text (Grew-refl a);
@@ -42,7 +46,8 @@ accepted_with limit holds config tape accepted e =
     ap (λ (s : Stage Config). and_then s (λ accepted. and_then (tape_stage accepted limit holds tape) (λ items. Found (accepted, items)))) e
 
 -- what is said where one call failed is said where that or another did
-pub answers_for : (verdict : Verdict) (failed failed' : Type 0) (before now : Option (List ℕ)) (answer : ℕ) → Answers verdict failed before now answer → (failed → failed') → Answers verdict failed' before now answer
+pub answers_for : (verdict : Verdict) (failed failed' : Type 0) (before now : Option (List ℕ)) (answer : ℕ) → Answers verdict failed before now answer
+    → (failed → failed') → Answers verdict failed' before now answer
 answers_for verdict failed failed' before now answer a f = record { status_is = at a.status_is; part = a.part; whole = a.whole }
   where
     at : (answer ≡ verdict.status) ⊎ (answer ≡ 6) ⊎ ((answer ≡ 1) × failed) → (answer ≡ verdict.status) ⊎ (answer ≡ 6) ⊎ ((answer ≡ 1) × failed')

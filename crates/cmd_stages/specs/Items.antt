@@ -4,7 +4,9 @@ use Rattle.fs_base.specs.{Parts.{with_part}, declared.config.Config.{Config}}
 use Rattle.fs_input.specs.Records.{End, done}
 use Rattle.fs_tape.specs.{Tape.{Item, TapeState, Timed, coming, tape_of, timed}, declared.fault.TapeReason.{TapeReason}}
 use Rattle.fs_desk.specs.Desk.{Desked, Plays}
-use Rattle.cmd_stages.specs.{Refusal.{Stage, Found, Stopped, and_then, or_stop}, declared.refusal.Refusal.{Refusal, TheVariants.{Outside, Memory}}, Load.{Names}, Play.{played_to}}
+use Rattle.cmd_stages.specs.Refusal.{Stage, Found, Stopped, and_then, or_stop}
+use Rattle.cmd_stages.specs.declared.refusal.Refusal.{Refusal, TheVariants.{Outside, Memory}}
+use Rattle.cmd_stages.specs.{Load.{Names}, Play.{played_to}}
 
 -- the items of a tape, and how it ends
 abbrev pub read_stage : Config → ℕ → Names → List ℕ → Stage (List Timed × End TapeReason)

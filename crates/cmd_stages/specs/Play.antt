@@ -2,8 +2,11 @@
 use Rattle.std.specs.{Prelude.{ℕ, List, ◌≡◌, ◌⊎◌, ◌++◌, [], map, filter, nat_le, Option, Some, None, Ok, option_map}, List.{AllByRecursion}}
 use Rattle.fs_input.specs.{Records.{End, done, limited, bad}, declared.fault.{Ended.TheVariants.{Done, Stopped}, Fault.{Fault, TheVariants.{Read, Limit, Bad}}}}
 use Rattle.fs_base.specs.{declared.config.Config.{Config}, Parts.{with_part}}
-use Rattle.fs_tape.specs.{Tape.{Item, TapeState, Timed, coming, item_from, tape_of, timed, version_of}, declared.{fault.TapeReason.{TapeReason}, item.TapeItem.{TapeItem}, magic.Version.{Version, TheVariants.{One}}}}
-use Rattle.cmd_stages.specs.{Refusal.{Stage, Found, Stopped, and_then, or_stop}, declared.refusal.Refusal.{Refusal, TheVariants.{Outside, Tape as TapeRefusal, Limit as AtLimit, Memory}}, Load.{Names, config_stage}}
+use Rattle.fs_tape.specs.Tape.{Item, TapeState, Timed, coming, item_from, tape_of, timed, version_of}
+use Rattle.fs_tape.specs.declared.{fault.TapeReason.{TapeReason}, item.TapeItem.{TapeItem}, magic.Version.{Version, TheVariants.{One}}}
+use Rattle.cmd_stages.specs.Refusal.{Stage, Found, Stopped, and_then, or_stop}
+use Rattle.cmd_stages.specs.declared.refusal.Refusal.{Refusal, TheVariants.{Outside, Tape as TapeRefusal, Limit as AtLimit, Memory}}
+use Rattle.cmd_stages.specs.Load.{Names, config_stage}
 use Rattle.fs_desk.specs.Desk.{Desked, Played}
 
 -- the items alone

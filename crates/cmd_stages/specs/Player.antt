@@ -2,7 +2,8 @@
 use Rattle.std.specs.{Prelude.{ℕ, List, [], ◌≡◌, ◌≤◌, ◌++◌, ◌⊎◌, Option, Some, None, IfSome, if◌then◌else◌, nat_le}, List.{AllByRecursion}}
 use Rattle.fs_base.specs.{Parts.{with_part}, declared.config.Config.{Config}}
 use Rattle.fs_input.specs.Records.{End, done}
-use Rattle.fs_tape.specs.{Tape.{IsItem, TapeState, Timed, coming, item_from, timed}, declared.{fault.TapeReason.{TapeReason}, item.TapeItem.{TapeItem}, magic.Version.TheVariants.{Two}}}
+use Rattle.fs_tape.specs.Tape.{IsItem, TapeState, Timed, coming, item_from, timed}
+use Rattle.fs_tape.specs.declared.{fault.TapeReason.{TapeReason}, item.TapeItem.{TapeItem}, magic.Version.TheVariants.{Two}}
 use Rattle.fs_desk.specs.Desk.{Desked, Played}
 use Rattle.cmd_stages.specs.{Play.{untimed}, declared.refusal.Refusal.{Refusal, TheVariants.{Outside, Memory}}}
 

@@ -3,7 +3,8 @@
 ghost use Rattle.std.specs.Prelude.{◌≡◌, ◌≢◌, ◌≤◌, IfOk, IsTrue, Some, MatchResult};
 ghost use Rattle.fs_base.specs.{Files.{OnlySlot, one_opening}, Outside.{Rose}, Sink.{Grew}};
 ghost use Rattle.fs_speaker.specs.{Announcer.{CanSend}, Sending.{sender_of}};
-ghost use Rattle.cmd_stages.specs.{Refusal.{IsLate, IsOfFile, HasReason, Reaches, answered, or_stop}, declared.refusal.Refusal.TheVariants.{Outside}, Load.{config_stage, fetch, rules_stage}};
+ghost use Rattle.cmd_stages.specs.Refusal.{IsLate, IsOfFile, HasReason, Reaches, answered, or_stop};
+ghost use Rattle.cmd_stages.specs.{declared.refusal.Refusal.TheVariants.{Outside}, Load.{config_stage, fetch, rules_stage}};
 
 use crate::refusal::Refusal;
 use fs_base::{Config, Failed, Files, ReadStop, Whole};

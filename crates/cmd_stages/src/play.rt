@@ -4,7 +4,9 @@ ghost use Rattle.std.specs.Prelude.{◌≡◌, ◌≤◌, ◌<◌, None, Some, l
 ghost use Rattle.fs_base.specs.{Files.{OnlySlot, one_opening}, Outside.{Rose}, Sink.{Grew}, declared.config.Config.{Config}};
 ghost use Rattle.fs_input.specs.declared.fault.Ended.TheVariants.{Done};
 ghost use Rattle.fs_tape.specs.{Header.{IsTimed, longest_payload}, Tape.{IsBegun, IsItem, coming, item_from}};
-ghost use Rattle.cmd_stages.specs.{Items.{Ceases, read_stage}, Refusal.{Found, HasReason, IsOfTape, answered, status_of}, Play.{EndsBy, IsOpenOrDone, tape_stage, played_to, IsOpened, IsWhole, Gives, PlaysOn, refused_by}};
+ghost use Rattle.cmd_stages.specs.Items.{Ceases, read_stage};
+ghost use Rattle.cmd_stages.specs.Refusal.{Found, HasReason, IsOfTape, answered, status_of};
+ghost use Rattle.cmd_stages.specs.Play.{EndsBy, IsOpenOrDone, tape_stage, played_to, IsOpened, IsWhole, Gives, PlaysOn, refused_by};
 ghost use Rattle.fs_desk.specs.Desk.{Notes, Plays};
 
 use crate::load::{TAPE_SLOT, open};

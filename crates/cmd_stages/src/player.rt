@@ -38,7 +38,8 @@ impl<'a> Player<'a> {
     ghost use Rattle.fs_desk.specs.{Desk.{Notes, Played}, Leaves.{Leaves}};
     ghost use Rattle.fs_input.specs.declared.fault.Ended.TheVariants.{Done};
     ghost use Rattle.fs_rules.specs.Changes.{Covers};
-    ghost use Rattle.cmd_stages.specs.{Play.{EndsBy, HasVersion, HaveNoMoments, IsOpenOrDone, tape_stage, until, untimed}, Player.{IsUnplayed, Stands, due_item}, Refusal.{Found, IsOfTape, answered}};
+    ghost use Rattle.cmd_stages.specs.Play.{EndsBy, HasVersion, HaveNoMoments, IsOpenOrDone, tape_stage, until, untimed};
+    ghost use Rattle.cmd_stages.specs.{Player.{IsUnplayed, Stands, due_item}, Refusal.{Found, IsOfTape, answered}};
     ghost use Rattle.fs_tape.specs.{Tape.{Timed}, declared.magic.Version.TheVariants.{One, Two}};
 
     /// Opens the tape, and reads its first item ahead. Nothing is played yet.

@@ -1,5 +1,7 @@
 -- Rules that nothing hinders are carried.
-use Rattle.cmd_wire.proofs.{Words.{Done, Ending, MayHold, Names, Peer, ◌≡◌, ◌∙◌, ℕ, ◌+◌, ◌<◌, List, ◌++◌, length, ap, sym, subst, arith, length-append, same_Some, Conversation, Joined, Meets, CanBeCarried, Carries}, Accepted.{arrivable}, Concluding.{told_at}}
+use Rattle.cmd_wire.proofs.Words.{Done, Ending, MayHold, Names, Peer, ◌≡◌, ◌∙◌, ℕ, ◌+◌, ◌<◌, List, ◌++◌, length, ap, sym, subst, arith, length-append}
+use Rattle.cmd_wire.proofs.Words.{same_Some, Conversation, Joined, Meets, CanBeCarried, Carries}
+use Rattle.cmd_wire.proofs.{Accepted.{arrivable}, Concluding.{told_at}}
 
 -- so many more octets were written
 written_within : (before now said : List ℕ) (limit : ℕ) → now ≡ before ++ said → length now < length before + limit → length said < limit
@@ -8,7 +10,8 @@ written_within before now said limit e l =
     omega (arith, all, l)
 
 -- where nothing hinders the rules, all of them arrive
-pub carried_done : (limit : ℕ) (holds : Names) (config rules : List ℕ) (talk : Conversation) (s : CanBeCarried limit holds config rules talk) (ending : Ending) (text : List ℕ)
+pub carried_done : (limit : ℕ) (holds : Names) (config rules : List ℕ) (talk : Conversation) (s : CanBeCarried limit holds config rules talk)
+    (ending : Ending) (text : List ℕ)
     → Carries limit talk s.set_up.accepted ending text → ending ≡ Done
 carried_done limit holds config rules talk s ending text carried =
     let at = s.set_up in

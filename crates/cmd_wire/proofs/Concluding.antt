@@ -1,5 +1,10 @@
 -- What the clauses of a run that speaks over the wire say follows from what it does.
-use Rattle.cmd_wire.proofs.{Words.{List, Option, Some, ap, inl, inr, sym, subst, ℕ, ◌∙◌, ◌≡◌, ◌≢◌, ◌⊎◌, FilesStood, Happened, SinkFailed, SinkStood, WireStood, Told, WireEnds, Desked, Ending, Done, answers_for, Answers, Found, Stage, Stopped, status_of, Refusal, Limit, Outside, Rejected, AnyFailed, Concludes, Ends, HasStatusBy, IsSetUp, SessionPromises, Conversation, ListsDesk, TellsListing, verdict_by, never_zero}, Statuses.{differs, due_status, early_status, late_status, never_early, none_failed, only_done, same_found, served_early, served_late}}
+use Rattle.cmd_wire.proofs.Words.{List, Option, Some, ap, inl, inr, sym, subst, ℕ, ◌∙◌, ◌≡◌, ◌≢◌, ◌⊎◌, FilesStood, Happened, SinkFailed, SinkStood}
+use Rattle.cmd_wire.proofs.Words.{WireStood, Told, WireEnds, Desked, Ending, Done, answers_for, Answers, Found, Stage, Stopped, status_of, Refusal}
+use Rattle.cmd_wire.proofs.Words.{Limit, Outside, Rejected, AnyFailed, Concludes, Ends, HasStatusBy, IsSetUp, SessionPromises, Conversation}
+use Rattle.cmd_wire.proofs.Words.{ListsDesk, TellsListing, verdict_by, never_zero}
+use Rattle.cmd_wire.proofs.Statuses.{differs, due_status, early_status, late_status, never_early, none_failed, only_done, same_found, served_early}
+use Rattle.cmd_wire.proofs.Statuses.{served_late}
 
 -- no refusal of the files' ends a run with status 8
 abbrev pub IsOfFiles : Refusal → Type 0
@@ -26,7 +31,8 @@ module _ {A : Type 0} (stage : Stage A) (Says : A → Ending → List ℕ → Ty
     answers = answers_for (verdict_by ending text) (SinkFailed call) (AnyFailed call) call.before.written call.now.written answer answers (λ r. inr (inl r));
   })
 
-  pub told_desk : (accepted : A) (desk : Desked) (ending : Ending) → stage ≡ Found accepted → ((text : List ℕ) → ListsDesk ending desk text → Says accepted ending text)
+  pub told_desk : (accepted : A) (desk : Desked) (ending : Ending) → stage ≡ Found accepted
+      → ((text : List ℕ) → ListsDesk ending desk text → Says accepted ending text)
       → TellsListing ending desk (SinkFailed call) call.before.written call.now.written answer → Concludes stage Says call answer
   told_desk accepted desk ending found says (inl none) = inl (record { reason = inr (inl none.0); nothing = none.1 })
   told_desk accepted desk ending found says (inr told) = told_line accepted ending told.0 found (says told.0 told.1.0) told.1.1
@@ -66,7 +72,8 @@ module _ {A : Type 0} (stage : Stage A) (Says : A → Ending → List ℕ → Ty
       (none_failed call f k w) c.answers.status_is
 
   -- what is promised
-  pub promises : (talk : Conversation) (Served : Type 0) → ((refusal : Refusal) → stage ≡ Stopped refusal → IsOfFiles refusal) → (set_up : Served → IsSetUp stage talk)
+  pub promises : (talk : Conversation) (Served : Type 0) → ((refusal : Refusal) → stage ≡ Stopped refusal → IsOfFiles refusal)
+      → (set_up : Served → IsSetUp stage talk)
       → ((s : Served) (ending : Ending) (text : List ℕ) → Says (set_up s).accepted ending text → ending ≡ Done)
       → Concludes stage Says call answer → SessionPromises stage Says Served call answer
   promises talk Served stops set_up only c = record {

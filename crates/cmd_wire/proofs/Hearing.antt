@@ -1,5 +1,12 @@
 -- How what `listen` answers follows from its stages.
-use Rattle.cmd_wire.proofs.{Words.{AtLimit, ClosesIn, Desked, Done, EndCloses, Ended, Ending, ExpiresAt, Found, Last, Names, Peer, Phase, Pieces, Played, Stage, Told, WireEnds, and_then, at_start, bounded_from, bounded_session, closed, config_stage, is_established, octets_in, or_stop, peer_of, sender_of, still, tape_of, ◌≡◌, ◌⊎◌, inl, inr, ◌∙◌, ℕ, List, [], ◌∷◌, ◌++◌, length, nat_le, Bool, true, false, if◌then◌else◌, Option, Some, None, append-nil, refl, ap, sym, subst, same_Some, Config, le_false, le_true, Update, Closed, played_leaves, told_as, EndsSo, Listens, ListensOver, ListensSo, Rejected, Conversation, Begins, HasExpired, Heard, Hears, IsHeard, ListensThrough, ending_by, ending_of, hearing_stage, listening, with_peer, ListsDesk, sender_told}, FromStages.{told_through}}
+use Rattle.cmd_wire.proofs.Words.{AtLimit, ClosesIn, Desked, Done, EndCloses, Ended, Ending, ExpiresAt, Found, Last, Names, Peer, Phase, Pieces}
+use Rattle.cmd_wire.proofs.Words.{Played, Stage, Told, WireEnds, and_then, at_start, bounded_from, bounded_session, closed, config_stage}
+use Rattle.cmd_wire.proofs.Words.{is_established, octets_in, or_stop, peer_of, sender_of, still, tape_of, ◌≡◌, ◌⊎◌, inl, inr, ◌∙◌, ℕ, List, [], ◌∷◌}
+use Rattle.cmd_wire.proofs.Words.{◌++◌, length, nat_le, Bool, true, false, if◌then◌else◌, Option, Some, None, append-nil, refl, ap, sym, subst}
+use Rattle.cmd_wire.proofs.Words.{same_Some, Config, le_false, le_true, Update, Closed, played_leaves, told_as, EndsSo, Listens, ListensOver}
+use Rattle.cmd_wire.proofs.Words.{ListensSo, Rejected, Conversation, Begins, HasExpired, Heard, Hears, IsHeard, ListensThrough, ending_by, ending_of}
+use Rattle.cmd_wire.proofs.Words.{hearing_stage, listening, with_peer, ListsDesk, sender_told}
+use Rattle.cmd_wire.proofs.FromStages.{told_through}
 use Rattle.fs_peering.{specs.{declared.tell.Ending.TheVariants.{Closed as HasClosed}, Hearer.{HasClosed as ClosesOnce}}, proofs.Courses.{octets_more}}
 
 pub closes_behind : (config : Config) (peer : Peer) (heard earlier : Pieces) (moment : ℕ) (piece said more : List ℕ) (why : Closed)
@@ -37,7 +44,8 @@ due_still config peer limit octets phase met up found m u = sym (
     ∙ ap (λ (b : Bool). if met then AtLimit else if b then Done else Ended) u)
 
 module _ (desk : Desked) (peer : Peer) (limit : ℕ) (heard : Pieces) (said left : List ℕ) (is_of : peer_of peer.number desk.config.peers ≡ Some peer) where
-  found_from : (phase : Phase) → (bounded_session desk.config peer.number (octets_in heard)).1 ≡ still phase → (bounded_from desk.config peer (octets_in heard)).1 ≡ still phase
+  found_from : (phase : Phase) → (bounded_session desk.config peer.number (octets_in heard)).1 ≡ still phase
+      → (bounded_from desk.config peer (octets_in heard)).1 ≡ still phase
   found_from phase e = sym (session_is desk.config peer.number peer (octets_in heard) is_of) ∙ e
 
   due_closed : (why : Closed) → ClosesOnce desk.config peer.number peer heard said why → IsHeard (HasClosed why) desk.config peer limit heard
@@ -51,10 +59,13 @@ module _ (desk : Desked) (peer : Peer) (limit : ℕ) (heard : Pieces) (said left
           ∙ closes_behind desk.config peer heard t.earlier t.moment t.piece said [] why t.split c)))
 
   due_of : (ending : Ending) → ListensSo ending desk peer.number peer limit heard said left → IsHeard ending desk.config peer limit heard
-  due_of Done t = inl (due_still desk.config peer limit (octets_in heard) t.receives.phase false true (found_from t.receives.phase t.receives.found) (le_false limit (length (octets_in heard)) t.within) t.settled)
+  due_of Done t = inl (due_still desk.config peer limit (octets_in heard) t.receives.phase false true (found_from t.receives.phase t.receives.found)
+      (le_false limit (length (octets_in heard)) t.within) t.settled)
   due_of (HasClosed why) t = due_closed why t
-  due_of Ended t = inl (due_still desk.config peer limit (octets_in heard) t.receives.phase false false (found_from t.receives.phase t.receives.found) (le_false limit (length (octets_in heard)) t.within) t.settled)
-  due_of AtLimit t = inl (due_still desk.config peer limit (octets_in heard) t.receives.phase true (is_established t.receives.phase.state) (found_from t.receives.phase t.receives.found) (le_true limit (length (octets_in heard)) t.met) refl)
+  due_of Ended t = inl (due_still desk.config peer limit (octets_in heard) t.receives.phase false false (found_from t.receives.phase t.receives.found)
+      (le_false limit (length (octets_in heard)) t.within) t.settled)
+  due_of AtLimit t = inl (due_still desk.config peer limit (octets_in heard) t.receives.phase true (is_established t.receives.phase.state)
+      (found_from t.receives.phase t.receives.found) (le_true limit (length (octets_in heard)) t.met) refl)
 
 -- what was told of a connection that was taken, heard, and closed
 
@@ -67,7 +78,8 @@ pub through : (ending : Ending) (config : Config) (desk : Desked) (number limit 
 through ending config desk number limit t1 t2 talk opens l closes = record {
   given = l.given;
   grew = l.grew;
-  told = told_through listened (Listens ending config desk number limit l.given) (λ before now. Listens ending config desk number limit l.given (listening before) now)
+  told = told_through listened (Listens ending config desk number limit l.given)
+      (λ before now. Listens ending config desk number limit l.given (listening before) now)
       (λ a b c d h. subst (λ (e : WireEnds). Listens ending config desk number limit l.given e c) d h) talk.ends t1 t2 talk.ends_now opens l.told closes;
 }
 
@@ -118,8 +130,10 @@ module _ (ending : Ending) (config : Config) (desk : Desked) (peer : Peer) (text
   }
 
 -- as the one with which the session began
-pub heard_as : {accepted : Config} {desk : Desked} {number count : ℕ} (b : Begins accepted desk number count) (ending : Ending) (desk' : Desked) (limit : ℕ) (talk : Conversation)
-    → ListensThrough ending desk.config desk' number limit talk → (text : List ℕ) → ListsDesk ending desk' text → Heard limit talk (accepted, b.peer) ending text
+pub heard_as : {accepted : Config} {desk : Desked} {number count : ℕ} (b : Begins accepted desk number count) (ending : Ending) (desk' : Desked)
+    (limit : ℕ) (talk : Conversation)
+    → ListensThrough ending desk.config desk' number limit talk → (text : List ℕ) → ListsDesk ending desk' text
+    → Heard limit talk (accepted, b.peer) ending text
 heard_as {accepted} {desk} {number} b ending desk' limit talk l text lists =
     heard_of ending accepted desk' b.peer text limit b.peer_is lists talk
     (subst (λ (n : ℕ). ListensThrough ending accepted desk' n limit talk) b.number_is

@@ -1,9 +1,14 @@
 -- What is accepted of a rules file may be kept.
-use Rattle.std.{proofs.{Common.{Err, IfOk, List, [], Ok, Option, Result, Some, None, refl, subst, sym, true, ℕ, ◌≡◌}, NetLemmas.Options.{and_then_some, cond_some}}, specs.Prelude.{codes, option_and_then}}
+use Rattle.std.proofs.Common.{Err, IfOk, List, [], Ok, Option, Result, Some, None, refl, subst, sym, true, ℕ, ◌≡◌}
+use Rattle.std.proofs.NetLemmas.Options.{and_then_some, cond_some}
+use Rattle.std.specs.Prelude.{codes, option_and_then}
 use Rattle.toml.specs.Data.{Data, Members, as_array, get_member}
 use Rattle.fs_base.specs.{Gate.{Content, absent, too_long, unread, whole}, declared.{config.{Config.{Config}, Peer.{Peer}}}}
 use Rattle.fs_speaker.specs.{Sending.{is_sending, sender_of}, declared.{Sending.{Sending}, Sent.{Sent}}}
-use Rattle.fs_conf.{proofs.Found.{cond_within}, specs.{Address.{ipv4_of}, Config.{kept_if, written}, Document.{document_of, each_item}, Fields.{keys_among}, Rules.{are_single, as_path_in, file_keys, rules_in, rules_of, sendable, sending_of_document, sending_of_members}, Sent.{sent_of_data}}}
+use Rattle.fs_conf.proofs.Found.{cond_within}
+use Rattle.fs_conf.specs.{Address.{ipv4_of}, Config.{kept_if, written}, Document.{document_of, each_item}, Fields.{keys_among}}
+use Rattle.fs_conf.specs.Rules.{are_single, as_path_in, file_keys, rules_in, rules_of, sendable, sending_of_document, sending_of_members}
+use Rattle.fs_conf.specs.Sent.{sent_of_data}
 use Rattle.cmd_stages.proofs.Sendable.{rules_sendable}
 use Rattle.cmd_wire.specs.{Judged.{IsJudged, Judged, MayBeKept, accepted, judged_as, refused}, declared.judged.Judged.{Judged as Verdict}}
 
@@ -45,7 +50,8 @@ judged_kept config unread judged e = subst (MayBeKept config) (sym e) tt
 judged_kept config too_long judged e = subst (MayBeKept config) (sym e) tt
 
 -- so of what a call answers
-pub answer_kept : {E : Type 0} (config : Config) (content : Content) (answer : Result Verdict E) → IfOk answer (λ judged. IsJudged config content (judged_as judged))
+pub answer_kept : {E : Type 0} (config : Config) (content : Content) (answer : Result Verdict E)
+    → IfOk answer (λ judged. IsJudged config content (judged_as judged))
     → IfOk answer (λ judged. MayBeKept config (judged_as judged))
 answer_kept config content (Ok judged) h = judged_kept config content (judged_as judged) h
 answer_kept config content (Err e) h = tt

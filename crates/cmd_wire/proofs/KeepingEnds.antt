@@ -1,10 +1,19 @@
 -- How `keep` begins, why it ends, and what it did until then.
-use Rattle.cmd_wire.proofs.{Words.{◌≡◌, ◌≤◌, ◌⊎◌, ◌∙◌, ℕ, suc, true, false, List, [], ◌∷◌, Option, Some, None, Ok, Err, refl, sym, ap, subst, inl, inr, Grew, Grew-trans, Rose, rose_earlier, Happened, Config, Names, Found, HasReason, config_stage, status_of, Result, IsErrAnd, answered, answered_err, Refusal, Capture, Dump, Limit, Memory, Outside, Rejected, Session, Tape}, Statuses.{same_found}, Kept.{rereads_took}}
+use Rattle.cmd_wire.proofs.Words.{◌≡◌, ◌≤◌, ◌⊎◌, ◌∙◌, ℕ, suc, true, false, List, [], ◌∷◌, Option, Some, None, Ok, Err, refl, sym, ap, subst, inl, inr}
+use Rattle.cmd_wire.proofs.Words.{Grew, Grew-trans, Rose, rose_earlier, Happened, Config, Names, Found, HasReason, config_stage, status_of, Result}
+use Rattle.cmd_wire.proofs.Words.{IsErrAnd, answered, answered_err, Refusal, Capture, Dump, Limit, Memory, Outside, Rejected, Session, Tape}
+use Rattle.cmd_wire.proofs.{Statuses.{same_found}, Kept.{rereads_took}}
 use Rattle.std.specs.{Prelude.{take}, Result.{IsErrOf}}
-use Rattle.fs_base.{specs.{Gate.{Content, Turn, absent, content_from, read, too_long, unread, whole}, Happened.{FilesFailed}, declared.Found.{Found as HasFound, TheVariants.{Whole, Absent, Failed as Unread, TooLong as Long}}}, proofs.Grew.{Grew-refl}}
+use Rattle.fs_base.specs.Gate.{Content, Turn, absent, content_from, read, too_long, unread, whole}
+use Rattle.fs_base.specs.Happened.{FilesFailed}
+use Rattle.fs_base.specs.declared.Found.{Found as HasFound, TheVariants.{Whole, Absent, Failed as Unread, TooLong as Long}}
+use Rattle.fs_base.proofs.Grew.{Grew-refl}
 use Rattle.fs_recorder.specs.declared.stop.Stop.{Stop, TheVariants.{Failed, Memory as NoMemory, Limit as TooLong}}
 use Rattle.cmd_stages.specs.Refusal.{IsOfFile}
-use Rattle.cmd_wire.specs.{Recording.{AtGate, SomeFailed, refusal_by}, Shelf.{Shelf}, Keeping.{Begins, Breaks, BreaksShelving, EndsKeeping, Fills, IsMissing, IsOfKeeping, IsThere, IsUnbegun, KeepsAll, KeepsSo, Order, Reread, Shelves, StandsAt, Stationed, Step, Took, at_first, is_done, is_missing, order_by, reread_of, rereads, shelves, starts, starts_by}}
+use Rattle.cmd_wire.specs.{Recording.{AtGate, SomeFailed, refusal_by}, Shelf.{Shelf}}
+use Rattle.cmd_wire.specs.Keeping.{Begins, Breaks, BreaksShelving, EndsKeeping, Fills, IsMissing, IsOfKeeping, IsThere, IsUnbegun, KeepsAll, KeepsSo}
+use Rattle.cmd_wire.specs.Keeping.{Order, Reread, Shelves, StandsAt, Stationed, Step, Took, at_first, is_done, is_missing, order_by, reread_of}
+use Rattle.cmd_wire.specs.Keeping.{rereads, shelves, starts, starts_by}
 
 -- The first reading.
 
@@ -35,11 +44,13 @@ found_there Absent octets there = absurd cc
 found_there Unread octets there = absurd cc
 
 -- where a call failed whose error is handed on
-pub handed_failed : {T U : Type 0} → (stop : Stop) (result : Result T Stop) → IsErrAnd result (λ e. e ≡ stop) → IsErrOf result Failed → IsErrOf {T = U} {E = Stop} (Err stop) Failed
+pub handed_failed : {T U : Type 0} → (stop : Stop) (result : Result T Stop) → IsErrAnd result (λ e. e ≡ stop) → IsErrOf result Failed
+    → IsErrOf {T = U} {E = Stop} (Err stop) Failed
 handed_failed stop (Ok value) same failed = absurd same
 handed_failed stop (Err error) same failed = (let is : error ≡ Failed = cc in ap Err (sym same ∙ is))
 
-pub missing_so : {R : Type 0} (order order' : Order) (t t' : Option (List Turn)) → order ≡ order' → R ⊎ IsMissing order.rules t t' → R ⊎ IsMissing order'.rules t t'
+pub missing_so : {R : Type 0} (order order' : Order) (t t' : Option (List Turn)) → order ≡ order' → R ⊎ IsMissing order.rules t t'
+    → R ⊎ IsMissing order'.rules t t'
 missing_so {R} order order' t t' same why = subst (λ (o : Order). R ⊎ IsMissing o.rules t t') same why
 
 pub started : (order : Order) (reread : Reread) (content : Content) → IsThere content → starts_by order reread content ≡ rereads order reread at_first
@@ -48,12 +59,14 @@ started order reread too_long there = refl
 started order reread absent there = absurd there
 started order reread unread there = absurd there
 
-module _ (moment time : ℕ) (content : Content) (old : Stationed) (t t1 t2 : Option (List Turn)) (w w' : Option (List ℕ)) (there : IsThere content) (s : StandsAt at_first old)
+module _ (moment time : ℕ) (content : Content) (old : Stationed) (t t1 t2 : Option (List Turn)) (w w' : Option (List ℕ)) (there : IsThere content)
+    (s : StandsAt at_first old)
     (told : Grew t t1 (read moment time old.order.rules content ∷ [])) where
   pub begins_took : (new : Stationed) → Shelves moment time content old new t1 t2 w w' → Begins old new t t2 w w'
   begins_took new b =
       let reread : Reread = reread_of moment time content b.judged in
-      let k : Took (rereads old.order reread at_first) old new t t2 w w' = rereads_took moment time content b.judged old new t t1 t2 w w' told b.took at_first s in
+      let k : Took (rereads old.order reread at_first) old new t t2 w w' =
+      rereads_took moment time content b.judged old new t t1 t2 w w' told b.took at_first s in
       record {
         first = reread;
         is_first = record {
@@ -74,11 +87,13 @@ module _ (moment time : ℕ) (content : Content) (old : Stationed) (t t1 t2 : Op
         told = k.told;
         lines = k.lines;
       } in
-      let all : Breaks (starts old.order reread) t t2 w w' = subst (λ (step : Step). Breaks step t t2 w w') (sym (started old.order reread content there)) broken in
+      let all : Breaks (starts old.order reread) t t2 w w' =
+      subst (λ (step : Step). Breaks step t t2 w w') (sym (started old.order reread content there)) broken in
       record { first = Some reread; right = b.right; asked = all.asked; gate = all.gate; told = all.told; lines = all.lines }
 
 -- of an order that is the same
-pub begun_so : (order order' : Order) (t t' : Option (List Turn)) (w w' : Option (List ℕ)) → order ≡ order' → IsUnbegun order t t' w w' → IsUnbegun order' t t' w w'
+pub begun_so : (order order' : Order) (t t' : Option (List Turn)) (w w' : Option (List ℕ)) → order ≡ order' → IsUnbegun order t t' w w'
+    → IsUnbegun order' t t' w w'
 begun_so order order' t t' w w' same u = subst (λ (o : Order). IsUnbegun o t t' w w') same u
 
 -- the statuses
@@ -124,7 +139,8 @@ module _ (limit : ℕ) (holds : Names) (config rules address : List ℕ) (call :
       → KeepsAll (order_by rules address limit accepted) gate.turns gate.turns_now call.before.written call.now.written
       → KeepsSo limit holds config rules address call gate
   keeps_so accepted found all other same =
-      subst (λ (c : Config). KeepsAll (order_by rules address limit c) gate.turns gate.turns_now call.before.written call.now.written) (same_found (sym found ∙ same)) all
+      subst (λ (c : Config). KeepsAll (order_by rules address limit c) gate.turns gate.turns_now call.before.written call.now.written)
+      (same_found (sym found ∙ same)) all
 
 -- a fault of the sink or the gate is one of the outside
 pub some_failed : {F S G M : Type 0} → (S ⊎ G) ⊎ M → (F ⊎ (S ⊎ G)) ⊎ M

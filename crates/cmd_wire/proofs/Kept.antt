@@ -1,9 +1,17 @@
 -- What a station does at an event, step by step.
-use Rattle.cmd_wire.proofs.Words.{◌≡◌, ◌∙◌, ℕ, zero, suc, Bool, true, false, List, [], ◌∷◌, ◌++◌, Option, Some, None, IfSome, length, ap, refl, sym, subst, if◌then◌else◌, Grew, Grew-trans, Config}
+use Rattle.cmd_wire.proofs.Words.{◌≡◌, ◌∙◌, ℕ, zero, suc, Bool, true, false, List, [], ◌∷◌, ◌++◌, Option, Some, None, IfSome, length, ap, refl, sym}
+use Rattle.cmd_wire.proofs.Words.{subst, if◌then◌else◌, Grew, Grew-trans, Config}
 use Rattle.std.{specs.Prelude.{max, take, ◌&&◌, ◌||◌, not}, proofs.Math.Seq.{take-append_seam}}
 use Rattle.fs_base.{specs.{Gate.{Content, Turn, What, read}, Sink.{GrewPart}}, proofs.{Bools.{if_true}, Grew.{Grew-refl}}}
-use Rattle.fs_peering.specs.{Keeper.{Kept, Outcome, dials, hears, tells_all}, Keeping.{Keeping, Took as KeeperTook, TookSo as KeeperTookSo, BreaksAt as KeeperBreaksAt, BreaksSo as KeeperBreaksSo}, declared.keeper.News.{News}}
-use Rattle.cmd_wire.specs.{Judged.{IsJudged, Judged, held_in}, News.{line_of}, Shelf.{Shelf, changed_by, is_due, is_same_as, kept_by, settled_by, settles, shelved}, Keeping.{Between, Breaks, BreaksFollowing, BreaksLooking, BreaksReading, BreaksShelving, BreaksSo, DialsSo, FollowsSo, IsRight, IsUpSo, Looks, Order, Reads, Reread, Shelves, StandsAt, Stationed, Step, Took, TookSo, changes, is_done, is_read, is_up, judges, keeps, looks, order_by, put, reread_of, rereads, rereads_if, rests, shelves, tells_if, then_do, was_done}}
+use Rattle.fs_peering.specs.Keeper.{Kept, Outcome, dials, hears, tells_all}
+use Rattle.fs_peering.specs.Keeping.{Keeping, Took as KeeperTook, TookSo as KeeperTookSo, BreaksAt as KeeperBreaksAt, BreaksSo as KeeperBreaksSo}
+use Rattle.fs_peering.specs.declared.keeper.News.{News}
+use Rattle.cmd_wire.specs.{Judged.{IsJudged, Judged, held_in}, News.{line_of}}
+use Rattle.cmd_wire.specs.Shelf.{Shelf, changed_by, is_due, is_same_as, kept_by, settled_by, settles, shelved}
+use Rattle.cmd_wire.specs.Keeping.{Between, Breaks, BreaksFollowing, BreaksLooking, BreaksReading, BreaksShelving, BreaksSo, DialsSo, FollowsSo}
+use Rattle.cmd_wire.specs.Keeping.{IsRight, IsUpSo, Looks, Order, Reads, Reread, Shelves, StandsAt, Stationed, Step, Took, TookSo, changes, is_done}
+use Rattle.cmd_wire.specs.Keeping.{is_read, is_up, judges, keeps, looks, order_by, put, reread_of, rereads, rereads_if, rests, shelves, tells_if}
+use Rattle.cmd_wire.specs.Keeping.{then_do, was_done}
 
 -- fronts
 
@@ -36,7 +44,8 @@ broke_late step t t' w w' asked told = record {
   lines = told.1;
 }
 
-pub broke_first : (first : Step) (later : Between → Step) (t t' : Option (List Turn)) (w w' : Option (List ℕ)) → Breaks first t t' w w' → Breaks (then_do first later) t t' w w'
+pub broke_first : (first : Step) (later : Between → Step) (t t' : Option (List Turn)) (w w' : Option (List ℕ)) → Breaks first t t' w w'
+    → Breaks (then_do first later) t t' w w'
 broke_first first later t t' w w' b = record {
   asked = (front_more b.asked first.turns (later first.now).turns).0;
   gate = subst (Grew t t') (sym (front_more b.asked first.turns (later first.now).turns).1) b.gate;
@@ -44,7 +53,8 @@ broke_first first later t t' w w' b = record {
   lines = subst (Grew w w') (sym (front_more b.told first.text (later first.now).text).1) b.lines;
 }
 
-pub broke_then : (first : Step) (later : Between → Step) (t t1 t2 : Option (List Turn)) (w w1 w2 : Option (List ℕ)) → Grew t t1 first.turns → Grew w w1 first.text
+pub broke_then : (first : Step) (later : Between → Step) (t t1 t2 : Option (List Turn)) (w w1 w2 : Option (List ℕ)) → Grew t t1 first.turns
+    → Grew w w1 first.text
     → Breaks (later first.now) t1 t2 w1 w2 → Breaks (then_do first later) t t2 w w2
 broke_then first later t t1 t2 w w1 w2 asked told b = record {
   asked = (front_then first.turns (later first.now).turns b.asked).0;
@@ -55,7 +65,8 @@ broke_then first later t t1 t2 w w1 w2 asked told b = record {
       (Grew-trans w w1 w2 first.text (take b.told (later first.now).text) told b.lines);
 }
 
-pub took_then : (first : Step) (later : Between → Step) (old mid new : Stationed) (t t1 t2 : Option (List Turn)) (w w1 w2 : Option (List ℕ)) → Took first old mid t t1 w w1
+pub took_then : (first : Step) (later : Between → Step) (old mid new : Stationed) (t t1 t2 : Option (List Turn)) (w w1 w2 : Option (List ℕ))
+    → Took first old mid t t1 w w1
     → Took (later first.now) mid new t1 t2 w1 w2 → Took (then_do first later) old new t t2 w w2
 took_then first later old mid new t t1 t2 w w1 w2 a b = record {
   gate = Grew-trans t t1 t2 first.turns (later first.now).turns a.gate b.gate;
@@ -116,12 +127,15 @@ module _ (act : Kept → Outcome) (old : Stationed) (t t' : Option (List Turn)) 
       (subst (λ (n : Option News). GrewPart w w' (line_of between.moment n)) k.news_is
       (subst (λ (n : ℕ). GrewPart w w' (line_of n news)) s.moment_is told))
 
-  up_so : (keeping : Keeping) (news : Option News) (answer : Bool) → KeeperTookSo act news old.keeping keeping t t' → answer ≡ is_up news → IsUpSo act answer old
+  up_so : (keeping : Keeping) (news : Option News) (answer : Bool) → KeeperTookSo act news old.keeping keeping t t' → answer ≡ is_up news
+      → IsUpSo act answer old
   up_so keeping news answer took is between s = is ∙ ap is_up (took between.kept s.stands).news_is
 
 -- so where the station stands open, and its keeper took the step
-module _ (act : Config → Kept → Outcome) (inside old : Stationed) (is : inside ≡ old) (agrees : inside.keeping.config ≡ inside.order.config) (t t' : Option (List Turn)) (w w' : Option (List ℕ)) where
-  pub open_took : (keeping : Keeping) (news : Option News) → KeeperTookSo (act inside.keeping.config) news inside.keeping keeping t t' → Grew w w' (line_of inside.moment news)
+module _ (act : Config → Kept → Outcome) (inside old : Stationed) (is : inside ≡ old) (agrees : inside.keeping.config ≡ inside.order.config)
+    (t t' : Option (List Turn)) (w w' : Option (List ℕ)) where
+  pub open_took : (keeping : Keeping) (news : Option News) → KeeperTookSo (act inside.keeping.config) news inside.keeping keeping t t'
+      → Grew w w' (line_of inside.moment news)
       → TookSo (keeps (act old.order.config)) old (with_keeping inside keeping) t t' w w'
   open_took keeping news took told =
       subst (λ (r : Stationed). TookSo (keeps (act r.order.config)) r (with_keeping inside keeping) t t' w w') is
@@ -134,21 +148,24 @@ module _ (act : Config → Kept → Outcome) (inside old : Stationed) (is : insi
       (subst (λ (c : Config). BreaksSo (keeps (act c)) inside t t' w w) agrees
       (keeps_broke (act inside.keeping.config) inside t t' w w' broke))
 
-  pub open_untold : (keeping : Keeping) (news : Option News) → KeeperTookSo (act inside.keeping.config) news inside.keeping keeping t t' → GrewPart w w' (line_of inside.moment news)
+  pub open_untold : (keeping : Keeping) (news : Option News) → KeeperTookSo (act inside.keeping.config) news inside.keeping keeping t t'
+      → GrewPart w w' (line_of inside.moment news)
       → BreaksSo (keeps (act old.order.config)) old t t' w w'
   open_untold keeping news took told =
       subst (λ (r : Stationed). BreaksSo (keeps (act r.order.config)) r t t' w w') is
       (subst (λ (c : Config). BreaksSo (keeps (act c)) inside t t' w w') agrees
       (keeps_untold (act inside.keeping.config) inside t t' w w' keeping news took told))
 
-  pub open_up : (keeping : Keeping) (news : Option News) (answer : Bool) → KeeperTookSo (act inside.keeping.config) news inside.keeping keeping t t' → answer ≡ is_up news
+  pub open_up : (keeping : Keeping) (news : Option News) (answer : Bool) → KeeperTookSo (act inside.keeping.config) news inside.keeping keeping t t'
+      → answer ≡ is_up news
       → IsUpSo (act old.order.config) answer old
   open_up keeping news answer took up =
       subst (λ (r : Stationed). IsUpSo (act r.order.config) answer r) is
       (subst (λ (c : Config). IsUpSo (act c) answer inside) agrees
       (up_so (act inside.keeping.config) inside t t' w w' keeping news answer took up))
 
-pub open_dialled : (inside old : Stationed) (is : inside ≡ old) (agrees : inside.keeping.config ≡ inside.order.config) (t t' : Option (List Turn)) (keeping : Keeping) (time : ℕ)
+pub open_dialled : (inside old : Stationed) (is : inside ≡ old) (agrees : inside.keeping.config ≡ inside.order.config) (t t' : Option (List Turn))
+    (keeping : Keeping) (time : ℕ)
     → ((line : ℕ) × KeeperTookSo (dials inside.keeping.config line time inside.order.address) None inside.keeping keeping t t')
     → DialsSo time old (with_keeping inside keeping) t t'
 open_dialled inside old is agrees t t' keeping time took =
@@ -173,7 +190,8 @@ put_by moment time content old = record {
 }
 
 module _ (moment time : ℕ) (content : Content) (old : Stationed) where
-  puts : (judged : Option Judged) (between : Between) → StandsAt between old → StandsAt (put (reread_of moment time content judged) between) (put_by moment time content old)
+  puts : (judged : Option Judged) (between : Between) → StandsAt between old
+      → StandsAt (put (reread_of moment time content judged) between) (put_by moment time content old)
   puts judged between s = record {
     config_is = s.config_is;
     stands = s.stands;
@@ -182,7 +200,8 @@ module _ (moment time : ℕ) (content : Content) (old : Stationed) where
     heard_is = s.heard_is;
   }
 
-  same_settles : (between : Between) → StandsAt between old → (changed : Bool) → settles old.shelf content time ≡ changed → settles between.shelf content time ≡ changed
+  same_settles : (between : Between) → StandsAt between old → (changed : Bool) → settles old.shelf content time ≡ changed
+      → settles between.shelf content time ≡ changed
   same_settles between s changed is = ap (λ (shelf : Shelf). settles shelf content time) (sym s.shelf_is) ∙ is
 
   settled_one : settles old.shelf content time ≡ true → held_in (shelved content time old.shelf) ≡ content
@@ -194,7 +213,8 @@ module _ (moment time : ℕ) (content : Content) (old : Stationed) where
       → shelves old.order (reread_of moment time content judged) between ≡ judges old.order time judged (put (reread_of moment time content judged) between)
   judges_it judged between s changed =
       let reread : Reread = reread_of moment time content judged in
-      if_true (changes between.shelf reread) (judges old.order time judged (put reread between)) (rests (put reread between)) (same_settles between s true changed)
+      if_true (changes between.shelf reread) (judges old.order time judged (put reread between)) (rests (put reread between))
+      (same_settles between s true changed)
 
   module _ (judged : Judged) (t t' : Option (List Turn)) (w w' : Option (List ℕ)) (changed : settles old.shelf content time ≡ true)
       (right : IsJudged old.order.config (held_in (shelved content time old.shelf)) judged) where
@@ -212,7 +232,8 @@ module _ (moment time : ℕ) (content : Content) (old : Stationed) where
           (record { gate = k.gate; lines = k.lines; stands = k.stands; order_is = k.order_is });
     }
 
-    pub shelved_broke : BreaksSo (judges old.order time (Some judged)) (put_by moment time content old) t t' w w' → BreaksShelving moment time content old t t' w w'
+    pub shelved_broke : BreaksSo (judges old.order time (Some judged)) (put_by moment time content old) t t' w w'
+        → BreaksShelving moment time content old t t' w w'
     shelved_broke broke = record {
       judged = Some judged;
       right = subst (λ (c : Content). IsJudged old.order.config c judged) (settled_one changed) right;
@@ -226,8 +247,10 @@ module _ (moment time : ℕ) (content : Content) (old : Stationed) where
 abbrev pub with_shelf : Stationed → Shelf → ℕ → Stationed
 with_shelf old shelf moment = record { order = old.order; keeping = old.keeping; shelf = shelf; moment = moment; heard = old.heard }
 
-module _ (moment time : ℕ) (content content' : Content) (same : content' ≡ content) (inside old : Stationed) (is : inside ≡ old) (shelf' : Shelf) (moment' : ℕ) (answer : Bool)
-    (shelf_is : shelf' ≡ shelved content' time inside.shelf) (moment_is : moment' ≡ max inside.moment moment) (answered : answer ≡ settles inside.shelf content' time) where
+module _ (moment time : ℕ) (content content' : Content) (same : content' ≡ content) (inside old : Stationed) (is : inside ≡ old) (shelf' : Shelf)
+    (moment' : ℕ) (answer : Bool)
+    (shelf_is : shelf' ≡ shelved content' time inside.shelf) (moment_is : moment' ≡ max inside.moment moment)
+    (answered : answer ≡ settles inside.shelf content' time) where
   shelf_so : shelf' ≡ shelved content time inside.shelf
   shelf_so = shelf_is ∙ ap (λ (c : Content). shelved c time inside.shelf) same
 
@@ -237,10 +260,12 @@ module _ (moment time : ℕ) (content content' : Content) (same : content' ≡ c
   settles_is : (b : Bool) → answer ≡ b → settles inside.shelf content time ≡ b
   settles_is b is_b = ap (λ (c : Content). settles inside.shelf c time) (sym same) ∙ (sym answered ∙ is_b)
 
-  module _ (judged : Judged) (config : Config) (config_is : config ≡ inside.order.config) (yes : answer ≡ true) (right : IsJudged config (held_in shelf') judged)
+  module _ (judged : Judged) (config : Config) (config_is : config ≡ inside.order.config) (yes : answer ≡ true)
+      (right : IsJudged config (held_in shelf') judged)
       (t t' : Option (List Turn)) (w w' : Option (List ℕ)) where
     right_so : IsJudged inside.order.config (held_in (shelved content time inside.shelf)) judged
-    right_so = subst (λ (shelf : Shelf). IsJudged inside.order.config (held_in shelf) judged) shelf_so (subst (λ (c : Config). IsJudged c (held_in shelf') judged) config_is right)
+    right_so = subst (λ (shelf : Shelf). IsJudged inside.order.config (held_in shelf) judged) shelf_so
+        (subst (λ (c : Config). IsJudged c (held_in shelf') judged) config_is right)
 
     pub shelve_took : (new : Stationed) → TookSo (judges inside.order time (Some judged)) (with_shelf inside shelf' moment') new t t' w w'
         → Shelves moment time content old new t t' w w'
@@ -249,7 +274,8 @@ module _ (moment time : ℕ) (content content' : Content) (same : content' ≡ c
         (shelved_took moment time content inside judged t t' w w' (settles_is true yes) right_so new
         (subst (λ (mid : Stationed). TookSo (judges inside.order time (Some judged)) mid new t t' w w') mid_is took))
 
-    pub shelve_broke : BreaksSo (judges inside.order time (Some judged)) (with_shelf inside shelf' moment') t t' w w' → BreaksShelving moment time content old t t' w w'
+    pub shelve_broke : BreaksSo (judges inside.order time (Some judged)) (with_shelf inside shelf' moment') t t' w w'
+        → BreaksShelving moment time content old t t' w w'
     shelve_broke broke =
         subst (λ (r : Stationed). BreaksShelving moment time content r t t' w w') is
         (shelved_broke moment time content inside judged t t' w w' (settles_is true yes) right_so
@@ -263,7 +289,8 @@ pub rereads_took : (moment time : ℕ) (content : Content) (judged : Option Judg
 rereads_took moment time content judged old new t t1 t2 w w' told took between s =
     let k : Took (shelves old.order (reread_of moment time content judged) between) old new t1 t2 w w' = took between s in
     record {
-      gate = Grew-trans t t1 t2 (read moment time old.order.rules content ∷ []) (shelves old.order (reread_of moment time content judged) between).turns told k.gate;
+      gate = Grew-trans t t1 t2 (read moment time old.order.rules content ∷ [])
+          (shelves old.order (reread_of moment time content judged) between).turns told k.gate;
       lines = k.lines;
       stands = k.stands;
       order_is = k.order_is;
@@ -302,22 +329,26 @@ reads_none old t t' w none = record {
 }
 
 -- of the name that the station has
-pub read_by : (inside old : Stationed) → inside ≡ old → (moment time : ℕ) (content : Content) (t t1 : Option (List Turn)) → Grew t t1 (read moment time inside.order.rules content ∷ [])
+pub read_by : (inside old : Stationed) → inside ≡ old → (moment time : ℕ) (content : Content) (t t1 : Option (List Turn))
+    → Grew t t1 (read moment time inside.order.rules content ∷ [])
     → Grew t t1 (read moment time old.order.rules content ∷ [])
 read_by inside old is moment time content t t1 told = subst (λ (r : Stationed). Grew t t1 (read moment time r.order.rules content ∷ [])) is told
 
 -- A session that came up is told all rules.
 
-pub untold_not : (up : Bool) → up ≡ false → (time : ℕ) (old : Stationed) (t : Option (List Turn)) (w : Option (List ℕ)) → TookSo (tells_if old.order time up) old old t t w w
+pub untold_not : (up : Bool) → up ≡ false → (time : ℕ) (old : Stationed) (t : Option (List Turn)) (w : Option (List ℕ))
+    → TookSo (tells_if old.order time up) old old t t w w
 untold_not true down time old t w between s = absurd cc
 untold_not false down time old t w between s = record { gate = Grew-refl t; lines = Grew-refl w; stands = s; order_is = refl }
 
-pub told_by : (up : Bool) → up ≡ true → (time : ℕ) (old new : Stationed) (t t' : Option (List Turn)) (w w' : Option (List ℕ)) → TookSo (keeps (tells_all old.order.config time)) old new t t' w w'
+pub told_by : (up : Bool) → up ≡ true → (time : ℕ) (old new : Stationed) (t t' : Option (List Turn)) (w w' : Option (List ℕ))
+    → TookSo (keeps (tells_all old.order.config time)) old new t t' w w'
     → TookSo (tells_if old.order time up) old new t t' w w'
 told_by true it_is time old new t t' w w' took = took
 told_by false it_is time old new t t' w w' took = absurd cc
 
-pub untold_by : (up : Bool) → up ≡ true → (time : ℕ) (old : Stationed) (t t' : Option (List Turn)) (w w' : Option (List ℕ)) → BreaksSo (keeps (tells_all old.order.config time)) old t t' w w'
+pub untold_by : (up : Bool) → up ≡ true → (time : ℕ) (old : Stationed) (t t' : Option (List Turn)) (w w' : Option (List ℕ))
+    → BreaksSo (keeps (tells_all old.order.config time)) old t t' w w'
     → BreaksSo (tells_if old.order time up) old t t' w w'
 untold_by true it_is time old t t' w w' broke = broke
 untold_by false it_is time old t t' w w' broke = absurd cc
@@ -335,7 +366,8 @@ always (Some a) p = p
 done_at : (old : Stationed) (between : Between) (reread : Reread) → StandsAt between old → is_done old.shelf reread ≡ true → is_done between.shelf reread ≡ true
 done_at old between reread s done = subst (λ (shelf : Shelf). is_done shelf reread ≡ true) s.shelf_is done
 
-pub looks_still : (up : Bool) (time : ℕ) (old : Stationed) (t : Option (List Turn)) (w : Option (List ℕ)) → (up || is_due old.shelf time) ≡ false → Looks up time old old t t w w
+pub looks_still : (up : Bool) (time : ℕ) (old : Stationed) (t : Option (List Turn)) (w : Option (List ℕ)) → (up || is_due old.shelf time) ≡ false
+    → Looks up time old old t t w w
 looks_still true time old t w still = absurd cc
 looks_still false time old t w still = record {
   reads = None;
@@ -370,8 +402,10 @@ module _ (up : Bool) (time : ℕ) (old : Stationed) (due : (up || is_due old.she
       right = reads.right;
       took = λ between s.
           let a : Took (rereads old.order reads.reread between) old mid t t1 w w1 = reads.took between s in
-          took_then (rereads old.order reads.reread between) (tells_if old.order time (up && was_done between.shelf (Some reads.reread))) old mid new t t1 t2 w w1 w2 a
-          (subst (λ (one_more : Between → Step). Took (one_more (rereads old.order reads.reread between).now) mid new t1 t2 w1 w2) (telling between s a.order_is)
+          took_then (rereads old.order reads.reread between) (tells_if old.order time (up && was_done between.shelf (Some reads.reread))) old mid new
+          t t1 t2 w w1 w2 a
+          (subst (λ (one_more : Between → Step). Took (one_more (rereads old.order reads.reread between).now) mid new t1 t2 w1 w2)
+          (telling between s a.order_is)
           (told (rereads old.order reads.reread between).now a.stands));
     }
 
@@ -382,7 +416,8 @@ module _ (up : Bool) (time : ℕ) (old : Stationed) (due : (up || is_due old.she
       right = reads.right;
       breaks = λ between s.
           let a : Took (rereads old.order reads.reread between) old mid t t1 w w1 = reads.took between s in
-          broke_then (rereads old.order reads.reread between) (tells_if old.order time (up && was_done between.shelf (Some reads.reread))) t t1 t2 w w1 w2 a.gate a.lines
+          broke_then (rereads old.order reads.reread between) (tells_if old.order time (up && was_done between.shelf (Some reads.reread))) t t1 t2 w
+          w1 w2 a.gate a.lines
           (subst (λ (one_more : Between → Step). Breaks (one_more (rereads old.order reads.reread between).now) t1 t2 w1 w2) (telling between s a.order_is)
           (broke (rereads old.order reads.reread between).now a.stands));
     }
@@ -411,7 +446,8 @@ module _ (time : ℕ) (what : What) (old : Stationed) where
     due = tt;
     right = tt;
     breaks = broke_first (keeps act between) (λ heard.
-        then_do (keeps (dials old.order.config 0 time old.order.address) heard) (looks old.order (is_up (act between.kept).news) time None)) t t' w w' (broke between s);
+        then_do (keeps (dials old.order.config 0 time old.order.address) heard) (looks old.order (is_up (act between.kept).news) time None)) t t' w w'
+        (broke between s);
   }
 
   module _ (one : Stationed) (t t1 t2 : Option (List Turn)) (w w1 : Option (List ℕ)) (heard : TookSo (keeps act) old one t t1 w w1) where
@@ -426,7 +462,8 @@ module _ (time : ℕ) (what : What) (old : Stationed) where
           breaks = broke_then (keeps act between) (λ heard.
               then_do (keeps (dials old.order.config 0 time old.order.address) heard) (looks old.order (is_up (act between.kept).news) time None))
               t t1 t2 w w1 w1 a.gate a.lines
-              (broke_at_once (then_do (keeps (dials old.order.config 0 time old.order.address) (keeps act between).now) (looks old.order (is_up (act between.kept).news) time None))
+              (broke_at_once (then_do (keeps (dials old.order.config 0 time old.order.address) (keeps act between).now)
+              (looks old.order (is_up (act between.kept).news) time None))
               t1 t2 w1 w1 none (Grew-refl w1));
         }
 
@@ -456,13 +493,15 @@ module _ (time : ℕ) (what : What) (old : Stationed) where
           ap (λ (order : Order). looks order up time reads) (order_two between s)
           ∙ ap (λ (b : Bool). looks old.order b time reads) (is between s)
 
-      pub follows_took : (new : Stationed) (t3 : Option (List Turn)) (w3 : Option (List ℕ)) → Looks up time two new t2 t3 w1 w3 → FollowsSo time what old new t t3 w w3
+      pub follows_took : (new : Stationed) (t3 : Option (List Turn)) (w3 : Option (List ℕ)) → Looks up time two new t2 t3 w1 w3
+          → FollowsSo time what old new t t3 w w3
       follows_took new t3 w3 looked between s =
           let a : Took (keeps act between) old one t t1 w w1 = heard between s in
           let d : Took (dial (keeps act between).now) one two t1 t2 w1 w1 = second between s in
           let look : Between → Step = looks old.order (is_up (act between.kept).news) time looked.reads in
           let l : Took (look (dial (keeps act between).now).now) two new t2 t3 w1 w3 =
-          subst (λ (one_more : Between → Step). Took (one_more (dial (keeps (hears old.order.config time what) between).now).now) two new t2 t3 w1 w3) (looks_two between s looked.reads)
+          subst (λ (one_more : Between → Step). Took (one_more (dial (keeps (hears old.order.config time what) between).now).now) two new t2 t3 w1 w3)
+          (looks_two between s looked.reads)
           (looked.took (dial (keeps act between).now).now d.stands) in
           record {
             line = dialled.0;
@@ -480,7 +519,8 @@ module _ (time : ℕ) (what : What) (old : Stationed) where
           let d : Took (dial (keeps act between).now) one two t1 t2 w1 w1 = second between s in
           let look : Between → Step = looks old.order (is_up (act between.kept).news) time broke.reads in
           let l : Breaks (look (dial (keeps act between).now).now) t2 t3 w1 w3 =
-          subst (λ (one_more : Between → Step). Breaks (one_more (dial (keeps (hears old.order.config time what) between).now).now) t2 t3 w1 w3) (looks_two between s broke.reads)
+          subst (λ (one_more : Between → Step). Breaks (one_more (dial (keeps (hears old.order.config time what) between).now).now) t2 t3 w1 w3)
+          (looks_two between s broke.reads)
           (broke.breaks (dial (keeps act between).now).now d.stands) in
           record {
             line = dialled.0;

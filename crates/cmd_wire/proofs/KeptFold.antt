@@ -1,8 +1,16 @@
 -- What `keep` does, event by event.
-use Rattle.cmd_wire.proofs.Words.{◌≡◌, ◌∙◌, ◌+◌, ℕ, Bool, true, false, List, [], ◌∷◌, ◌++◌, Option, Some, None, IfSome, append-nil, append_assoc, length, length-append, arith, ap, refl, sym, subst, Grew, Grew-trans}
+use Rattle.cmd_wire.proofs.Words.{◌≡◌, ◌∙◌, ◌+◌, ℕ, Bool, true, false, List, [], ◌∷◌, ◌++◌, Option, Some, None, IfSome, append-nil, append_assoc}
+use Rattle.cmd_wire.proofs.Words.{length, length-append, arith, ap, refl, sym, subst, Grew, Grew-trans}
 use Rattle.std.{specs.Prelude.{is_some, max, take, ◌^◌, ◌-◌}, proofs.Common.{length-take-le}}
-use Rattle.fs_base.{specs.{Gate.{FitsIn, Turn, What, came, what_from}, declared.Came.{Came, TheVariants.{Taken, Made, Octets, Ended as HasEnded, Nothing}}}, proofs.Grew.{Grew-refl}}
-use Rattle.cmd_wire.{proofs.{Kept.{broke_at_once}, KeptExactly.{kept_exactly}}, specs.Keeping.{AllFit, Begins, Between, Breaks, BreaksFollow, BreaksFollowing, BreaksHearing, BreaksNext, BreaksOne, Continues, ContinuesSo, Fills, Fits, Follows, FollowsSo, Happening, HearsNext, HearsOne, HearsSo, IsFirst, IsFull, IsOver, IsRight, Keeps, Order, Reread, StandsAt, Stationed, Took, begun, begun_text, begun_turns, behind, count_of, event_of, follows, is_over, is_read, octets_in, passed, passed_by, stands_from, starts, step_at, text_from, turns_at, turns_from}}
+use Rattle.fs_base.specs.Gate.{FitsIn, Turn, What, came, what_from}
+use Rattle.fs_base.specs.declared.Came.{Came, TheVariants.{Taken, Made, Octets, Ended as HasEnded, Nothing}}
+use Rattle.fs_base.proofs.Grew.{Grew-refl}
+use Rattle.cmd_wire.proofs.{Kept.{broke_at_once}, KeptExactly.{kept_exactly}}
+use Rattle.cmd_wire.specs.Keeping.{AllFit, Begins, Between, Breaks, BreaksFollow, BreaksFollowing, BreaksHearing, BreaksNext, BreaksOne, Continues}
+use Rattle.cmd_wire.specs.Keeping.{ContinuesSo, Fills, Fits, Follows, FollowsSo, Happening, HearsNext, HearsOne, HearsSo, IsFirst, IsFull, IsOver}
+use Rattle.cmd_wire.specs.Keeping.{IsRight, Keeps, Order, Reread, StandsAt, Stationed, Took, begun, begun_text, begun_turns, behind, count_of}
+use Rattle.cmd_wire.specs.Keeping.{event_of, follows, is_over, is_read, octets_in, passed, passed_by, stands_from, starts, step_at, text_from}
+use Rattle.cmd_wire.specs.Keeping.{turns_at, turns_from}
 
 -- octets that came are as many as were counted
 pub octets_counted : (came : Came) (into : List ℕ) → FitsIn came into → count_of came ≡ octets_in (what_from came into)
@@ -13,7 +21,8 @@ octets_counted (HasEnded line) into fits = refl
 octets_counted Nothing into fits = refl
 
 -- an event's moment and octets have passed
-passed_stands : (moment count : ℕ) (old mid : Stationed) (between : Between) → mid ≡ passed_by moment count old → StandsAt between old → StandsAt (passed moment count between) mid
+passed_stands : (moment count : ℕ) (old mid : Stationed) (between : Between) → mid ≡ passed_by moment count old → StandsAt between old
+    → StandsAt (passed moment count between) mid
 passed_stands moment count old mid between is s =
     subst (StandsAt (passed moment count between)) (sym is)
     (record {
@@ -24,7 +33,8 @@ passed_stands moment count old mid between is s =
       heard_is = ap (λ (n : ℕ). n + count) s.heard_is;
     })
 
-over_at : (order : Order) (b : Bool) (count count' heard heard' : ℕ) → count ≡ count' → heard ≡ heard' → is_over order.limit heard count ≡ b → is_over order.limit heard' count' ≡ b
+over_at : (order : Order) (b : Bool) (count count' heard heard' : ℕ) → count ≡ count' → heard ≡ heard' → is_over order.limit heard count ≡ b
+    → is_over order.limit heard' count' ≡ b
 over_at order b count count' heard heard' c h is =
     subst (λ (n : ℕ). is_over order.limit heard' n ≡ b) c (subst (λ (n : ℕ). is_over order.limit n count ≡ b) h is)
 
@@ -46,7 +56,8 @@ module _ (moment time : ℕ) (what : What) (count : ℕ) (same : count ≡ octet
   pub hears_took : (new : Stationed) (t t' : Option (List Turn)) (w w' : Option (List ℕ)) → is_over old.order.limit old.heard count ≡ false
       → FollowsSo time what mid new t t' w w' → HearsSo moment time what old new t t' w w'
   hears_took new t t' w w' below did between s =
-      let f : Follows time what (passed moment (octets_in what) between) mid new t t' w w' = did (passed moment (octets_in what) between) (stands_passed between s) in (
+      let f : Follows time what (passed moment (octets_in what) between) mid new t t' w w' =
+      did (passed moment (octets_in what) between) (stands_passed between s) in (
         f.line,
         f.reads,
         record {
@@ -63,7 +74,8 @@ module _ (moment time : ℕ) (what : What) (count : ℕ) (same : count ≡ octet
   pub hears_broke : {L : Type 0} → (t t' : Option (List Turn)) (w w' : Option (List ℕ)) → (L → ⊥)
       → BreaksFollowing time what mid t t' w w' → BreaksHearing L moment time what old t t' w w'
   hears_broke {L} t t' w w' never broke between s =
-      let b : BreaksFollow time what mid.order (passed moment (octets_in what) between) t t' w w' = broke (passed moment (octets_in what) between) (stands_passed between s) in (
+      let b : BreaksFollow time what mid.order (passed moment (octets_in what) between) t t' w w' =
+      broke (passed moment (octets_in what) between) (stands_passed between s) in (
         b.line,
         b.reads,
         record {
@@ -71,13 +83,15 @@ module _ (moment time : ℕ) (what : What) (count : ℕ) (same : count ≡ octet
             due = subst (λ (order : Order). IfSome b.reads (λ reread. is_read order time what between ≡ true)) order_passed b.due;
             right = subst (λ (order : Order). IfSome b.reads (IsRight order.config)) order_passed b.right;
           };
-          breaks = subst (λ (order : Order). Breaks (follows order b.line time what b.reads (passed moment (octets_in what) between)) t t' w w') order_passed b.breaks;
+          breaks = subst (λ (order : Order). Breaks (follows order b.line time what b.reads (passed moment (octets_in what) between)) t t' w w')
+              order_passed b.breaks;
           full = λ limited. absurd (never limited);
         },
       )
 
 -- the limit is met
-pub hears_over : {L : Type 0} → (moment time : ℕ) (what : What) (count : ℕ) → count ≡ octets_in what → (old : Stationed) (t : Option (List Turn)) (w : Option (List ℕ))
+pub hears_over : {L : Type 0} → (moment time : ℕ) (what : What) (count : ℕ) → count ≡ octets_in what
+    → (old : Stationed) (t : Option (List Turn)) (w : Option (List ℕ))
     → is_over old.order.limit old.heard count ≡ true → BreaksHearing L moment time what old t t w w
 hears_over {L} moment time what count same old t w over between s = (
   0,
@@ -91,7 +105,8 @@ hears_over {L} moment time what count same old t w over between s = (
 
 -- Behind the turn of the event.
 
-pub next_took : (moment time : ℕ) (what : What) (old new : Stationed) (t t1 t2 : Option (List Turn)) (w w' : Option (List ℕ)) → Grew t t1 (came moment time what ∷ [])
+pub next_took : (moment time : ℕ) (what : What) (old new : Stationed) (t t1 t2 : Option (List Turn)) (w w' : Option (List ℕ))
+    → Grew t t1 (came moment time what ∷ [])
     → HearsSo moment time what old new t1 t2 w w' → HearsOne old new t t2 w w'
 next_took moment time what old new t t1 t2 w w' told did between s =
     let h = did between s in
@@ -106,7 +121,8 @@ next_took moment time what old new t t1 t2 w w' told did between s =
       },
     )
 
-pub next_broke : {L : Type 0} → (moment time : ℕ) (what : What) (old : Stationed) (t t1 t2 : Option (List Turn)) (w w' : Option (List ℕ)) → Grew t t1 (came moment time what ∷ [])
+pub next_broke : {L : Type 0} → (moment time : ℕ) (what : What) (old : Stationed) (t t1 t2 : Option (List Turn)) (w w' : Option (List ℕ))
+    → Grew t t1 (came moment time what ∷ [])
     → BreaksHearing L moment time what old t1 t2 w w' → BreaksOne L old t t2 w w'
 next_broke {L} moment time what old t t1 t2 w w' told did between s =
     let h = did between s in
@@ -148,13 +164,15 @@ text_more order now (first ∷ later) event =
     ∙ sym (append_assoc (step_at order now first).text (text_from order (behind order now first) later)
     (step_at order (stands_from order (behind order now first) later) event).text)
 
-fit_more : (order : Order) (now : Between) (events : List Happening) (event : Happening) → AllFit order now events → Fits order (stands_from order now events) event
+fit_more : (order : Order) (now : Between) (events : List Happening) (event : Happening) → AllFit order now events
+    → Fits order (stands_from order now events) event
     → AllFit order now (events ++ event ∷ [])
 fit_more order now [] event all one = (one, tt)
 fit_more order now (first ∷ later) event all one = (all.0, fit_more order (behind order now first) later event all.1 one)
 
 -- Behind so many events since the first reading.
-pub record Heard (count : ℕ) (order : Order) (start : Between) (station : Stationed) (turns turns' : Option (List Turn)) (before now : Option (List ℕ)) : Type 0 where
+pub record Heard (count : ℕ) (order : Order) (start : Between) (station : Stationed) (turns turns' : Option (List Turn))
+    (before now : Option (List ℕ)) : Type 0 where
   pub events : List Happening
   pub count_is : length events ≡ count
   pub fit : AllFit order start events
@@ -186,12 +204,15 @@ heard_more count old station new t t1 t2 w w1 w2 heard one start s =
           (subst (λ (k : Order). StandsAt (behind k now o.0) new) h.order_is next.stands);
       order_is = next.order_is ∙ h.order_is;
       gate = subst (Grew t t2) (sym (turns_more order start h.events o.0))
-          (Grew-trans t t1 t2 (turns_from order start h.events) (turns_at order now o.0) h.gate (subst (λ (k : Order). Grew t1 t2 (turns_at k now o.0)) h.order_is next.gate));
+          (Grew-trans t t1 t2 (turns_from order start h.events) (turns_at order now o.0) h.gate
+          (subst (λ (k : Order). Grew t1 t2 (turns_at k now o.0)) h.order_is next.gate));
       lines = subst (Grew w w2) (sym (text_more order start h.events o.0))
-          (Grew-trans w w1 w2 (text_from order start h.events) (step_at order now o.0).text h.lines (subst (λ (k : Order). Grew w1 w2 (step_at k now o.0).text) h.order_is next.lines));
+          (Grew-trans w w1 w2 (text_from order start h.events) (step_at order now o.0).text h.lines
+          (subst (λ (k : Order). Grew w1 w2 (step_at k now o.0).text) h.order_is next.lines));
     }
 
-over_full : (order : Order) (start : Between) (events : List Happening) (last : Option Happening) → IsOver order (stands_from order start events) last → IsFull order start events last
+over_full : (order : Order) (start : Between) (events : List Happening) (last : Option Happening) → IsOver order (stands_from order start events) last
+    → IsFull order start events last
 over_full order start events None over = absurd over
 over_full order start events (Some event) over = over
 
@@ -260,7 +281,8 @@ module _ {L : Type 0} (order : Order) (old mid : Stationed) (t t1 t2 : Option (L
         last = c.last;
         fits = c.fits;
         asked = c.asked;
-        gate = Grew-trans t t1 t2 (starts order began.first).turns (turns_from order (begun order began.first) c.earlier ++ begun_turns order now c.last c.asked) first_turns c.gate;
+        gate = Grew-trans t t1 t2 (starts order began.first).turns (turns_from order (begun order began.first) c.earlier
+            ++ begun_turns order now c.last c.asked) first_turns c.gate;
         told = c.told;
         lines = Grew-trans w w1 w2 (starts order began.first).text (text_from order (begun order began.first) c.earlier ++ begun_text order now c.last c.told)
             (subst (λ (k : Order). Grew w w1 (starts k began.first).text) same began.took.lines) c.lines;
@@ -277,6 +299,7 @@ module _ {L : Type 0} (order : Order) (old mid : Stationed) (t t1 t2 : Option (L
         earlier = c.earlier;
         fit = c.fit;
         last = c.last;
-        gate = Grew-trans t t1 t2 (starts order began.first).turns (turns_from order (begun order began.first) c.earlier ++ begun_turns order now c.last 0) first_turns (c.full limited).1;
+        gate = Grew-trans t t1 t2 (starts order began.first).turns (turns_from order (begun order began.first) c.earlier
+            ++ begun_turns order now c.last 0) first_turns (c.full limited).1;
         full = (c.full limited).0;
       }

@@ -2,13 +2,18 @@
 use Rattle.std.proofs.Common.{ℕ, List, ◌++◌, Bool, true, false, Option, Some, None, refl, ◌≡◌, ◌∙◌, ◌&&◌, ◌==◌, if◌then◌else◌, not}
 use Rattle.std.specs.Option.{is_some}
 use Rattle.fs_base.specs.{Gate.{What, ended, gave, made, nothing, taken}, declared.config.{Config.{Config}, Peer.{Peer}}}
-use Rattle.fs_speaker.specs.{Handed.{Point}, Sending.{needs_of, sender_of}, Side.{notice_text}, declared.{Closed.{Closed, TheVariants.{Fault}}, Sending.{Sending}}}
-use Rattle.fs_peering.specs.{Keeper.{Connection, Kept, Outcome, Said, accepts, at_line, begins, begins_one, change_text, checks, comes_up, dials, ends, exceeds, follows, hears, is_due, is_up, machine_of, news_told, news_up, outcome, parts, received, receives, rests, rises, speaks, speaks_on, tells, tells_all, terms_at, wakes, with_connection, with_rules, woken}, declared.keeper.News.{News}}
+use Rattle.fs_speaker.specs.{Handed.{Point}, Sending.{needs_of, sender_of}, Side.{notice_text}}
+use Rattle.fs_speaker.specs.declared.{Closed.{Closed, TheVariants.{Fault}}, Sending.{Sending}}
+use Rattle.fs_peering.specs.Keeper.{Connection, Kept, Outcome, Said, accepts, at_line, begins, begins_one, change_text, checks, comes_up, dials, ends}
+use Rattle.fs_peering.specs.Keeper.{exceeds, follows, hears, is_due, is_up, machine_of, news_told, news_up, outcome, parts, received, receives, rests}
+use Rattle.fs_peering.specs.Keeper.{rises, speaks, speaks_on, tells, tells_all, terms_at, wakes, with_connection, with_rules, woken}
+use Rattle.fs_peering.specs.declared.keeper.News.{News}
 
 abbrev Stays : Kept → Outcome → Type 0
 Stays kept outcome = outcome.kept.rules ≡ kept.rules
 
-up_stays : (b : Bool) (text : List ℕ) (now : Point) (news : Option News) (c : Connection) (kept : Kept) → Stays kept (speaks_on text now news c (comes_up b kept))
+up_stays : (b : Bool) (text : List ℕ) (now : Point) (news : Option News) (c : Connection) (kept : Kept)
+    → Stays kept (speaks_on text now news c (comes_up b kept))
 up_stays true text now news c kept = refl
 up_stays false text now news c kept = refl
 
@@ -72,7 +77,8 @@ line_stays line test act kept acts = by kept.connection
 
 follows_stays : (config : Config) (time : ℕ) (what : What) (kept : Kept) → Stays kept (follows config time what kept)
 follows_stays config time (made line) kept = line_stays line (λ c. not c.made) (begins config time) kept (λ c. refl)
-follows_stays config time (gave line piece) kept = line_stays line (λ c. c.made) (receives config time piece) kept (λ c. receives_stays config time piece c kept)
+follows_stays config time (gave line piece) kept =
+    line_stays line (λ c. c.made) (receives config time piece) kept (λ c. receives_stays config time piece c kept)
 follows_stays config time (ended line) kept = line_stays line (λ c. true) (ends time) kept (λ c. refl)
 follows_stays config time (taken line from) kept = refl
 follows_stays config time nothing kept = refl
@@ -88,7 +94,11 @@ dials_stays config line time address kept = by kept.connection
     due sending peer false = refl
 
     for_peer : Sending → Option Peer → Outcome
-    for_peer sending found = elim found [ None ↦ rests kept | Some peer ↦ if is_due time kept then begins_one line time address peer sending kept else rests kept ]
+    for_peer sending found = elim found [
+      | None ↦ rests kept
+      | Some peer ↦ if is_due time kept then begins_one line time address peer sending kept
+          else rests kept
+    ]
 
     of_peer : (sending : Sending) (found : Option Peer) → Stays kept (for_peer sending found)
     of_peer sending None = refl

@@ -1,5 +1,9 @@
 -- An announcing end that the other end stayed open for named an identifier other than 0.0.0.0.
-use Rattle.cmd_wire.proofs.{Words.{Arrives, CanArrive, Desked, Found, IsUnnamed, Last, Names, Peer, Pieces, Sending, at_start, bounded, bounded_from, bounded_session, closed, is_lowest, octets_in, peer_of, sender_of, sending_stage, session_from, still, ◌≡◌, ℕ, zero, suc, ◌<◌, List, [], Option, None, Some, refl, ap, sym, ◌∙◌, arith, Config, Update, HasPeerNumbers, accepts_numbers, found_each, closed_still, sender_told}, Accepted.{accepted_files, arrivable}}
+use Rattle.cmd_wire.proofs.Words.{Arrives, CanArrive, Desked, Found, IsUnnamed, Last, Names, Peer, Pieces, Sending, at_start, bounded, bounded_from}
+use Rattle.cmd_wire.proofs.Words.{bounded_session, closed, is_lowest, octets_in, peer_of, sender_of, sending_stage, session_from, still, ◌≡◌, ℕ, zero}
+use Rattle.cmd_wire.proofs.Words.{suc, ◌<◌, List, [], Option, None, Some, refl, ap, sym, ◌∙◌, arith, Config, Update, HasPeerNumbers, accepts_numbers}
+use Rattle.cmd_wire.proofs.Words.{found_each, closed_still, sender_told}
+use Rattle.cmd_wire.proofs.Accepted.{accepted_files, arrivable}
 use Rattle.fs_speaker.{specs.declared.Closed.TheVariants.{Fault}, proofs.Unnamed.{refused}}
 
 -- a limit of routes leaves a session without updates as it is
@@ -37,5 +41,6 @@ arrived limit holds config rules accepted sending peer found low desk heard told
         let files = accepted_files limit holds config rules accepted sending found in
         let numbers = accepts_numbers files.text accepted files.config_is in
         let own = found_each HasPeerNumbers (is_lowest accepted.peers) accepted.peers peer numbers.peers low in
-        absurd (unnamed_closes accepted peer sending desk limit heard told announced replied (sender_told accepted.peers peer low) config_is a (record { asn = own.asn; hold_time = numbers.own.hold_time; unnamed = e }))
+        absurd (unnamed_closes accepted peer sending desk limit heard told announced replied (sender_told accepted.peers peer low) config_is a
+        (record { asn = own.asn; hold_time = numbers.own.hold_time; unnamed = e }))
     by (suc n) e = omega (arith, e)

@@ -1,5 +1,12 @@
 -- What the clauses of runs of `announce` and `pair` say follows from what they do.
-use Rattle.cmd_wire.proofs.{Words.{AtLimit, Done, Ended, Ending, EndsBefore, Found, Happened, Last, Limit, Machine, MetLimit, Names, Outside, Peer, Phase, Refusal, Sending, Stage, Stopped, WireEnds, and_then, at_start, closed, config_stage, fetch, is_established, moments_in, needs_of, octets_in, or_stop, rules_stage, sending_stage, still, ◌≡◌, inl, inr, ◌<◌, ◌≤◌, ◌∙◌, ℕ, ◌+◌, List, [], ◌++◌, length, nat_le, Bool, true, false, if◌then◌else◌, Option, Some, None, append-nil, append_assoc, arith, refl, ap, sym, subst, length-append, true≢false, Config, Closed, announcer, opened_by, ClosesSo, config_of, rules_of, Rejected, Announces, Speaks, Conversation, AnnouncePromises, IsServed, Announced, Carries, Joins, CanBeCarried, PairPromises}, Carrying.{carried_done}, Concluding.{IsOfFiles, promises, told_at}}
+use Rattle.cmd_wire.proofs.Words.{AtLimit, Done, Ended, Ending, EndsBefore, Found, Happened, Last, Limit, Machine, MetLimit, Names, Outside, Peer}
+use Rattle.cmd_wire.proofs.Words.{Phase, Refusal, Sending, Stage, Stopped, WireEnds, and_then, at_start, closed, config_stage, fetch, is_established}
+use Rattle.cmd_wire.proofs.Words.{moments_in, needs_of, octets_in, or_stop, rules_stage, sending_stage, still, ◌≡◌, inl, inr, ◌<◌, ◌≤◌, ◌∙◌, ℕ, ◌+◌}
+use Rattle.cmd_wire.proofs.Words.{List, [], ◌++◌, length, nat_le, Bool, true, false, if◌then◌else◌, Option, Some, None, append-nil, append_assoc}
+use Rattle.cmd_wire.proofs.Words.{arith, refl, ap, sym, subst, length-append, true≢false, Config, Closed, announcer, opened_by, ClosesSo, config_of}
+use Rattle.cmd_wire.proofs.Words.{rules_of, Rejected, Announces, Speaks, Conversation, AnnouncePromises, IsServed, Announced, Carries, Joins}
+use Rattle.cmd_wire.proofs.Words.{CanBeCarried, PairPromises}
+use Rattle.cmd_wire.proofs.{Carrying.{carried_done}, Concluding.{IsOfFiles, promises, told_at}}
 use Rattle.fs_peering.specs.{declared.tell.Ending.TheVariants.{Closed as HasClosed}, Teller.{HasExpired}}
 
 same_stop : {A : Type 0} (one other : Refusal) → ◌≡◌ {A = Stage A} (Stopped one) (Stopped other) → other ≡ one
@@ -28,7 +35,8 @@ config_stops limit holds name refusal e =
     then_stops (fetch limit holds name) (λ octets. or_stop Rejected (config_of octets)) refusal e (fetch_stops limit holds name)
     (λ octets h. inr (inr (or_stops Rejected (config_of octets) refusal h)))
 
-rules_stop : (config : Config) (limit : ℕ) (holds : Names) (name : List ℕ) (refusal : Refusal) → rules_stage config limit holds name ≡ Stopped refusal → IsOfFiles refusal
+rules_stop : (config : Config) (limit : ℕ) (holds : Names) (name : List ℕ) (refusal : Refusal) → rules_stage config limit holds name ≡ Stopped refusal
+    → IsOfFiles refusal
 rules_stop config limit holds name refusal e =
     then_stops (fetch limit holds name) (λ octets. or_stop Rejected (rules_of config octets)) refusal e (fetch_stops limit holds name)
     (λ octets h. inr (inr (or_stops Rejected (rules_of config octets) refusal h)))
@@ -39,7 +47,8 @@ with_config accepted sending = Found (accepted, sending)
 never_found : (accepted : Config) (sending : Sending) (refusal : Refusal) → with_config accepted sending ≡ Stopped refusal → IsOfFiles refusal
 never_found accepted sending refusal e = absurd cc
 
-pub files_stop : (limit : ℕ) (holds : Names) (config rules : List ℕ) (refusal : Refusal) → sending_stage limit holds config rules ≡ Stopped refusal → IsOfFiles refusal
+pub files_stop : (limit : ℕ) (holds : Names) (config rules : List ℕ) (refusal : Refusal) → sending_stage limit holds config rules ≡ Stopped refusal
+    → IsOfFiles refusal
 files_stop limit holds config rules refusal e =
     then_stops (config_stage limit holds config) (λ accepted. and_then (rules_stage accepted limit holds rules) (with_config accepted)) refusal e
     (config_stops limit holds config)
@@ -82,18 +91,21 @@ module _ (config : Config) (peer : Peer) (sending : Sending) (limit : ℕ) (give
       at : ClosesSo machine (moments_in s.tells.heard) (octets_in s.tells.heard) why → ⊥
       at (inl c) = never_both why phase behind (sym (c now.second.left) ∙ ap (opened_by machine at_start) (sym s.tells.read) ∙ opens)
       at (inr x) = timely (subst (HasExpired machine given) (sym s.tells.read)
-          (expired_more machine given (octets_in s.tells.heard) now.second.left (subst (λ (moments : List ℕ). HasExpired machine moments (octets_in s.tells.heard)) s.tells.asked x.1)))
+          (expired_more machine given (octets_in s.tells.heard) now.second.left
+          (subst (λ (moments : List ℕ). HasExpired machine moments (octets_in s.tells.heard)) s.tells.asked x.1)))
   only_done_so Ended s = absurd (at s.tells.ends.0)
     where
       at : EndsBefore machine limit (octets_in s.tells.heard) now.second.left → ⊥
       at e =
-          let all : before.second.to_receive ≡ (octets_in s.tells.heard) = s.tells.read ∙ ap (λ (z : List ℕ). (octets_in s.tells.heard) ++ z) e.none ∙ append-nil (octets_in s.tells.heard) in
+          let all : before.second.to_receive ≡ (octets_in s.tells.heard) = s.tells.read ∙ ap (λ (z : List ℕ). (octets_in s.tells.heard) ++ z) e.none
+          ∙ append-nil (octets_in s.tells.heard) in
           let same : phase ≡ e.phase = same_phase phase e.phase behind [] (sym opens ∙ ap (opened_by machine at_start) all ∙ e.found) in
           true≢false (sym (subst (λ (p : Phase). is_established p.state ≡ true) same up) ∙ e.down)
   only_done_so AtLimit s = absurd (at s.tells.ends.0)
     where
       at : MetLimit machine limit (octets_in s.tells.heard) → ⊥
-      at m = too_many limit (length m.behind) (length (octets_in s.tells.heard)) (length before.second.to_receive) (length now.second.left) m.met (ap (λ (z : List ℕ). length z) s.tells.read ∙ length-append (octets_in s.tells.heard) now.second.left) within
+      at m = too_many limit (length m.behind) (length (octets_in s.tells.heard)) (length before.second.to_receive) (length now.second.left) m.met
+          (ap (λ (z : List ℕ). length z) s.tells.read ∙ length-append (octets_in s.tells.heard) now.second.left) within
 
 module _ (limit : ℕ) (holds : Names) (config rules : List ℕ) (call : Happened) (talk : Conversation) (answer : ℕ) where
   pub announce_promises : Announces limit holds config rules call talk answer → AnnouncePromises limit holds config rules call talk answer

@@ -1,12 +1,20 @@
 -- What a recorder did, event by event.
-use Rattle.cmd_wire.proofs.{Words.{◌≡◌, ◌∙◌, ◌<◌, ◌≤◌, ◌+◌, inl, ℕ, List, [], ◌∷◌, ◌++◌, Option, Some, None, Result, Ok, Err, length, length-append, append_assoc, arith, ap, refl, sym, subst, inr, Grew, Grew-trans, Config}, Folding.{recorded_more, stands_more, timed_at, turns_at, turns_more}}
+use Rattle.cmd_wire.proofs.Words.{◌≡◌, ◌∙◌, ◌<◌, ◌≤◌, ◌+◌, inl, ℕ, List, [], ◌∷◌, ◌++◌, Option, Some, None, Result, Ok, Err, length, length-append}
+use Rattle.cmd_wire.proofs.Words.{append_assoc, arith, ap, refl, sym, subst, inr, Grew, Grew-trans, Config}
+use Rattle.cmd_wire.proofs.Folding.{recorded_more, stands_more, timed_at, turns_at, turns_more}
 use Rattle.std.{specs.Prelude.{OnErr, OnOk, flat_map, max, take, ◌^◌, ◌-◌}, proofs.{lemmas.Grind.{flat_map-append}, Math.Seq.{take-append_seam}}}
 use Rattle.fs_base.{specs.{Gate.{Turn, What, came}, Language.{IsOctets}}, proofs.Grew.{Grew-refl}}
 use Rattle.fs_input.specs.Parts.{AllFrom}
-use Rattle.fs_tape.{proofs.ReadsBack.{reads_back}, specs.{Laws.{Fits, after, item_text, tape_text}, Magic.{magic_of}, Tape.{Timed, stands}, declared.magic.Version.TheVariants.{Two}}}
+use Rattle.fs_tape.proofs.ReadsBack.{reads_back}
+use Rattle.fs_tape.specs.{Laws.{Fits, after, item_text, tape_text}, Magic.{magic_of}, Tape.{Timed, stands}, declared.magic.Version.TheVariants.{Two}}
 use Rattle.std.specs.Result.{IsErrAnd}
 use Rattle.fs_recorder.specs.declared.stop.Stop.{Stop, TheVariants.{Failed, Limit as TooLong}}
-use Rattle.fs_recorder.specs.{Books.{Agrees}, Deeds.{AreKnown, Recording, StayKnown, asked_in, items_of, passing, text_at, told_at}, Door.{AtDoor, empty_door}, Steps.{Between, Happening, at_first, behind, door_after, empty_station, hears, recorded, stands_from, step_at, turns_from}, Tapes.{Scribed, begun}, Works.{BreaksAt, BreaksSo, DidHear, DoesStep, Stands}, declared.seats.Seat.{Seat}}
+use Rattle.fs_recorder.specs.Books.{Agrees}
+use Rattle.fs_recorder.specs.Deeds.{AreKnown, Recording, StayKnown, asked_in, items_of, passing, text_at, told_at}
+use Rattle.fs_recorder.specs.Door.{AtDoor, empty_door}
+use Rattle.fs_recorder.specs.Steps.{Between, Happening, at_first, behind, door_after, empty_station, hears, recorded, stands_from, step_at}
+use Rattle.fs_recorder.specs.Steps.{turns_from}
+use Rattle.fs_recorder.specs.{Tapes.{Scribed, begun}, Works.{BreaksAt, BreaksSo, DidHear, DoesStep, Stands}, declared.seats.Seat.{Seat}}
 use Rattle.cmd_wire.specs.Recording.{Breaks, BreaksOne, Continues, Fills, Hears, HearsOne, Records, RecordsAll, StandsAt, TellsAll, begun_text, begun_turns}
 
 -- the clock on the wall says another moment
@@ -36,17 +44,22 @@ module _ (old new : Recording) (moment time : ℕ) (what : What) (small : moment
     known = s.known;
   }
 
-  pub hears_of : DidHear (door_after old.books.desk.config time what old.seats old.door) (hears old.books.desk.config old.door time what) (passing moment old) new t1 t2 w w'
+  pub hears_of : DidHear (door_after old.books.desk.config time what old.seats old.door) (hears old.books.desk.config old.door time what)
+      (passing moment old) new t1 t2 w w'
       → StayKnown (passing moment old) new → HearsOne old new t t2 w w'
   hears_of did stay config between s =
-      let d : DoesStep (door_after old.books.desk.config time what old.seats old.door) (hears old.books.desk.config old.door time what between.station) (passing moment old) new t1 t2 w w' =
+      let d : DoesStep (door_after old.books.desk.config time what old.seats old.door)
+      (hears old.books.desk.config old.door time what between.station) (passing moment old) new t1 t2 w w' =
       did between.station (passed_stands between s.stands) in
       let d : DoesStep (door_after config time what old.seats old.door) (hears config old.door time what between.station) (passing moment old) new t1 t2 w w' =
-      subst (λ (c : Config). DoesStep (door_after c time what old.seats old.door) (hears c old.door time what between.station) (passing moment old) new t1 t2 w w') s.config_is d in
+      subst (λ (c : Config). DoesStep (door_after c time what old.seats old.door) (hears c old.door time what between.station)
+      (passing moment old) new t1 t2 w w') s.config_is d in
       let d : DoesStep (door_after config time what old.seats between.door) (step_at config between event) (passing moment old) new t1 t2 w w' =
-      subst (λ (door : AtDoor). DoesStep (door_after config time what old.seats door) (hears config door time what between.station) (passing moment old) new t1 t2 w w') s.door_is d in
+      subst (λ (door : AtDoor). DoesStep (door_after config time what old.seats door) (hears config door time what between.station)
+      (passing moment old) new t1 t2 w w') s.door_is d in
       let d : DoesStep (behind config between event).door (step_at config between event) (passing moment old) new t1 t2 w w' =
-      subst (λ (seats : List Seat). DoesStep (door_after config time what seats between.door) (step_at config between event) (passing moment old) new t1 t2 w w') s.stands.seats_are d in
+      subst (λ (seats : List Seat). DoesStep (door_after config time what seats between.door) (step_at config between event)
+      (passing moment old) new t1 t2 w w') s.stands.seats_are d in
       let at : max old.books.scribe.moment moment ≡ max between.moment moment = ap (λ (n : ℕ). max n moment) s.moment_is in (
         event,
         record {
@@ -86,7 +99,8 @@ module _ (old new : Recording) (moment time : ℕ) (what : What) (small : moment
         told = b.part.0;
         tape = subst (λ (n : ℕ). Grew w w' (take b.part.0 (text_at n (items_of (step_at config between event).deeds)))) at b.part.1;
         full = λ limited.
-            subst (λ (n : ℕ). old.books.scribe.limit ≤ old.books.scribe.written + length (text_at n (items_of (step_at config between event).deeds))) at (b.full limited);
+            subst (λ (n : ℕ). old.books.scribe.limit ≤ old.books.scribe.written + length (text_at n (items_of (step_at config between event).deeds)))
+            at (b.full limited);
       }
 
 -- no event came
@@ -106,7 +120,8 @@ pub record Heard (count limit : ℕ) (config : Config) (recording : Recording) (
 
 pub heard_none : (config : Config) (recording : Recording) (turns : Option (List Turn)) (written : Option (List ℕ)) → StandsAt config at_first recording
     → Agrees config [] recording.books → Heard 0 recording.books.scribe.limit config recording turns turns written written
-heard_none config recording turns written s a = record { events = []; count_is = refl; limit_is = refl; stands = s; agrees = a; gate = Grew-refl turns; tape = Grew-refl written }
+heard_none config recording turns written s a =
+    record { events = []; count_is = refl; limit_is = refl; stands = s; agrees = a; gate = Grew-refl turns; tape = Grew-refl written }
 
 pub heard_more : (count limit : ℕ) (config : Config) (old new : Recording) (t t1 t2 : Option (List Turn)) (w w1 w2 : Option (List ℕ))
     → Heard count limit config old t t1 w w1 → HearsOne old new t1 t2 w1 w2 → Heard (count + 1) limit config new t t2 w w2
@@ -165,7 +180,8 @@ told_all config items fit limit are =
     )
 
 -- behind the magic
-pub records_of : {L : Type 0} → (limit : ℕ) (config : Config) (t t' : Option (List Turn)) (w w1 w2 : Option (List ℕ)) → Grew w w1 (magic_of Two) → Continues L limit config t t' w1 w2
+pub records_of : {L : Type 0} → (limit : ℕ) (config : Config) (t t' : Option (List Turn)) (w w1 w2 : Option (List ℕ)) → Grew w w1 (magic_of Two)
+    → Continues L limit config t t' w1 w2
     → Records config t t' w w2
 records_of {L} limit config t t' w w1 w2 magic c =
     let now : Between = stands_from config at_first c.earlier in
@@ -212,14 +228,16 @@ begins_at config recording limit config_is scribe_is seats_are stands door_is = 
 }
 
 -- what follows the magic, of the configuration with which it began
-pub recorded_behind : {L : Type 0} → (limit : ℕ) (config : Config) (recording : Recording) (t t' : Option (List Turn)) (w w1 w2 : Option (List ℕ)) → recording.books.desk.config ≡ config
+pub recorded_behind : {L : Type 0} → (limit : ℕ) (config : Config) (recording : Recording) (t t' : Option (List Turn)) (w w1 w2 : Option (List ℕ))
+    → recording.books.desk.config ≡ config
     → Grew w w1 (magic_of Two) → Continues L limit recording.books.desk.config t t' w1 w2 → RecordsAll config t t' w w2
 recorded_behind {L} limit config recording t t' w w1 w2 is magic c =
     inr (records_of limit config t t' w w1 w2 magic (subst (λ (c : Config). Continues L limit c t t' w1 w2) is c))
 
 -- and where the limit was named, it was met
 pub filled_behind : {L : Type 0} → (limit : ℕ) (config : Config) (recording : Recording) (t t' : Option (List Turn)) (w1 w2 : Option (List ℕ))
-    → recording.books.desk.config ≡ config → recording.books.scribe ≡ begun limit → Continues L recording.books.scribe.limit recording.books.desk.config t t' w1 w2
+    → recording.books.desk.config ≡ config → recording.books.scribe ≡ begun limit
+    → Continues L recording.books.scribe.limit recording.books.desk.config t t' w1 w2
     → L → Fills limit config t t'
 filled_behind {L} limit config recording t t' w1 w2 is begins c limited =
     let all : Continues L limit config t t' w1 w2 =

@@ -1,5 +1,8 @@
 -- Why `record` ends, and what it did until then.
-use Rattle.cmd_wire.proofs.{Words.{◌≡◌, ◌≢◌, ◌⊎◌, ◌≤◌, ◌∙◌, ℕ, List, [], Option, refl, sym, ap, subst, inl, inr, Grew, Grew-trans, Rose, rose_earlier, Happened, Config, Names, Found, HasReason, config_stage, status_of, Result, IsErrAnd, answered, answered_err, Refusal, Capture, Dump, Limit, Memory, Outside, Rejected, Session, Tape}, Statuses.{same_found}}
+use Rattle.cmd_wire.proofs.Words.{◌≡◌, ◌≢◌, ◌⊎◌, ◌≤◌, ◌∙◌, ℕ, List, [], Option, refl, sym, ap, subst, inl, inr, Grew, Grew-trans, Rose, rose_earlier}
+use Rattle.cmd_wire.proofs.Words.{Happened, Config, Names, Found, HasReason, config_stage, status_of, Result, IsErrAnd, answered, answered_err}
+use Rattle.cmd_wire.proofs.Words.{Refusal, Capture, Dump, Limit, Memory, Outside, Rejected, Session, Tape}
+use Rattle.cmd_wire.proofs.Statuses.{same_found}
 use Rattle.fs_base.{specs.{Gate.{Turn}, Happened.{FilesFailed}, Sink.{GrewPart}}, proofs.Grew.{Grew-refl, part_none}}
 use Rattle.fs_tape.specs.{Magic.{magic_of}, declared.magic.Version.TheVariants.{Two}}
 use Rattle.fs_recorder.specs.declared.stop.Stop.{Stop, TheVariants.{Failed, Memory as NoMemory, Limit as TooLong}}
@@ -57,7 +60,8 @@ pub magic_broken : (config : Config) (t : Option (List Turn)) (w w' : Option (Li
 magic_broken config t w w' part = inl (record { gate = Grew-refl t; tape = part })
 
 -- behind the opening of the gate, which tells nothing
-pub opened_first : (config : Config) (t t1 t2 : Option (List Turn)) (w w' : Option (List ℕ)) → Grew t t1 [] → RecordsAll config t1 t2 w w' → RecordsAll config t t2 w w'
+pub opened_first : (config : Config) (t t1 t2 : Option (List Turn)) (w w' : Option (List ℕ)) → Grew t t1 [] → RecordsAll config t1 t2 w w'
+    → RecordsAll config t t2 w w'
 opened_first config t t1 t2 w w' opened (inl u) = inl (record { gate = Grew-trans t t1 t2 [] [] opened u.gate; tape = u.tape })
 opened_first config t t1 t2 w w' opened (inr r) = inr (record {
   earlier = r.earlier;
@@ -79,7 +83,8 @@ opened_full limit config t t1 t2 opened f = record {
 }
 
 -- of the configuration that was accepted
-pub records_so : (limit : ℕ) (holds : Names) (config : List ℕ) (accepted : Config) (call : Happened) (gate : AtGate) → config_stage limit holds config ≡ Found accepted
+pub records_so : (limit : ℕ) (holds : Names) (config : List ℕ) (accepted : Config) (call : Happened) (gate : AtGate)
+    → config_stage limit holds config ≡ Found accepted
     → RecordsAll accepted gate.turns gate.turns_now call.before.written call.now.written → RecordsSo limit holds config call gate
 records_so limit holds config accepted call gate found all other same =
     subst (λ (c : Config). RecordsAll c gate.turns gate.turns_now call.before.written call.now.written) (same_found (sym found ∙ same)) all
@@ -87,7 +92,8 @@ records_so limit holds config accepted call gate found all other same =
 -- what is said of a refusal that a `?` hands on
 
 pub ends_unread : {T : Type 0} (limit : ℕ) (holds : Names) (config : List ℕ) (call : Happened) (gate : AtGate) (r : Result T Refusal) (refusal : Refusal)
-    → IsErrAnd r (λ e. e ≡ refusal) → HasReason (config_stage limit holds config) (FilesFailed call) refusal → EndsRecording limit holds config call gate (answered r)
+    → IsErrAnd r (λ e. e ≡ refusal) → HasReason (config_stage limit holds config) (FilesFailed call) refusal
+    → EndsRecording limit holds config call gate (answered r)
 ends_unread limit holds config call gate r refusal same reason =
     answered_err (EndsRecording limit holds config call gate) r refusal same
     (ends_config limit holds config call gate (FilesFailed call) refusal reason (λ f. f))

@@ -1,5 +1,6 @@
 -- Which status a run answers, and which it doesn't.
-use Rattle.cmd_wire.proofs.Words.{AtLimit, Done, Ended, Ending, FilesStood, Found, Happened, Refusal, Rose, SinkStood, Stage, Stood, Stopped, WireStood, status_of, ◌≡◌, ◌≢◌, ◌⊎◌, inl, inr, ◌∙◌, ℕ, List, arith, refl, sym, subst, verdict_by, AnyFailed}
+use Rattle.cmd_wire.proofs.Words.{AtLimit, Done, Ended, Ending, FilesStood, Found, Happened, Refusal, Rose, SinkStood, Stage, Stood, Stopped}
+use Rattle.cmd_wire.proofs.Words.{WireStood, status_of, ◌≡◌, ◌≢◌, ◌⊎◌, inl, inr, ◌∙◌, ℕ, List, arith, refl, sym, subst, verdict_by, AnyFailed}
 use Rattle.fs_peering.specs.declared.tell.Ending.TheVariants.{Closed}
 
 -- the status that is due, or want of memory, or a call outside that failed
@@ -50,7 +51,8 @@ early_status stage failed answer By stopped (inl h) = inl (subst By (sym h.1) (s
 early_status stage failed answer By stopped (inr h) = inr h
 
 -- and of one that didn't
-pub late_status : (failed : Type 0) (status answer : ℕ) (By : Type 0) → (answer ≡ status → By) → Caused failed status answer → By ⊎ (answer ≡ 6) ⊎ ((answer ≡ 1) × failed)
+pub late_status : (failed : Type 0) (status answer : ℕ) (By : Type 0) → (answer ≡ status → By) → Caused failed status answer
+    → By ⊎ (answer ≡ 6) ⊎ ((answer ≡ 1) × failed)
 late_status failed status answer By due (inl h) = inl (due h)
 late_status failed status answer By due (inr h) = inr h
 
@@ -64,7 +66,8 @@ none_failed call f s w (inl r) = not_rose call.before.file_faults call.now.file_
 none_failed call f s w (inr (inl r)) = not_rose call.before.sink_faults call.now.sink_faults s r
 none_failed call f s w (inr (inr r)) = not_rose call.before.wire_faults call.now.wire_faults w r
 
-pub served_early : {A : Type 0} (stage : Stage A) (a : A) (failed : Type 0) (answer : ℕ) → stage ≡ Found a → (failed → ⊥) → Early stage failed answer → (answer ≡ 0) ⊎ (answer ≡ 6)
+pub served_early : {A : Type 0} (stage : Stage A) (a : A) (failed : Type 0) (answer : ℕ) → stage ≡ Found a → (failed → ⊥) → Early stage failed answer
+    → (answer ≡ 0) ⊎ (answer ≡ 6)
 served_early stage a failed answer found never (inl h) = absurd (never_stopped a h.0 (sym found ∙ h.1))
 served_early stage a failed answer found never (inr (inl h)) = inr h
 served_early stage a failed answer found never (inr (inr h)) = absurd (never h.1)

@@ -1,8 +1,10 @@
 -- What `announce` answers, writes, and says to the other end.
 use Rattle.std.specs.Prelude.{◌≡◌, ◌≢◌, ◌⊎◌, ℕ, ◌+◌, List, length, nat_le, if◌then◌else◌, Some}
 use Rattle.fs_base.specs.{Happened.{Happened}, Sink.{Grew}, Wire.{Told, WireEnds, opened_end}, declared.config.{Config.{Config}, Peer.{Peer}}}
-use Rattle.fs_speaker.specs.{declared.{Sending.{Sending}, Closed.TheVariants.{Fault}}, Announcer.{is_established}, Sending.{needs_of, sender_of}, Session.{Last, at_start, closed, still}, Side.{announcer}, Transition.{Machine}}
-use Rattle.fs_peering.specs.{declared.tell.Ending.{Ending, TheVariants.{Done, Closed as HasClosed, Ended, AtLimit}}, Opening.{opened_by}, Tell.{Tells}, Teller.{HasExpired}, Round.{octets_in}}
+use Rattle.fs_speaker.specs.{declared.{Sending.{Sending}, Closed.TheVariants.{Fault}}, Announcer.{is_established}, Sending.{needs_of, sender_of}}
+use Rattle.fs_speaker.specs.{Session.{Last, at_start, closed, still}, Side.{announcer}, Transition.{Machine}}
+use Rattle.fs_peering.specs.declared.tell.Ending.{Ending, TheVariants.{Done, Closed as HasClosed, Ended, AtLimit}}
+use Rattle.fs_peering.specs.{Opening.{opened_by}, Tell.{Tells}, Teller.{HasExpired}, Round.{octets_in}}
 use Rattle.cmd_stages.specs.{Load.{Names, sending_stage}, Refusal.{Verdict}, declared.refusal.Refusal.{Refusal, TheVariants.{Outside, Memory}}}
 use Rattle.cmd_wire.specs.{Concluded.{Concludes}, Conversation.{Conversation}, Lines.{sent_line}, Listed.{verdict_by}}
 

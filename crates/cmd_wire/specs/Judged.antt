@@ -1,7 +1,8 @@
 -- What a rules file changes that is read again and again.
 use Rattle.std.specs.Prelude.{ℕ, List, codes, Option, Some, None, ◌≡◌, ◌≢◌, string_bytes, true, ⊤}
 use Rattle.fs_base.specs.{Gate.{Content, absent, too_long, unread, whole}, declared.config.Config.{Config}}
-use Rattle.fs_conf.specs.{RuleFault.{IsFirstRulesFault, rules_fault_text}, Rules.{are_single, rules_of}, declared.fault.RulesFault.{RulesFault, TheVariants.{Memory as NoMemory}}}
+use Rattle.fs_conf.specs.{RuleFault.{IsFirstRulesFault, rules_fault_text}, Rules.{are_single, rules_of}}
+use Rattle.fs_conf.specs.declared.fault.RulesFault.{RulesFault, TheVariants.{Memory as NoMemory}}
 use Rattle.fs_speaker.specs.{Announcer.{CanSend}, Sending.{sender_of}, declared.Sending.{Sending}}
 use Rattle.cmd_wire.specs.{Shelf.{Shelf}, declared.judged.Judged.{Judged as Verdict, TheVariants.{Accepted, Refused}}}
 

@@ -1,11 +1,19 @@
 -- What `keep` answers, what it asks of its gate, and what it writes.
-use Rattle.std.specs.{Prelude.{ℕ, List, [], ◌∷◌, ◌++◌, ◌==◌, Bool, true, false, Option, Some, None, IfSome, ◌≡◌, ◌⊎◌, ◌&&◌, ◌||◌, ◌+◌, ◌-◌, ◌^◌, ◌<◌, if◌then◌else◌, is_some, length, max, nat_le, not, option_and_then, take, ⊤}, Option.{option_or}}
-use Rattle.fs_base.specs.{Gate.{Content, Turn, What, absent, came, ended, gave, made, nothing, read, taken, too_long, unread, whole}, Happened.{Happened}, Sink.{Grew}, declared.{config.{Config.{Config}, Peer.{Peer}}, Came.{Came, TheVariants.{Taken, Made, Octets, Ended as HasEnded, Nothing}}, Found.{Found as HasFound, TheVariants.{Whole, Absent, Failed as Unread, TooLong as Long}}}}
+use Rattle.std.specs.Prelude.{ℕ, List, [], ◌∷◌, ◌++◌, ◌==◌, Bool, true, false, Option, Some, None, IfSome, ◌≡◌, ◌⊎◌, ◌&&◌, ◌||◌, ◌+◌, ◌-◌, ◌^◌, ◌<◌}
+use Rattle.std.specs.Prelude.{if◌then◌else◌, is_some, length, max, nat_le, not, option_and_then, take, ⊤}
+use Rattle.std.specs.Option.{option_or}
+use Rattle.fs_base.specs.Gate.{Content, Turn, What, absent, came, ended, gave, made, nothing, read, taken, too_long, unread, whole}
+use Rattle.fs_base.specs.{Happened.{Happened}, Sink.{Grew}}
+use Rattle.fs_base.specs.declared.config.{Config.{Config}, Peer.{Peer}}
+use Rattle.fs_base.specs.declared.Came.{Came, TheVariants.{Taken, Made, Octets, Ended as HasEnded, Nothing}}
+use Rattle.fs_base.specs.declared.Found.{Found as HasFound, TheVariants.{Whole, Absent, Failed as Unread, TooLong as Long}}
 use Rattle.fs_conf.specs.{Config.{config_of}, Rules.{rules_of}}
 use Rattle.fs_speaker.specs.{Sending.{sender_of}, declared.Sending.{Sending}}
-use Rattle.fs_peering.specs.{Keeper.{Connection, Kept, Outcome, accepts, at_first as keeper_at_first, dials, hears, tells_all}, KeeperLaws.{LeavesExactly}, Keeping.{Keeping, Stands}, declared.keeper.News.{News, TheVariants.{Up}}}
+use Rattle.fs_peering.specs.Keeper.{Connection, Kept, Outcome, accepts, at_first as keeper_at_first, dials, hears, tells_all}
+use Rattle.fs_peering.specs.{KeeperLaws.{LeavesExactly}, Keeping.{Keeping, Stands}, declared.keeper.News.{News, TheVariants.{Up}}}
 use Rattle.cmd_stages.specs.{Load.{Names, config_stage}, Refusal.{Found, Stopped, status_of}, declared.refusal.Refusal.{Refusal}}
-use Rattle.cmd_wire.specs.{Judged.{IsJudged, Judged, accepted, refused}, News.{kept_text, line_of}, Recording.{AtGate, SomeFailed}, Shelf.{Shelf, empty_shelf, is_due, settles, shelved}}
+use Rattle.cmd_wire.specs.{Judged.{IsJudged, Judged, accepted, refused}, News.{kept_text, line_of}, Recording.{AtGate, SomeFailed}}
+use Rattle.cmd_wire.specs.Shelf.{Shelf, empty_shelf, is_due, settles, shelved}
 
 -- What is kept where: by this configuration the rules of the file of this name, at this address; the file and the other end
 -- give fewer octets than the limit.
@@ -444,7 +452,8 @@ pub record Shelves (moment time : ℕ) (content : Content) (old new : Stationed)
   pub right : IfSome judged (IsJudged old.order.config content)
   pub took : TookSo (shelves old.order (reread_of moment time content judged)) old new turns turns' before now
 
-pub record BreaksShelving (moment time : ℕ) (content : Content) (old : Stationed) (turns turns' : Option (List Turn)) (before now : Option (List ℕ)) : Type 0 where
+pub record BreaksShelving (moment time : ℕ) (content : Content) (old : Stationed) (turns turns' : Option (List Turn)) (before now : Option (List ℕ)) :
+    Type 0 where
   pub judged : Option Judged
   pub right : IfSome judged (IsJudged old.order.config content)
   pub breaks : BreaksSo (shelves old.order (reread_of moment time content judged)) old turns turns' before now
@@ -493,7 +502,8 @@ pub record Begins (old new : Stationed) (turns turns' : Option (List Turn)) (bef
   pub took : Took (starts old.order first) old new turns turns' before now
 
 -- What an event calls for was done.
-pub record Follows (time : ℕ) (what : What) (between : Between) (old new : Stationed) (turns turns' : Option (List Turn)) (before now : Option (List ℕ)) : Type 0 where
+pub record Follows (time : ℕ) (what : What) (between : Between) (old new : Stationed) (turns turns' : Option (List Turn))
+    (before now : Option (List ℕ)) : Type 0 where
   pub line : ℕ
   pub reads : Option Reread
   pub due : is_some reads ≡ is_read old.order time what between
@@ -505,7 +515,8 @@ abbrev pub FollowsSo : (time : ℕ) → What → (old new : Stationed) → (turn
 FollowsSo time what old new turns turns' before now =
     (between : Between) → StandsAt between old → Follows time what between old new turns turns' before now
 
-pub record BreaksFollow (time : ℕ) (what : What) (order : Order) (between : Between) (turns turns' : Option (List Turn)) (before now : Option (List ℕ)) : Type 0 where
+pub record BreaksFollow (time : ℕ) (what : What) (order : Order) (between : Between) (turns turns' : Option (List Turn))
+    (before now : Option (List ℕ)) : Type 0 where
   pub line : ℕ
   pub reads : Option Reread
   pub due : IfSome reads (λ reread. is_read order time what between ≡ true)
@@ -536,19 +547,22 @@ HearsSo moment time what old new turns turns' before now =
 
 -- It was broken off at an event; and where the limit was named, the other end has given as many octets with it, and nothing
 -- more was done.
-pub record BreaksEvent (limited : Type 0) (order : Order) (between : Between) (event : Happening) (turns turns' : Option (List Turn)) (before now : Option (List ℕ)) : Type 0 where
+pub record BreaksEvent (limited : Type 0) (order : Order) (between : Between) (event : Happening) (turns turns' : Option (List Turn))
+    (before now : Option (List ℕ)) : Type 0 where
   pub fits : FitsFront order between event
   pub breaks : Breaks (step_at order between event) turns turns' before now
   pub full : limited → (is_over order.limit between.heard (octets_in event.what) ≡ true) × Grew turns turns' []
 
-abbrev pub BreaksHearing : (limited : Type 0) → (moment time : ℕ) → What → Stationed → (turns turns' : Option (List Turn)) → (before now : Option (List ℕ)) → Type 0
+abbrev pub BreaksHearing : (limited : Type 0) → (moment time : ℕ) → What → Stationed → (turns turns' : Option (List Turn))
+    → (before now : Option (List ℕ)) → Type 0
 BreaksHearing limited moment time what old turns turns' before now =
     (between : Between) → StandsAt between old
     → (line : ℕ) × (reads : Option Reread)
     × BreaksEvent limited old.order between (event_of moment time what line reads) turns turns' before now
 
 -- the same of an event that the gate told
-pub record HearsNext (between : Between) (event : Happening) (old new : Stationed) (turns turns' : Option (List Turn)) (before now : Option (List ℕ)) : Type 0 where
+pub record HearsNext (between : Between) (event : Happening) (old new : Stationed) (turns turns' : Option (List Turn))
+    (before now : Option (List ℕ)) : Type 0 where
   pub fits : Fits old.order between event
   pub gate : Grew turns turns' (turns_at old.order between event)
   pub lines : Grew before now (step_at old.order between event).text

@@ -1,10 +1,13 @@
 -- What `listen` answers, writes, and says to the other end.
 use Rattle.std.specs.Prelude.{◌≡◌, ◌⊎◌, ℕ, List, [], ◌∷◌, ◌++◌, length, nat_le, if◌then◌else◌, Some, None}
 use Rattle.fs_base.specs.{Happened.{Happened}, Sink.{Grew}, Wire.{Told, WireEnds, opened_end}, declared.config.{Config.{Config}, Peer.{Peer}}}
-use Rattle.fs_speaker.specs.{declared.Closed.TheVariants.{Fault}, Announcer.{is_established}, Sending.{sender_of}, Session.{Last, closed, still}, Times.{at_moment, tick_at}}
+use Rattle.fs_speaker.specs.{declared.Closed.TheVariants.{Fault}, Announcer.{is_established}, Sending.{sender_of}, Session.{Last, closed, still}}
+use Rattle.fs_speaker.specs.Times.{at_moment, tick_at}
 use Rattle.fs_session.specs.declared.times.Tick.TheVariants.{Expires}
 use Rattle.fs_desk.specs.{Desk.{Desked}, Limit.{bounded_from}}
-use Rattle.fs_peering.specs.{Round.{Pieces, octets_in}, declared.tell.Ending.{Ending, TheVariants.{Done, Closed as HasClosed, Ended, AtLimit}}, Hearer.{Receives, tape_of, course_of}, Listen.{Listens}}
+use Rattle.fs_peering.specs.Round.{Pieces, octets_in}
+use Rattle.fs_peering.specs.declared.tell.Ending.{Ending, TheVariants.{Done, Closed as HasClosed, Ended, AtLimit}}
+use Rattle.fs_peering.specs.{Hearer.{Receives, tape_of, course_of}, Listen.{Listens}}
 use Rattle.cmd_stages.specs.{Load.{Names, config_stage}, Refusal.{Found, Stage, and_then, or_stop}, declared.refusal.Refusal.TheVariants.{Rejected}}
 use Rattle.cmd_wire.specs.{Concluded.{Concludes}, Conversation.{Conversation}, Listed.{IsListing}}
 

@@ -3,7 +3,8 @@ use Rattle.std.specs.Prelude.{◌≡◌, ℕ, List, [], Bool, false, true, Some}
 use Rattle.fs_base.specs.{Happened.{Happened}, Config.{peer_of}, Sink.{Grew}, Wire.{Told, WireEnds, joined_end}, declared.config.{Config.{Config}, Peer.{Peer}}}
 use Rattle.fs_speaker.specs.{Announcer.{Announcing}, JointLaws.{CanArrive}, Line.{Lined}, Sending.{sender_of}, declared.Sending.{Sending}}
 use Rattle.fs_desk.specs.Desk.{Desked, standing_at_desk}
-use Rattle.fs_peering.specs.{declared.tell.Ending.{Ending, TheVariants.{Done}}, Tell.{begins_with}, Teller.{is_over}, Hearer.{Receives, is_ended, tape_of}, Pair.{Pairs}}
+use Rattle.fs_peering.specs.{declared.tell.Ending.{Ending, TheVariants.{Done}}, Tell.{begins_with}, Teller.{is_over}}
+use Rattle.fs_peering.specs.{Hearer.{Receives, is_ended, tape_of}, Pair.{Pairs}}
 use Rattle.cmd_stages.specs.Load.{Names, sending_stage}
 use Rattle.cmd_wire.specs.{Concluded.{Concludes}, Conversation.{Conversation}, Listed.{IsListing}}
 

@@ -6,7 +6,8 @@ use Rattle.fs_speaker.specs.{Announcer.{is_established}, Sending.{needs_of, send
 use Rattle.fs_desk.specs.Limit.{bounded_from}
 use Rattle.fs_peering.specs.{Opening.{opened_by}, Pair.{IsTimely, MayHold}, Round.{Pieces, moments_in, octets_in}, Teller.{HasExpired}}
 use Rattle.cmd_stages.specs.Load.{Names, sending_stage}
-use Rattle.cmd_wire.specs.{Announcing.{Announced}, Concluded.{IsSetUp, SessionPromises}, Conversation.{Conversation}, Listening.{HasExpired as HasPassed, Heard, hearing_stage}, Pairing.{Carries}}
+use Rattle.cmd_wire.specs.{Announcing.{Announced}, Concluded.{IsSetUp, SessionPromises}, Conversation.{Conversation}}
+use Rattle.cmd_wire.specs.{Listening.{HasExpired as HasPassed, Heard, hearing_stage}, Pairing.{Carries}}
 
 -- The files are accepted, and what the other end is to give establishes the session, closes it nowhere, and has fewer
 -- octets than the limit; and no hold time on which it agrees passes between the clock's answers.

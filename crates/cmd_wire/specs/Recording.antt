@@ -1,11 +1,17 @@
 -- What `record` answers, what it asks of its gate, and what it writes.
 use Rattle.std.specs.Prelude.{ℕ, List, [], ◌∷◌, ◌++◌, Option, Some, None, ◌≡◌, ◌⊎◌, ◌↔◌, ◌<◌, ◌≤◌, ◌+◌, ◌-◌, ◌^◌, flat_map, length, take, max}
-use Rattle.fs_base.specs.{Gate.{Turn, came, what_from}, Happened.{Happened, FilesFailed, SinkFailed}, Language.{IsOctets}, Outside.{Rose}, Sink.{Grew, GrewPart}, declared.config.Config.{Config}, declared.Event.{Event}}
+use Rattle.fs_base.specs.{Gate.{Turn, came, what_from}, Happened.{Happened, FilesFailed, SinkFailed}, Language.{IsOctets}, Outside.{Rose}}
+use Rattle.fs_base.specs.{Sink.{Grew, GrewPart}, declared.config.Config.{Config}, declared.Event.{Event}}
 use Rattle.fs_base.specs.declared.Gate as gate
 use Rattle.fs_input.specs.{Parts.{AllFrom}, Records.{done}}
 use Rattle.fs_tape.specs.{Laws.{Fits, after, item_text, tape_text}, Magic.{magic_of}, Tape.{Timed, stands, tape_of}, declared.magic.Version.TheVariants.{Two}}
-use Rattle.fs_recorder.specs.{Books.{Agrees}, Deeds.{AreKnown, Recording, asked_in, items_of, text_at, told_at}, Steps.{Between, Happening, at_first, behind, recorded, stands_from, step_at, turns_from}, Tapes.{Scribed}, Works.{Stands}, declared.stop.Stop.{Stop, TheVariants.{Failed, Memory as NoMemory, Limit as TooLong}}}
-use Rattle.cmd_stages.specs.{Load.{Names, config_stage}, Refusal.{Found, Stopped, status_of}, declared.refusal.Refusal.{Refusal, TheVariants.{Outside, Memory, Limit}}}
+use Rattle.fs_recorder.specs.Books.{Agrees}
+use Rattle.fs_recorder.specs.Deeds.{AreKnown, Recording, asked_in, items_of, text_at, told_at}
+use Rattle.fs_recorder.specs.Steps.{Between, Happening, at_first, behind, recorded, stands_from, step_at, turns_from}
+use Rattle.fs_recorder.specs.{Tapes.{Scribed}, Works.{Stands}}
+use Rattle.fs_recorder.specs.declared.stop.Stop.{Stop, TheVariants.{Failed, Memory as NoMemory, Limit as TooLong}}
+use Rattle.cmd_stages.specs.{Load.{Names, config_stage}, Refusal.{Found, Stopped, status_of}}
+use Rattle.cmd_stages.specs.declared.refusal.Refusal.{Refusal, TheVariants.{Outside, Memory, Limit}}
 
 -- What a gate tells before a call and behind it. Clauses take it as one argument.
 pub record AtGate : Type 0 where
@@ -136,7 +142,8 @@ BehindTurn turn now P = (before : Option (List Turn)) → Grew before now (turn 
 
 -- It was broken off at an event, or before one came; and where the limit was named, the records of the event would make the
 -- tape as long as it.
-pub record Breaks (limited : Type 0) (config : Config) (between : Between) (scribe : Scribed) (turns turns' : Option (List Turn)) (before now : Option (List ℕ)) : Type 0 where
+pub record Breaks (limited : Type 0) (config : Config) (between : Between) (scribe : Scribed) (turns turns' : Option (List Turn))
+    (before now : Option (List ℕ)) : Type 0 where
   pub last : Option Happening
   pub asked : ℕ
   pub gate : Grew turns turns' (begun_turns config between last asked)

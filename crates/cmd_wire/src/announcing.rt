@@ -3,7 +3,8 @@
 ghost use Rattle.std.specs.Prelude.{◌≡◌, ◌≤◌, ◌⊎◌, IfErr, IfOk, IsTrue};
 ghost use Rattle.fs_base.specs.{Happened.{happened, with_wire}, Outside.{Rose}, Sink.{Grew}};
 ghost use Rattle.fs_speaker.specs.{Announcer.{CanSend}, Sending.{sender_of}};
-ghost use Rattle.cmd_stages.specs.{Load.{OpensFront, config_then, sending_stage}, Refusal.{IsOfFile, Reaches, Stopped, answered}, declared.refusal.Refusal.{Refusal as Cause}};
+ghost use Rattle.cmd_stages.specs.{Load.{OpensFront, config_then, sending_stage}, Refusal.{IsOfFile, Reaches, Stopped, answered}};
+ghost use Rattle.cmd_stages.specs.declared.refusal.Refusal.{Refusal as Cause};
 ghost use Rattle.cmd_wire.specs.{Announcing.{Announces, Connected, IsBrokenOff, IsOfSession}, Conversation.{conversation}};
 
 use crate::tell::tell_ending;

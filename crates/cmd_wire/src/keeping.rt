@@ -5,7 +5,12 @@ ghost use Rattle.fs_base.specs.{Gate.{FitsIn, content_from, what_from}, Happened
 ghost use Rattle.fs_peering.specs.Keeper.{accepts, dials, hears, tells_all};
 ghost use Rattle.fs_speaker.specs.{Announcer.{CanSend}, Sending.{sender_of}};
 ghost use Rattle.cmd_stages.specs.{Load.{OpensFront, config_alone, config_stage}, Refusal.{Stopped, answered}, declared.refusal.Refusal.{Refusal as Cause}};
-ghost use Rattle.cmd_wire.specs.{Judged.{MayBeKept, judged_as}, Keeping.{Begins, BreaksHearing, BreaksLooking, BreaksOne, BreaksReading, BreaksSo, BreaksFollowing, BreaksShelving, ContinuesSo, DialsSo, EndsKeeping, Fills, FollowsSo, HearsOne, HearsSo, IsMissing, IsOfKeeping, IsUnbegun, IsUpSo, KeepsAll, KeepsSo, Looks, Reads, Shelves, StandsAt, TookSo, at_first, count_of, is_missing, is_over, is_up, judges, keeps, order_by, passed_by, tells_if}, Recording.{at_gate}, Shelf.{is_due}};
+ghost use Rattle.cmd_wire.specs.Judged.{MayBeKept, judged_as};
+ghost use Rattle.cmd_wire.specs.Keeping.{Begins, BreaksHearing, BreaksLooking, BreaksOne, BreaksReading, BreaksSo, BreaksFollowing, BreaksShelving};
+ghost use Rattle.cmd_wire.specs.Keeping.{ContinuesSo, DialsSo, EndsKeeping, Fills, FollowsSo, HearsOne, HearsSo, IsMissing, IsOfKeeping, IsUnbegun};
+ghost use Rattle.cmd_wire.specs.Keeping.{IsUpSo, KeepsAll, KeepsSo, Looks, Reads, Shelves, StandsAt, TookSo, at_first, count_of, is_missing, is_over};
+ghost use Rattle.cmd_wire.specs.Keeping.{is_up, judges, keeps, order_by, passed_by, tells_if};
+ghost use Rattle.cmd_wire.specs.{Recording.{at_gate}, Shelf.{is_due}};
 
 use crate::judged::{Judged, judge};
 use crate::news::{write_kept, write_news};

@@ -5,7 +5,8 @@ ghost use Rattle.fs_base.specs.{Happened.{happened, with_wire}, Outside.{Rose}};
 ghost use Rattle.fs_desk.specs.Desk.{standing_at_desk};
 ghost use Rattle.fs_peering.specs.Hearer.{Receives, is_ended};
 ghost use Rattle.cmd_stages.specs.{Load.{OpensFront, config_alone}, Refusal.{HasReason, Stopped, answered}, declared.refusal.Refusal.{Refusal as Cause}};
-ghost use Rattle.cmd_wire.specs.{Announcing.{IsBrokenOff, IsOfSession}, Conversation.{conversation}, Listening.{Begins, ListensThrough, ListensTo, hearing_stage, with_peer}};
+ghost use Rattle.cmd_wire.specs.{Announcing.{IsBrokenOff, IsOfSession}, Conversation.{conversation}};
+ghost use Rattle.cmd_wire.specs.Listening.{Begins, ListensThrough, ListensTo, hearing_stage, with_peer};
 
 use crate::listed::tell_listing;
 use cmd_stages::{Refusal, load_config};

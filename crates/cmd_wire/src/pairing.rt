@@ -4,7 +4,8 @@ ghost use Rattle.std.specs.Prelude.{◌≡◌, ◌≤◌, ◌⊎◌, IfErr, IfOk
 ghost use Rattle.fs_base.specs.{Happened.{happened, with_wire}, Outside.{Rose}, declared.config.Config.{Config}};
 ghost use Rattle.fs_speaker.specs.{Announcer.{CanSend}, Sending.{sender_of}, declared.Sending.{Sending}};
 ghost use Rattle.cmd_stages.specs.{Load.{OpensFront, config_then, sending_stage}, Refusal.{Stopped, answered}, declared.refusal.Refusal.{Refusal as Cause}};
-ghost use Rattle.cmd_wire.specs.{Announcing.{IsBrokenOff, IsOfSession}, Conversation.{conversation}, Listed.{ListsDesk}, Pairing.{AreReady, BothBegin, Joined, Joins}};
+ghost use Rattle.cmd_wire.specs.{Announcing.{IsBrokenOff, IsOfSession}, Conversation.{conversation}, Listed.{ListsDesk}};
+ghost use Rattle.cmd_wire.specs.Pairing.{AreReady, BothBegin, Joined, Joins};
 
 use crate::announcing::load_both;
 use crate::listed::tell_listing;

@@ -4,7 +4,8 @@ ghost use Rattle.std.specs.{Prelude.{◌≡◌, ◌≤◌, ◌<◌, ◌⊎◌, [
 ghost use Rattle.fs_base.specs.{Gate.{FitsIn, Tells}, Happened.{happened}, Outside.{HasCause, Rose}};
 ghost use Rattle.fs_recorder.specs.{Books.{Agrees}, Deeds.{AreKnown}, Steps.{at_first}};
 ghost use Rattle.cmd_stages.specs.{Load.{OpensFront, config_alone, config_stage}, Refusal.{Stopped, answered}, declared.refusal.Refusal.{Refusal as Cause}};
-ghost use Rattle.cmd_wire.specs.Recording.{BehindTurn, BreaksOne, Continues, EndsRecording, Fills, HearsOne, IsOfRecording, RecordsAll, RecordsSo, StandsAt, at_gate, refusal_by, turn_of};
+ghost use Rattle.cmd_wire.specs.Recording.{BehindTurn, BreaksOne, Continues, EndsRecording, Fills, HearsOne, IsOfRecording, RecordsAll, RecordsSo};
+ghost use Rattle.cmd_wire.specs.Recording.{StandsAt, at_gate, refusal_by, turn_of};
 
 use cmd_stages::{Refusal, load_config};
 use fs_base::{Config, Event, Failed, Files, Gate, Sink};

@@ -2,7 +2,8 @@
 
 ghost use Rattle.std.specs.Prelude.{◌≡◌, option_map};
 ghost use Rattle.fs_base.specs.Gate.{content_from};
-ghost use Rattle.cmd_wire.specs.{Holding.{content_of}, Shelf.{changed_by, empty_shelf, is_due, is_lasting, is_same, is_same_as, kept_by, settled_by, settles, shelved}};
+ghost use Rattle.cmd_wire.specs.Holding.{content_of};
+ghost use Rattle.cmd_wire.specs.Shelf.{changed_by, empty_shelf, is_due, is_lasting, is_same, is_same_as, kept_by, settled_by, settles, shelved};
 
 use fs_base::Found;
 use std::marker::Model;

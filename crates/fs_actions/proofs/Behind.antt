@@ -1,5 +1,7 @@
 -- An action behind a list of actions.
-use Rattle.fs_actions.proofs.{Words.{◌≡◌, ℕ, ◌-◌, List, [], ◌∷◌, ◌++◌, length, slice_get, refl, Some, None, arith, Less, AllByRecursion, last_or, IsStrictlySortedBy, nat_list_cmp_total, IsAction, IsAbove, IsActions}, Insertion.{by_octets}}
+use Rattle.fs_actions.proofs.Words.{◌≡◌, ℕ, ◌-◌, List, [], ◌∷◌, ◌++◌, length, slice_get, refl, Some, None, arith, Less, AllByRecursion, last_or}
+use Rattle.fs_actions.proofs.Words.{IsStrictlySortedBy, nat_list_cmp_total, IsAction, IsAbove, IsActions}
+use Rattle.fs_actions.proofs.Insertion.{by_octets}
 
 last_at : (first : List ℕ) (xs : List (List ℕ)) → slice_get (first ∷ xs) (length xs) ≡ last_or (Some first) xs
 last_at first [] = refl
@@ -14,12 +16,14 @@ each_more : (P : List ℕ → Type 0) (xs : List (List ℕ)) (a : List ℕ) → 
 each_more P [] a h p = (p, tt)
 each_more P (x ∷ xs) a h p = (h.0, each_more P xs a h.1 p)
 
-below_last : (x : List ℕ) (xs : List (List ℕ)) (a : List ℕ) → AllByRecursion (λ y. by_octets x y ≡ Less) xs → IsStrictlySortedBy by_octets xs → IsAbove (last_or (Some x) xs) a → by_octets x a ≡ Less
+below_last : (x : List ℕ) (xs : List (List ℕ)) (a : List ℕ) → AllByRecursion (λ y. by_octets x y ≡ Less) xs → IsStrictlySortedBy by_octets xs
+    → IsAbove (last_or (Some x) xs) a → by_octets x a ≡ Less
 unfolding IsStrictlySortedBy
 below_last x [] a h s b = b
 below_last x (y ∷ ys) a h s b = nat_list_cmp_total.trans x y a h.0 (below_last y ys a s.0 s.1 b)
 
-rising_behind : (x : List ℕ) (xs : List (List ℕ)) (a : List ℕ) → IsStrictlySortedBy by_octets (x ∷ xs) → IsAbove (last_or (Some x) xs) a → IsStrictlySortedBy by_octets (x ∷ (xs ++ a ∷ []))
+rising_behind : (x : List ℕ) (xs : List (List ℕ)) (a : List ℕ) → IsStrictlySortedBy by_octets (x ∷ xs) → IsAbove (last_or (Some x) xs) a
+    → IsStrictlySortedBy by_octets (x ∷ (xs ++ a ∷ []))
 unfolding IsStrictlySortedBy
 rising_behind x [] a s b = ((b, tt), (tt, tt))
 rising_behind x (y ∷ ys) a s b = (each_more (λ z. by_octets x z ≡ Less) (y ∷ ys) a s.0 (below_last x (y ∷ ys) a s.0 s.1 b), rising_behind y ys a s.1 b)

@@ -1,5 +1,9 @@
 -- What is in the list of a field's actions: exactly the normal forms of its listed communities.
-use Rattle.fs_actions.{proofs.{Words.{◌≡◌, ℕ, zero, suc, ◌<◌, List, [], ◌∷◌, length, get_or, refl, sym, ap, ◌∙◌, arith, ◌⊎◌, inl, inr, Contains, Ordering, filter_map, Option, Some, None, Less, Equal, Greater, match_ordering, cons_option, IsStrictlySortedBy, normal_form, communities, with_action, with_actions, actions_of}, Insertion.{by_octets, rising_with}}, specs.Laws.{IsListed, AreListed}}
+use Rattle.fs_actions.proofs.Words.{◌≡◌, ℕ, zero, suc, ◌<◌, List, [], ◌∷◌, length, get_or, refl, sym, ap, ◌∙◌, arith, ◌⊎◌, inl, inr, Contains}
+use Rattle.fs_actions.proofs.Words.{Ordering, filter_map, Option, Some, None, Less, Equal, Greater, match_ordering, cons_option, IsStrictlySortedBy}
+use Rattle.fs_actions.proofs.Words.{normal_form, communities, with_action, with_actions, actions_of}
+use Rattle.fs_actions.proofs.Insertion.{by_octets, rising_with}
+use Rattle.fs_actions.specs.Laws.{IsListed, AreListed}
 use Rattle.std.proofs.lemmas.Map.Lookups.{exact_bytes}
 
 abbrev IsAmong : List ℕ → List (List ℕ) → Type 0
@@ -69,7 +73,8 @@ forms_had : (x : List ℕ) (cs : List (List ℕ)) → IsAmong x (filter_map norm
 forms_had x [] h = absurd h
 forms_had x (c ∷ cs) h = at (normal_form c) refl h (forms_had x cs)
   where
-    at : (o : Option (List ℕ)) → normal_form c ≡ o → IsAmong x (cons_option o (filter_map normal_form cs)) → (IsAmong x (filter_map normal_form cs) → HasForm x cs) → HasForm x (c ∷ cs)
+    at : (o : Option (List ℕ)) → normal_form c ≡ o → IsAmong x (cons_option o (filter_map normal_form cs))
+        → (IsAmong x (filter_map normal_form cs) → HasForm x cs) → HasForm x (c ∷ cs)
     at None e h more = let found = more h in (found.0, inr found.1, found.2)
     at (Some y) e (inl same) more = (c, inl refl, e ∙ ap (λ (z : List ℕ). let some : Option (List ℕ) = Some z in some) same)
     at (Some y) e (inr later) more = let found = more later in (found.0, inr found.1, found.2)
@@ -96,7 +101,8 @@ are_listed octets = record {
     listed action h =
         let there = all_had action (filter_map normal_form (communities octets)) [] (among action (actions_of octets) h.0 h.1 h.2) in
         elim there [
-          | inl form ↦ let found = forms_had action (communities octets) form in record { community = found.0; stands = contained found.0 (communities octets) found.1; normal = found.2 }
+          | inl form ↦ let found = forms_had action (communities octets) form in
+              record { community = found.0; stands = contained found.0 (communities octets) found.1; normal = found.2 }
           | inr none ↦ absurd none
         ]
 

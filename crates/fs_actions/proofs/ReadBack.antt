@@ -1,5 +1,9 @@
 -- The octets of a list of actions, and the list that they are read back as.
-use Rattle.fs_actions.proofs.{Words.{◌≡◌, ℕ, ◌+◌, ◌*◌, ◌/◌, ◌<◌, List, [], ◌∷◌, ◌++◌, length, take, drop, get_or, refl, sym, ap, ◌∙◌, subst, arith, append_assoc, append-nil, filter_map, ◌&&◌, ◌==◌, ◌%◌, nat_lt, Less, Greater, AllByRecursion, concat, IsStrictlySortedBy, take-append_seam, drop-append_seam, IsAction, normal_form, IsActions, actions_of, are_communities, communities, with_action, with_actions}, Insertion.{by_octets, with_step, reversed}}
+use Rattle.fs_actions.proofs.Words.{◌≡◌, ℕ, ◌+◌, ◌*◌, ◌/◌, ◌<◌, List, [], ◌∷◌, ◌++◌, length, take, drop, get_or, refl, sym, ap, ◌∙◌, subst, arith}
+use Rattle.fs_actions.proofs.Words.{append_assoc, append-nil, filter_map, ◌&&◌, ◌==◌, ◌%◌, nat_lt, Less, Greater, AllByRecursion, concat}
+use Rattle.fs_actions.proofs.Words.{IsStrictlySortedBy, take-append_seam, drop-append_seam, IsAction, normal_form, IsActions, actions_of}
+use Rattle.fs_actions.proofs.Words.{are_communities, communities, with_action, with_actions}
+use Rattle.fs_actions.proofs.Insertion.{by_octets, with_step, reversed}
 use Rattle.std.{specs.Simd.{first_chunks}, proofs.lemmas.{List.{length-append, take_more}, Bool.Decides.{nat_tests}}}
 use Rattle.fs_base.proofs.Octets.{each_at}
 
@@ -8,7 +12,8 @@ concat-push [] y = append-nil y
 concat-push (x ∷ xs) y = ap (λ (rest : List ℕ). x ++ rest) (concat-push xs y) ∙ sym (append_assoc x (concat xs) y)
 
 -- one action more was appended
-pub joined_more : (actions : List (List ℕ)) (index : ℕ) (d old new : List ℕ) → index < length actions → new ≡ old ++ concat (take index actions) → new ++ get_or actions index d ≡ old ++ concat (take (index + 1) actions)
+pub joined_more : (actions : List (List ℕ)) (index : ℕ) (d old new : List ℕ) → index < length actions → new ≡ old ++ concat (take index actions)
+    → new ++ get_or actions index d ≡ old ++ concat (take (index + 1) actions)
 joined_more actions index d old new l e =
     ap (λ (front : List ℕ). front ++ get_or actions index d) e
     ∙ append_assoc old (concat (take index actions)) (get_or actions index d)
@@ -38,7 +43,8 @@ with_last : (a : List ℕ) (done : List (List ℕ)) → AllByRecursion (λ y. by
 with_last a [] h = refl
 with_last a (x ∷ xs) h = with_step a x xs Greater (reversed x a Less h.0) ∙ ap (λ (l : List (List ℕ)). x ∷ l) (with_last a xs h.1)
 
-all_before : (done : List (List ℕ)) (x : List ℕ) (xs : List (List ℕ)) → IsStrictlySortedBy by_octets (done ++ x ∷ xs) → AllByRecursion (λ y. by_octets y x ≡ Less) done
+all_before : (done : List (List ℕ)) (x : List ℕ) (xs : List (List ℕ)) → IsStrictlySortedBy by_octets (done ++ x ∷ xs)
+    → AllByRecursion (λ y. by_octets y x ≡ Less) done
 unfolding IsStrictlySortedBy
 all_before [] x xs s = tt
 all_before (y ∷ ys) x xs s = (each_at (λ z. by_octets y z ≡ Less) ys x xs s.0, all_before ys x xs s.1)

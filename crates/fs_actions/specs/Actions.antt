@@ -1,5 +1,7 @@
 -- The actions that a field of communities gives, and what they say together (RFC 8955 section 7).
-use Rattle.std.specs.{Prelude.{◌≡◌, ℕ, ◌/◌, ◌%◌, ◌==◌, Bool, ◌&&◌, List, [], ◌∷◌, length, filter_map, nat_lt, Option, Some, None}, Ordering.{match_ordering, nat_cmp}, declared.cmp.Ordering.TheVariants.{Less}, List.{AllByRecursion, Sorted.{IsStrictlySortedBy}}, Cmp.Lexicographic.{slice_cmp}, Simd.{first_chunks}}
+use Rattle.std.specs.Prelude.{◌≡◌, ℕ, ◌/◌, ◌%◌, ◌==◌, Bool, ◌&&◌, List, [], ◌∷◌, length, filter_map, nat_lt, Option, Some, None}
+use Rattle.std.specs.{Ordering.{match_ordering, nat_cmp}, declared.cmp.Ordering.TheVariants.{Less}}
+use Rattle.std.specs.{List.{AllByRecursion, Sorted.{IsStrictlySortedBy}}, Cmp.Lexicographic.{slice_cmp}, Simd.{first_chunks}}
 use Rattle.fs_actions.specs.Community.{IsAction, normal_form}
 
 -- a field of communities is whole where it is a positive number of eight octets

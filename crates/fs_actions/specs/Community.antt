@@ -1,7 +1,11 @@
 -- Which extended communities are actions, which of their bits count, and what they say (RFC 8955 section 7).
-use Rattle.std.specs.{Prelude.{◌≡◌, ℕ, ◌^◌, ◌==◌, Bool, false, not, ◌&&◌, ◌||◌, List, [], ◌∷◌, ◌++◌, length, take, drop, find, slice_index, bit_and, nat_le, if◌then◌else◌, option_map, Option, Some, None}, Option.{option_and_then, option_map_or}}
+use Rattle.std.specs.Prelude.{◌≡◌, ℕ, ◌^◌, ◌==◌, Bool, false, not, ◌&&◌, ◌||◌, List, [], ◌∷◌, ◌++◌, length, take, drop, find, slice_index, bit_and}
+use Rattle.std.specs.Prelude.{nat_le, if◌then◌else◌, option_map, Option, Some, None}
+use Rattle.std.specs.Option.{option_and_then, option_map_or}
 use Rattle.byteorder.specs.Endian.{big_number}
-use Rattle.fs_actions.specs.declared.community.{Redirect.{Redirect, TheVariants.{As2, Ip4, As4}}, Rate.{Rate, TheVariants.{Bytes, Packets}}, Significant.{Significant, TheVariants.{EveryBit, OfLastOctet}}}
+use Rattle.fs_actions.specs.declared.community.Redirect.{Redirect, TheVariants.{As2, Ip4, As4}}
+use Rattle.fs_actions.specs.declared.community.Rate.{Rate, TheVariants.{Bytes, Packets}}
+use Rattle.fs_actions.specs.declared.community.Significant.{Significant, TheVariants.{EveryBit, OfLastOctet}}
 
 -- the first two octets, a community's type and sub-type
 abbrev pub kind_of : List ℕ → ℕ

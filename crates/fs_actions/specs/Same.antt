@@ -1,5 +1,6 @@
 -- Equality of lists of actions as `==` has it: equal octets, one action after the other.
-use Rattle.std.specs.{Prelude.{◌≡◌, ℕ, Bool, List, nat_eq}, Bool.{Decides}, Cmp.{IsEquivalence, unsigned_Decides, decided, Lexicographic.{pointwise, pointwise_decides}}}
+use Rattle.std.specs.{Prelude.{◌≡◌, ℕ, Bool, List, nat_eq}, Bool.{Decides}}
+use Rattle.std.specs.Cmp.{IsEquivalence, unsigned_Decides, decided, Lexicographic.{pointwise, pointwise_decides}}
 
 abbrev pub same_actions : List (List ℕ) → List (List ℕ) → Bool
 same_actions = pointwise (pointwise nat_eq)

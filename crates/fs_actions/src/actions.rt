@@ -1,7 +1,10 @@
 //! The actions of a route, and the communities that say them.
 
-ghost use Rattle.std.specs.{Prelude.{◌≡◌, ◌↔◌, ℕ, None, Some, IsTrue, ◌∷◌, false, true, List, [], ◌++◌, IfOk, IsErrOf, OnErr, OnOk, length, nat_lt, slice_get, filter_map}, List.{concat, last_or, list_any, Sorted.{IsStrictlySortedBy}}, Cmp.Lexicographic.{slice_cmp}, Ordering.{nat_cmp}};
-ghost use Rattle.fs_actions.specs.{Community.{IsAction, has_flag, is_discard, limit_of, mark_of, redirect_of}, Actions.{IsAbove, IsActions, actions_of, are_communities, first_of, with_action}};
+ghost use Rattle.std.specs.Prelude.{◌≡◌, ◌↔◌, ℕ, None, Some, IsTrue, ◌∷◌, false, true, List, [], ◌++◌, IfOk, IsErrOf, OnErr, OnOk, length, nat_lt};
+ghost use Rattle.std.specs.Prelude.{slice_get, filter_map};
+ghost use Rattle.std.specs.{List.{concat, last_or, list_any, Sorted.{IsStrictlySortedBy}}, Cmp.Lexicographic.{slice_cmp}, Ordering.{nat_cmp}};
+ghost use Rattle.fs_actions.specs.Community.{IsAction, has_flag, is_discard, limit_of, mark_of, redirect_of};
+ghost use Rattle.fs_actions.specs.Actions.{IsAbove, IsActions, actions_of, are_communities, first_of, with_action};
 
 use crate::community::{Action, Rate, Redirect};
 use fs_base::Memory;

@@ -1,9 +1,15 @@
 -- Loops that gather the values of attributes, or look for a wrong segment.
-use Rattle.fs_attrs.proofs.{Words.{◌≡◌, ℕ, suc, ◌==◌, Bool, true, false, not, cond, ◌&&◌, ◌||◌, nat_lt, List, [], ◌∷◌, length, Option, Some, None, refl, sym, ap, subst, ◌∙◌, arith, if◌then◌else◌, option_map, find, filter, list_any, option_or, is_some, is_none, nat_tests, Segment, parts_of, parts_step, parts_end, Terms, Attribute, first_attribute, attributes_of, are_attributes, value_of, is_doubled, stands_before, routes_doubled, Valued, values_of, values_with, kept_of, has_kept, first_segment, is_confederation, path_wrong}, PartSizes.{attribute_shrinks, segment_shrinks}}
+use Rattle.fs_attrs.proofs.Words.{◌≡◌, ℕ, suc, ◌==◌, Bool, true, false, not, cond, ◌&&◌, ◌||◌, nat_lt, List, [], ◌∷◌, length, Option, Some, None}
+use Rattle.fs_attrs.proofs.Words.{refl, sym, ap, subst, ◌∙◌, arith, if◌then◌else◌, option_map, find, filter, list_any, option_or, is_some, is_none}
+use Rattle.fs_attrs.proofs.Words.{nat_tests, Segment, parts_of, parts_step, parts_end, Terms, Attribute, first_attribute, attributes_of}
+use Rattle.fs_attrs.proofs.Words.{are_attributes, value_of, is_doubled, stands_before, routes_doubled, Valued, values_of, values_with, kept_of}
+use Rattle.fs_attrs.proofs.Words.{has_kept, first_segment, is_confederation, path_wrong}
+use Rattle.fs_attrs.proofs.PartSizes.{attribute_shrinks, segment_shrinks}
 use Rattle.fs_base.proofs.Bools.{or_false, or_weaker}
 
 -- the attributes of octets are the first one and those behind it
-pub attributes_more : (octets : List ℕ) (found : Attribute × List ℕ) → first_attribute octets ≡ Some found → attributes_of octets ≡ found.0 ∷ attributes_of found.1
+pub attributes_more : (octets : List ℕ) (found : Attribute × List ℕ) → first_attribute octets ≡ Some found
+    → attributes_of octets ≡ found.0 ∷ attributes_of found.1
 attributes_more octets found h = ap (λ (z : List Attribute × List ℕ). z.0) (parts_step first_attribute attribute_shrinks octets found h)
 
 pub attributes_end : (octets : List ℕ) → first_attribute octets ≡ None → attributes_of octets ≡ []
@@ -29,10 +35,12 @@ there_here true first later rest h = grind (arith, nat_tests)
 there_here false first later rest h = h
 
 -- a type stands where it has a value
-pub there : (kind : ℕ) (attributes : List Attribute) → nat_lt 0 (length (filter (λ attribute. attribute.kind == kind) attributes)) ≡ is_some (value_of kind attributes)
+pub there : (kind : ℕ) (attributes : List Attribute)
+    → nat_lt 0 (length (filter (λ attribute. attribute.kind == kind) attributes)) ≡ is_some (value_of kind attributes)
 there kind [] = refl
 there kind (first ∷ rest) =
-    there_here (first.kind == kind) first (find (λ attribute. attribute.kind == kind) rest) (filter (λ attribute. attribute.kind == kind) rest) (there kind rest)
+    there_here (first.kind == kind) first (find (λ attribute. attribute.kind == kind) rest) (filter (λ attribute. attribute.kind == kind) rest)
+    (there kind rest)
 
 -- What is kept of the attributes before gives, together with those to come, what all of them say.
 
@@ -64,7 +72,8 @@ kept_more true None next later = refl
 kept_more true (Some value) next later = refl
 kept_more false kept next later = refl
 
-twice_more : (kind : ℕ) (here : Bool) (kept : Option (List ℕ)) (next : Attribute) (rest : List Attribute) → (next.kind == kind) ≡ here → (here && is_some kept) ≡ false
+twice_more : (kind : ℕ) (here : Bool) (kept : Option (List ℕ)) (next : Attribute) (rest : List Attribute) → (next.kind == kind) ≡ here
+    → (here && is_some kept) ≡ false
     → twice_with kind (kept_of here kept next.value) rest ≡ twice_with kind kept (next ∷ rest)
 twice_more kind true (Some value) next rest e once = cc
 twice_more kind true None next rest e once =
@@ -80,16 +89,19 @@ before_at one two later = if one then true else if two then false else later
 
 abbrev before_here : Bool → Bool → Attribute → ℕ → ℕ → List Attribute → Bool
 before_here one two next a b rest =
-    elim (cond (one || two) (Some next) (find (λ attribute. (attribute.kind == a) || (attribute.kind == b)) rest)) [ Some found ↦ found.kind == a | None ↦ false ]
+    elim (cond (one || two) (Some next) (find (λ attribute. (attribute.kind == a) || (attribute.kind == b)) rest))
+    [ Some found ↦ found.kind == a | None ↦ false ]
 
-before_more : (one two : Bool) (next : Attribute) (a b : ℕ) (rest : List Attribute) → (next.kind == a) ≡ one → before_here one two next a b rest ≡ before_at one two (stands_before a b rest)
+before_more : (one two : Bool) (next : Attribute) (a b : ℕ) (rest : List Attribute) → (next.kind == a) ≡ one
+    → before_here one two next a b rest ≡ before_at one two (stands_before a b rest)
 before_more true two next a b rest e = e
 before_more false true next a b rest e = e
 before_more false false next a b rest e = refl
 
 first_more : (one two first : Bool) (reach unreach : Option (List ℕ)) (value : List ℕ) (later : Bool)
     → (two && is_some reach) ≡ false → (one && is_some unreach) ≡ false → (first && is_none unreach) ≡ false
-    → first_with (if one then is_none reach else first) (kept_of two reach value) (kept_of one unreach value) later ≡ first_with first reach unreach (before_at one two later)
+    → first_with (if one then is_none reach else first) (kept_of two reach value) (kept_of one unreach value) later
+    ≡ first_with first reach unreach (before_at one two later)
 first_more one two true reach None value later r u quiet = cc
 first_more true two first reach (Some other) value later r u quiet = cc
 first_more one true first (Some other) unreach value later r u quiet = cc
@@ -109,11 +121,13 @@ behind_more true first (Some other) unreach value quiet = refl
 behind_more false first reach unreach value quiet = quiet
 
 -- the first attribute of the octets, and those behind it
-first_of : (kept : Valued) (octets : List ℕ) (found : Attribute × List ℕ) (all : List Attribute) → first_attribute octets ≡ Some found → SoFar kept (attributes_of octets) all
+first_of : (kept : Valued) (octets : List ℕ) (found : Attribute × List ℕ) (all : List Attribute) → first_attribute octets ≡ Some found
+    → SoFar kept (attributes_of octets) all
     → SoFar kept (found.0 ∷ attributes_of found.1) all
 first_of kept octets found all h so = subst (λ (z : List Attribute). SoFar kept z all) (attributes_more octets found h) so
 
-pub kept_next : (kept : Valued) (octets : List ℕ) (found : Attribute × List ℕ) (all : List Attribute) → first_attribute octets ≡ Some found → has_kept kept found.0.kind ≡ false
+pub kept_next : (kept : Valued) (octets : List ℕ) (found : Attribute × List ℕ) (all : List Attribute) → first_attribute octets ≡ Some found
+    → has_kept kept found.0.kind ≡ false
     → SoFar kept (attributes_of octets) all → SoFar (values_with kept found.0) (attributes_of found.1) all
 kept_next kept octets (next, behind) all h once before =
     let rest : List Attribute = attributes_of behind in
@@ -129,21 +143,25 @@ kept_next kept octets (next, behind) all h once before =
       unreach = kept_more (next.kind == 15) kept.unreach next (later 15) ∙ so.unreach;
       communities = kept_more (next.kind == 16) kept.communities next (later 16) ∙ so.communities;
       first =
-          first_more (next.kind == 15) (next.kind == 14) kept.unreach_first kept.reach kept.unreach next.value (stands_before 15 14 rest) parts.0 parts.1 so.behind
-          ∙ sym (ap (λ (b : Bool). first_with kept.unreach_first kept.reach kept.unreach b) (before_more (next.kind == 15) (next.kind == 14) next 15 14 rest refl))
+          first_more (next.kind == 15) (next.kind == 14) kept.unreach_first kept.reach kept.unreach next.value
+          (stands_before 15 14 rest) parts.0 parts.1 so.behind
+          ∙ sym (ap (λ (b : Bool). first_with kept.unreach_first kept.reach kept.unreach b)
+          (before_more (next.kind == 15) (next.kind == 14) next 15 14 rest refl))
           ∙ so.first;
       behind = behind_more (next.kind == 15) kept.unreach_first kept.reach kept.unreach next.value so.behind;
       reach_twice = twice_more 14 (next.kind == 14) kept.reach next rest refl parts.0 ∙ so.reach_twice;
       unreach_twice = twice_more 15 (next.kind == 15) kept.unreach next rest refl parts.1 ∙ so.unreach_twice;
     }
 
-twice_here : (kind : ℕ) (here : Bool) (kept : Option (List ℕ)) (next : Attribute) (rest : List Attribute) → (next.kind == kind) ≡ here → (here && is_some kept) ≡ true
+twice_here : (kind : ℕ) (here : Bool) (kept : Option (List ℕ)) (next : Attribute) (rest : List Attribute) → (next.kind == kind) ≡ here
+    → (here && is_some kept) ≡ true
     → twice_with kind kept (next ∷ rest) ≡ true
 twice_here kind true (Some value) next rest e twice = ap (λ (b : Bool). is_some (value_here b kind next rest)) e
 twice_here kind true None next rest e twice = cc
 twice_here kind false kept next rest e twice = cc
 
-pub kept_twice : (kept : Valued) (octets : List ℕ) (found : Attribute × List ℕ) (all : List Attribute) → first_attribute octets ≡ Some found → has_kept kept found.0.kind ≡ true
+pub kept_twice : (kept : Valued) (octets : List ℕ) (found : Attribute × List ℕ) (all : List Attribute) → first_attribute octets ≡ Some found
+    → has_kept kept found.0.kind ≡ true
     → SoFar kept (attributes_of octets) all → routes_doubled all ≡ true
 kept_twice kept octets (next, behind) all h twice before =
     let rest : List Attribute = attributes_of behind in
@@ -171,19 +189,31 @@ twice_last kind (Some value) = refl
 same_values : (values : Valued) (origin as_path local_pref originator reach unreach communities : Option (List ℕ)) (first : Bool)
     → origin ≡ values.origin → as_path ≡ values.as_path → local_pref ≡ values.local_pref → originator ≡ values.originator
     → reach ≡ values.reach → unreach ≡ values.unreach → communities ≡ values.communities → first ≡ values.unreach_first
-    → record { origin = origin; as_path = as_path; local_pref = local_pref; originator = originator; reach = reach; unreach = unreach; communities = communities; unreach_first = first } ≡ values
+    → record {
+      origin = origin;
+      as_path = as_path;
+      local_pref = local_pref;
+      originator = originator;
+      reach = reach;
+      unreach = unreach;
+      communities =
+          communities;
+      unreach_first = first;
+    } ≡ values
 same_values values origin as_path local_pref originator reach unreach communities first a b c d e f g h = rw (a, b, c, d, e, f, g, h) refl
 
 pub kept_all : (kept : Valued) (all : List Attribute) → SoFar kept [] all → kept ≡ values_of all
 kept_all kept all so =
     same_values (values_of all) kept.origin kept.as_path kept.local_pref kept.originator kept.reach kept.unreach kept.communities kept.unreach_first
     (none_later kept.origin ∙ so.origin) (none_later kept.as_path ∙ so.as_path) (none_later kept.local_pref ∙ so.local_pref)
-    (none_later kept.originator ∙ so.originator) (none_later kept.reach ∙ so.reach) (none_later kept.unreach ∙ so.unreach) (none_later kept.communities ∙ so.communities)
+    (none_later kept.originator ∙ so.originator) (none_later kept.reach ∙ so.reach) (none_later kept.unreach
+    ∙ so.unreach) (none_later kept.communities ∙ so.communities)
     (first_last kept.unreach_first (not (is_some kept.reach || is_some kept.unreach)) ∙ so.first)
 
 pub kept_once : (kept : Valued) (all : List Attribute) → SoFar kept [] all → false ≡ routes_doubled all
 kept_once kept all so =
-    ap (λ (b : Bool). b || false) (twice_last 14 kept.reach ∙ so.reach_twice) ∙ ap (λ (b : Bool). is_doubled 14 all || b) (twice_last 15 kept.unreach ∙ so.unreach_twice)
+    ap (λ (b : Bool). b || false) (twice_last 14 kept.reach ∙ so.reach_twice)
+    ∙ ap (λ (b : Bool). is_doubled 14 all || b) (twice_last 15 kept.unreach ∙ so.unreach_twice)
 
 -- a wrong path, over its segments
 abbrev wrong_in : Bool → List Segment × List ℕ → Bool
@@ -205,14 +235,16 @@ wrong_last true true = refl
 wrong_last true false = refl
 wrong_last false external = refl
 
-pub wrong_found : (terms : Terms) (octets : List ℕ) (next : Segment × List ℕ) → first_segment terms.four octets ≡ Some next → (terms.external && is_confederation next.0) ≡ true
+pub wrong_found : (terms : Terms) (octets : List ℕ) (next : Segment × List ℕ) → first_segment terms.four octets ≡ Some next
+    → (terms.external && is_confederation next.0) ≡ true
     → path_wrong terms octets ≡ true
 wrong_found terms octets next h e =
     let rest : List Segment × List ℕ = parts_of (first_segment terms.four) next.1 in
     ap (wrong_in terms.external) (parts_step (first_segment terms.four) (segment_shrinks terms.four) octets next h)
     ∙ wrong_here terms.external (is_confederation next.0) (not (length rest.1 == 0)) (list_any is_confederation rest.0) e
 
-pub wrong_more : (terms : Terms) (octets : List ℕ) (next : Segment × List ℕ) → first_segment terms.four octets ≡ Some next → (terms.external && is_confederation next.0) ≡ false
+pub wrong_more : (terms : Terms) (octets : List ℕ) (next : Segment × List ℕ) → first_segment terms.four octets ≡ Some next
+    → (terms.external && is_confederation next.0) ≡ false
     → path_wrong terms octets ≡ path_wrong terms next.1
 wrong_more terms octets next h e =
     let rest : List Segment × List ℕ = parts_of (first_segment terms.four) next.1 in

@@ -1,5 +1,6 @@
 -- A loop that gathers the parts of an octet list.
-use Rattle.fs_attrs.proofs.Words.{◌≡◌, ℕ, ◌==◌, List, [], ◌∷◌, ◌++◌, length, Option, Some, None, sym, ap, ◌∙◌, if◌then◌else◌, append-nil, Shrinks, parts_of, parts_step, parts_end}
+use Rattle.fs_attrs.proofs.Words.{◌≡◌, ℕ, ◌==◌, List, [], ◌∷◌, ◌++◌, length, Option, Some, None, sym, ap, ◌∙◌, if◌then◌else◌, append-nil, Shrinks}
+use Rattle.fs_attrs.proofs.Words.{parts_of, parts_step, parts_end}
 use Rattle.std.proofs.lemmas.List.{append_assoc}
 
 -- what is gathered so far, and then what the rest still gives

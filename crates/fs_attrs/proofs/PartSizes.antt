@@ -1,5 +1,8 @@
 -- Each part of an UPDATE takes octets.
-use Rattle.fs_attrs.proofs.Words.{◌≡◌, ℕ, ◌*◌, ◌<◌, ◌≤◌, ◌==◌, Bool, true, false, ◌&&◌, bit_and, nat_le, nat_lt, List, [], ◌∷◌, length, take, drop, Option, Some, None, refl, sym, ap, arith, if◌then◌else◌, option_map, nat_tests, big_number, Shrinks, Family, Segment, width_of, octets_for, first_bits, Attribute, attribute, sized, short_field, long_field, first_attribute, Shown, shown_as, first_prefix, as_width, first_as, numbers_of, segment, first_segment}
+use Rattle.fs_attrs.proofs.Words.{◌≡◌, ℕ, ◌*◌, ◌<◌, ◌≤◌, ◌==◌, Bool, true, false, ◌&&◌, bit_and, nat_le, nat_lt, List, [], ◌∷◌, length, take, drop}
+use Rattle.fs_attrs.proofs.Words.{Option, Some, None, refl, sym, ap, arith, if◌then◌else◌, option_map, nat_tests, big_number, Shrinks, Family}
+use Rattle.fs_attrs.proofs.Words.{Segment, width_of, octets_for, first_bits, Attribute, attribute, sized, short_field, long_field, first_attribute}
+use Rattle.fs_attrs.proofs.Words.{Shown, shown_as, first_prefix, as_width, first_as, numbers_of, segment, first_segment}
 use Rattle.std.proofs.lemmas.{List.{length-drop}, Option.{cond_some}}
 
 not_chosen : {A : Type 0} (test : Bool) (a b : A) → (if test then None else Some a) ≡ Some b → (test ≡ false) × (a ≡ b)
@@ -15,14 +18,16 @@ short_within : (octets : List ℕ) (found : List ℕ × List ℕ) → short_fiel
 short_within [] found h = cc
 short_within (size ∷ rest) found h = omega (arith, sized_within size rest found h)
 
-long_at : (short : Bool) (octets : List ℕ) (found : List ℕ × List ℕ) → (if short then None else sized (big_number 2 octets) (drop 2 octets)) ≡ Some found → length found.1 ≤ length octets
+long_at : (short : Bool) (octets : List ℕ) (found : List ℕ × List ℕ)
+    → (if short then None else sized (big_number 2 octets) (drop 2 octets)) ≡ Some found → length found.1 ≤ length octets
 long_at true octets found h = cc
 long_at false octets found h = omega (arith, sized_within (big_number 2 octets) (drop 2 octets) found h, length-drop 2 octets)
 
 pub long_within : (octets : List ℕ) (found : List ℕ × List ℕ) → long_field octets ≡ Some found → length found.1 ≤ length octets
 long_within octets found h = long_at (nat_lt (length octets) 2) octets found h
 
-field_within : (short : Bool) (rest : List ℕ) (found : List ℕ × List ℕ) → (if short then short_field rest else long_field rest) ≡ Some found → length found.1 ≤ length rest
+field_within : (short : Bool) (rest : List ℕ) (found : List ℕ × List ℕ) → (if short then short_field rest else long_field rest) ≡ Some found
+    → length found.1 ≤ length rest
 field_within true rest found h = short_within rest found h
 field_within false rest found h = long_within rest found h
 

@@ -1,5 +1,13 @@
 -- The attributes of a path that are written are none of the causes of treat-as-withdraw, and say that path.
-use Rattle.fs_attrs.proofs.{Words.{◌≡◌, ℕ, ◌^◌, ◌<◌, ◌≤◌, ◌==◌, Bool, true, false, not, ◌&&◌, ◌||◌, nat_le, nat_lt, List, [], ◌∷◌, length, Option, Some, None, refl, sym, ap, subst, ◌∙◌, arith, if◌then◌else◌, option_map, option_and_then, unwrap_or, IfSome, is_none, option_map_or, AllByRecursion, list_all, list_any, recursion_from_All, append-nil, nil_from_length, and_parts, eqb-true, nat_tests, big_number, big_bytes, big_number-reads_back, Segment, Path, Terms, Update, value_of, values_of, is_confederation, is_written_segment, AreNumbers, are_low, four_octets, path_of, withdraws, written_attributes, IsPath, is_path_of_session}, TextsReadBack.{FitsAs, FitsSegment, segments_whole, segments_read}, WrittenAttributes.{none_value, origin_value, segments_value, pref_octets, pref_value, originator_value, actions_octets, actions_value}}
+use Rattle.fs_attrs.proofs.Words.{◌≡◌, ℕ, ◌^◌, ◌<◌, ◌≤◌, ◌==◌, Bool, true, false, not, ◌&&◌, ◌||◌, nat_le, nat_lt, List, [], ◌∷◌, length, Option}
+use Rattle.fs_attrs.proofs.Words.{Some, None, refl, sym, ap, subst, ◌∙◌, arith, if◌then◌else◌, option_map, option_and_then, unwrap_or, IfSome}
+use Rattle.fs_attrs.proofs.Words.{is_none, option_map_or, AllByRecursion, list_all, list_any, recursion_from_All, append-nil, nil_from_length}
+use Rattle.fs_attrs.proofs.Words.{and_parts, eqb-true, nat_tests, big_number, big_bytes, big_number-reads_back, Segment, Path, Terms, Update}
+use Rattle.fs_attrs.proofs.Words.{value_of, values_of, is_confederation, is_written_segment, AreNumbers, are_low, four_octets, path_of, withdraws}
+use Rattle.fs_attrs.proofs.Words.{written_attributes, IsPath, is_path_of_session}
+use Rattle.fs_attrs.proofs.TextsReadBack.{FitsAs, FitsSegment, segments_whole, segments_read}
+use Rattle.fs_attrs.proofs.WrittenAttributes.{none_value, origin_value, segments_value, pref_octets, pref_value, originator_value, actions_octets}
+use Rattle.fs_attrs.proofs.WrittenAttributes.{actions_value}
 use Rattle.fs_actions.{specs.Actions.{are_communities, IsActions, actions_of}, proofs.ReadBack.{read_back as actions_back, whole_joined}}
 
 -- segments
@@ -11,7 +19,8 @@ low_numbers (asn ∷ numbers) h =
     let first : nat_le asn 65535 ≡ true = parts.0 in
     (grind (arith, nat_tests), low_numbers numbers parts.1)
 
-fits_numbers : (four : Bool) (numbers : List ℕ) → AllByRecursion (λ (asn : ℕ). asn < 2 ^ 32) numbers → (four || list_all (λ (asn : ℕ). nat_le asn 65535) numbers) ≡ true
+fits_numbers : (four : Bool) (numbers : List ℕ) → AllByRecursion (λ (asn : ℕ). asn < 2 ^ 32) numbers
+    → (four || list_all (λ (asn : ℕ). nat_le asn 65535) numbers) ≡ true
     → AllByRecursion (FitsAs four) numbers
 fits_numbers true numbers all h = all
 fits_numbers false numbers all h = low_numbers numbers h
@@ -24,9 +33,11 @@ highest_form : (external : Bool) (form : ℕ) → nat_le form (if external then 
 highest_form true form h = grind (arith, nat_tests)
 highest_form false form h = grind (arith, nat_tests)
 
-fits_segment : (four external : Bool) (given : Segment) → is_written_segment external given ≡ true → AreNumbers given → (four || are_low given) ≡ true → FitsSegment four given
+fits_segment : (four external : Bool) (given : Segment) → is_written_segment external given ≡ true → AreNumbers given → (four || are_low given) ≡ true
+    → FitsSegment four given
 fits_segment four external given h numbers kept =
-    let last = and_parts ((nat_le 1 (length given.numbers) && nat_le (length given.numbers) 255) && nat_le 1 given.form) (nat_le given.form (if external then 2 else 4)) h in
+    let last = and_parts ((nat_le 1 (length given.numbers) && nat_le (length given.numbers) 255) && nat_le 1 given.form)
+    (nat_le given.form (if external then 2 else 4)) h in
     let middle = and_parts (nat_le 1 (length given.numbers) && nat_le (length given.numbers) 255) (nat_le 1 given.form) last.0 in
     let first = and_parts (nat_le 1 (length given.numbers)) (nat_le (length given.numbers) 255) middle.0 in
     let some : nat_le 1 (length given.numbers) ≡ true = first.0 in
@@ -38,7 +49,8 @@ fits_segment four external given h numbers kept =
       numbers = fits_numbers four given.numbers (recursion_from_All (λ (asn : ℕ). asn < 2 ^ 32) given.numbers numbers) kept;
     }
 
-pub fit_segments : (four external : Bool) (segments : List Segment) → list_all (is_written_segment external) segments ≡ true → AllByRecursion AreNumbers segments
+pub fit_segments : (four external : Bool) (segments : List Segment) → list_all (is_written_segment external) segments ≡ true
+    → AllByRecursion AreNumbers segments
     → (four || list_all are_low segments) ≡ true → AllByRecursion (FitsSegment four) segments
 fit_segments four external [] h all kept = tt
 fit_segments four external (given ∷ segments) h all kept =
@@ -55,7 +67,8 @@ no_confederation (given ∷ segments) h =
     let high : nat_le 3 given.form ≡ false = grind (arith, nat_tests) in
     rw (high) (no_confederation segments parts.1)
 
-none_barred : (external : Bool) (segments : List Segment) → list_all (is_written_segment external) segments ≡ true → (external && list_any is_confederation segments) ≡ false
+none_barred : (external : Bool) (segments : List Segment) → list_all (is_written_segment external) segments ≡ true
+    → (external && list_any is_confederation segments) ≡ false
 none_barred true segments h = no_confederation segments h
 none_barred false segments h = refl
 
@@ -71,11 +84,13 @@ number_right : (external : Bool) (number : ℕ) → (not external && not (length
 number_right true number = refl
 number_right false number = refl
 
-pref_right : (external : Bool) (number : ℕ) → option_map_or (λ (value : List ℕ). not external && not (length value == 4)) (pref_octets external number) false ≡ false
+pref_right : (external : Bool) (number : ℕ)
+    → option_map_or (λ (value : List ℕ). not external && not (length value == 4)) (pref_octets external number) false ≡ false
 pref_right true number = refl
 pref_right false number = number_right false number
 
-originator_right : (external : Bool) (id : Option ℕ) → option_map_or (λ (value : List ℕ). not external && not (length value == 4)) (option_map (big_bytes 4) id) false ≡ false
+originator_right : (external : Bool) (id : Option ℕ)
+    → option_map_or (λ (value : List ℕ). not external && not (length value == 4)) (option_map (big_bytes 4) id) false ≡ false
 originator_right external None = refl
 originator_right external (Some id) = number_right external id
 
@@ -99,14 +114,16 @@ communities_at false actions e is =
     let some : nat_lt 0 (length actions) ≡ true = grind (arith, nat_tests) in
     ap not (whole_joined actions is ∙ some)
 
-actions_at : (empty : Bool) (actions : List (List ℕ)) → (length actions == 0) ≡ empty → IsActions actions → actions_of (unwrap_or (actions_octets empty actions) []) ≡ actions
+actions_at : (empty : Bool) (actions : List (List ℕ)) → (length actions == 0) ≡ empty → IsActions actions
+    → actions_of (unwrap_or (actions_octets empty actions) []) ≡ actions
 actions_at true actions e is = let none : actions ≡ [] = nil_from_length actions (eqb-true (length actions) 0 e) in sym none
 actions_at false actions e is = actions_back actions is
 
 pub actions_read : (terms : Terms) (update : Update) (path : Path) → update.path ≡ Some path → IsActions update.actions
     → actions_of (unwrap_or (value_of 16 (written_attributes terms update)) []) ≡ update.actions
 actions_read terms update path there is =
-    ap (λ (z : Option (List ℕ)). actions_of (unwrap_or z [])) (actions_value terms update path there) ∙ actions_at (length update.actions == 0) update.actions refl is
+    ap (λ (z : Option (List ℕ)). actions_of (unwrap_or z [])) (actions_value terms update path there)
+    ∙ actions_at (length update.actions == 0) update.actions refl is
 
 -- the whole path
 
@@ -138,7 +155,8 @@ pub record IsGiven (terms : Terms) (actions : List (List ℕ)) (path : Path) : T
 pub path_back : (terms : Terms) (update : Update) (path : Path) → update.path ≡ Some path → IsGiven terms update.actions path
     → (path_of terms (values_of (written_attributes terms update)) ≡ path) × (withdraws terms (values_of (written_attributes terms update)) true ≡ false)
 path_back terms update path there given =
-    let fits = fit_segments terms.four terms.external path.segments given.written (recursion_from_All AreNumbers path.segments given.sound.segments) given.kept in
+    let fits = fit_segments terms.four terms.external path.segments given.written (recursion_from_All AreNumbers path.segments given.sound.segments)
+    given.kept in
     rw (
       origin_value terms update path there,
       segments_value terms update path there,

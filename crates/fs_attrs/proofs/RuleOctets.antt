@@ -1,5 +1,10 @@
 -- The canonical frame of a rule is octets.
-use Rattle.fs_attrs.proofs.Words.{◌≡◌, ℕ, ◌+◌, ◌-◌, ◌*◌, ◌/◌, ◌%◌, ◌^◌, ◌<◌, ◌≤◌, Bool, true, false, List, [], ◌∷◌, Option, Some, None, length, nat_lt, if◌then◌else◌, refl, subst, arith, inl, inr, flat_map, AllByRecursion, cases_lt, ltb-true, get_or_past, big_bytes, Family, V4, V6, IsOctets, octets_append, octets_cons, octets_nil, meant_bits, IsNormalPair, pair_octets, Form, V4Form, V6Form, ListForm, form_of, forms, Body, V4Body, V6Body, ListBody, Part, Ruled, IsRange, octets_for, AreNormal, IsNormalAt, IsNormalBody, IsRule, canonical_body, canonical_frame, canonical_length, canonical_part, canonical_value, first_octets}
+use Rattle.fs_attrs.proofs.Words.{◌≡◌, ℕ, ◌+◌, ◌-◌, ◌*◌, ◌/◌, ◌%◌, ◌^◌, ◌<◌, ◌≤◌, Bool, true, false, List, [], ◌∷◌, Option, Some, None, length}
+use Rattle.fs_attrs.proofs.Words.{nat_lt, if◌then◌else◌, refl, subst, arith, inl, inr, flat_map, AllByRecursion, cases_lt, ltb-true, get_or_past}
+use Rattle.fs_attrs.proofs.Words.{big_bytes, Family, V4, V6, IsOctets, octets_append, octets_cons, octets_nil, meant_bits, IsNormalPair, pair_octets}
+use Rattle.fs_attrs.proofs.Words.{Form, V4Form, V6Form, ListForm, form_of, forms, Body, V4Body, V6Body, ListBody, Part, Ruled, IsRange, octets_for}
+use Rattle.fs_attrs.proofs.Words.{AreNormal, IsNormalAt, IsNormalBody, IsRule, canonical_body, canonical_frame, canonical_length, canonical_part}
+use Rattle.fs_attrs.proofs.Words.{canonical_value, first_octets}
 use Rattle.std.{specs.Prelude.{bit_and}, proofs.lemmas.Nat.{and_le_r}}
 use Rattle.fs_base.proofs.Digits.{big_octets}
 use Rattle.fs_ops.{specs.{Operator.{width_of}, OperatorList.{AreNormal as AreNormalPairs, canonical as canonical_pairs}}, proofs.Canonical.{small_bits}}

@@ -1,8 +1,24 @@
 -- The rules of a field as they are read from the front are the outcome that the grammar of flow rules gives.
 use Rattle.std.proofs.Common.{append-nil}
-use Rattle.fs_attrs.proofs.Words.{◌≡◌, ℕ, zero, suc, ◌+◌, ◌-◌, ◌<◌, ◌≤◌, ◌==◌, Bool, true, false, List, [], ◌∷◌, ◌++◌, Option, Some, None, Result, Ok, Err, Any, Contains, length, take, drop, refl, ap, sym, subst, ◌∙◌, arith, ◌⊎◌, inl, inr, bit_and, append_assoc, length-append, length-drop, list_any, take-append-drop, take_rest, Contains-append_right, Contains-push_cases, Contains-append_cases, cases_lt, cases_eq, cases_Bool, lt-ltb, le-ltb, le-leb, eq-eqb, ne_eqb, big_number, Family, IsOctets, octets_drop, counted_bits, ends, width_code, text, Reason, Bad, Form, V4Form, V6Form, ListForm, form_of, forms, Body, Part, part, Ruled, SpellsBody, Spells, IsRange, IsLength, IsFrame, octets_for, IsFrameOutcome, IsFieldOutcome, list_bad, v4_at, v6_at, with_pair, pairs_at, list_body, body_at, behind_type, typed_at, with_component, components_of, components_in, length_at, framed, sized_at, frame_at, with_rule, frames_of, rules_of}
-use Rattle.fs_ops.{specs.{declared.{kind.Kind.{Kind}, fault.OpsFault.TheVariants.{Cut as ListCut, Width as ListWidth}}, Operator.{width_of}, OperatorList.{Spells as SpellsPairs}, Fault.{IsFault}}, proofs.Found.{cut_between, cut_within, bad_width, next_found, goes_on, ends_here, HasRead as HasPairs}}
-use Rattle.fs_nlri.{specs.{declared.fault.Reason.TheVariants.{Cut, NoType, Order, PrefixLength, Offset, Width, Length}, Making.{is_range}, Fault.{IsValueBad, IsOpen}}, proofs.{Bodies.{v4_empty, v4_length, v4_cut, v6_empty, v6_length, v6_one, v6_offset, v6_cut}, ValueSteps.{HasRead, start, finished, no_type, not_above, bad_at}, Frames.{frame_found, frame_bad}, Every.{IsBodyOutcome, IsValueOutcome, AllowsSome, allows_at, all_allow, v4_whole, v6_whole, range_or_not, more_part, none_is_not_some, some_is, open_empty, open_one, passes_end, frame_before_bad, frame_some}, InNormalForm.{range_is}}}
+use Rattle.fs_attrs.proofs.Words.{◌≡◌, ℕ, zero, suc, ◌+◌, ◌-◌, ◌<◌, ◌≤◌, ◌==◌, Bool, true, false, List, [], ◌∷◌, ◌++◌, Option, Some, None, Result, Ok}
+use Rattle.fs_attrs.proofs.Words.{Err, Any, Contains, length, take, drop, refl, ap, sym, subst, ◌∙◌, arith, ◌⊎◌, inl, inr, bit_and, append_assoc}
+use Rattle.fs_attrs.proofs.Words.{length-append, length-drop, list_any, take-append-drop, take_rest, Contains-append_right, Contains-push_cases}
+use Rattle.fs_attrs.proofs.Words.{Contains-append_cases, cases_lt, cases_eq, cases_Bool, lt-ltb, le-ltb, le-leb, eq-eqb, ne_eqb, big_number, Family}
+use Rattle.fs_attrs.proofs.Words.{IsOctets, octets_drop, counted_bits, ends, width_code, text, Reason, Bad, Form, V4Form, V6Form, ListForm, form_of}
+use Rattle.fs_attrs.proofs.Words.{forms, Body, Part, part, Ruled, SpellsBody, Spells, IsRange, IsLength, IsFrame, octets_for, IsFrameOutcome}
+use Rattle.fs_attrs.proofs.Words.{IsFieldOutcome, list_bad, v4_at, v6_at, with_pair, pairs_at, list_body, body_at, behind_type, typed_at}
+use Rattle.fs_attrs.proofs.Words.{with_component, components_of, components_in, length_at, framed, sized_at, frame_at, with_rule, frames_of, rules_of}
+use Rattle.fs_ops.specs.declared.{kind.Kind.{Kind}, fault.OpsFault.TheVariants.{Cut as ListCut, Width as ListWidth}}
+use Rattle.fs_ops.specs.{Operator.{width_of}, OperatorList.{Spells as SpellsPairs}, Fault.{IsFault}}
+use Rattle.fs_ops.proofs.Found.{cut_between, cut_within, bad_width, next_found, goes_on, ends_here, HasRead as HasPairs}
+use Rattle.fs_nlri.specs.declared.fault.Reason.TheVariants.{Cut, NoType, Order, PrefixLength, Offset, Width, Length}
+use Rattle.fs_nlri.specs.{Making.{is_range}, Fault.{IsValueBad, IsOpen}}
+use Rattle.fs_nlri.proofs.Bodies.{v4_empty, v4_length, v4_cut, v6_empty, v6_length, v6_one, v6_offset, v6_cut}
+use Rattle.fs_nlri.proofs.ValueSteps.{HasRead, start, finished, no_type, not_above, bad_at}
+use Rattle.fs_nlri.proofs.Frames.{frame_found, frame_bad}
+use Rattle.fs_nlri.proofs.Every.{IsBodyOutcome, IsValueOutcome, AllowsSome, allows_at, all_allow, v4_whole, v6_whole, range_or_not, more_part}
+use Rattle.fs_nlri.proofs.Every.{none_is_not_some, some_is, open_empty, open_one, passes_end, frame_before_bad, frame_some}
+use Rattle.fs_nlri.proofs.InNormalForm.{range_is}
 
 -- Prefixes
 
@@ -99,7 +115,8 @@ IsPairsOutcome kind widths octets (Err bad) = IsListBad widths octets bad.0 bad.
 not_none : (pairs : List (ℕ × ℕ)) (pair : ℕ × ℕ) → (length (pairs ++ pair ∷ []) == 0) ≡ false
 not_none pairs pair = ne_eqb (length (pairs ++ pair ∷ [])) 0 (λ none. absurd (omega (arith, none, length-append pairs (pair ∷ []))))
 
-pairs_are : (kind : Kind) (widths octets : List ℕ) → Any (λ code. code < 4) widths → (most : ℕ) (rest : List ℕ) (pairs : List (ℕ × ℕ)) → HasPairs kind widths octets rest pairs → length rest < most
+pairs_are : (kind : Kind) (widths octets : List ℕ) → Any (λ code. code < 4) widths → (most : ℕ) (rest : List ℕ) (pairs : List (ℕ × ℕ))
+    → HasPairs kind widths octets rest pairs → length rest < most
     → IsPairsOutcome kind widths octets (joined pairs (length octets - length rest) (pairs_at kind widths (length pairs == 0) most rest))
 unfolding pairs_at
 pairs_are kind widths octets some zero rest pairs read enough = absurd (omega arith)
@@ -108,16 +125,19 @@ pairs_are kind widths octets some (suc most) [] pairs read enough =
     let e : length octets ≡ length octets - length empty + 0 = omega arith in
     subst (λ (n : ℕ). IsFault widths octets (ListCut n)) e (cut_between kind widths octets [] pairs some read refl)
 pairs_are kind widths octets some (suc most) (operator ∷ tail) pairs read enough =
-    let inside : suc (length tail) ≤ length octets = omega (arith, ap (λ (l : List ℕ). length l) read.split, length-append (text read.before) (operator ∷ tail)) in
+    let inside : suc (length tail) ≤ length octets =
+    omega (arith, ap (λ (l : List ℕ). length l) read.split, length-append (text read.before) (operator ∷ tail)) in
     elim (told widths (width_code operator)) [
       | inr refused ↦
           let e : length octets - length (operator ∷ tail) ≡ length octets - length (operator ∷ tail) + 0 = omega arith in
-          rw refused.1 (subst (λ (n : ℕ). IsFault widths octets (ListWidth n)) e (bad_width kind widths octets (operator ∷ tail) pairs operator tail some read refl refused.0))
+          rw refused.1 (subst (λ (n : ℕ). IsFault widths octets (ListWidth n)) e
+          (bad_width kind widths octets (operator ∷ tail) pairs operator tail some read refl refused.0))
       | inl allowed ↦ rw allowed.1 (elim (cases_lt (length tail) (width_of operator)) [
         | inl short ↦
             let e : length octets ≡ length octets - length (operator ∷ tail) + (1 + length tail) = omega (arith, inside) in
             rw (lt-ltb (length tail) (width_of operator) short)
-            (subst (λ (n : ℕ). IsFault widths octets (ListCut n)) e (cut_within kind widths octets (operator ∷ tail) pairs operator tail some read refl allowed.0 short))
+            (subst (λ (n : ℕ). IsFault widths octets (ListCut n)) e
+            (cut_within kind widths octets (operator ∷ tail) pairs operator tail some read refl allowed.0 short))
         | inr room ↦
             let next : List ℕ = drop (width_of operator) tail in
             let value : List ℕ = take (width_of operator) tail in
@@ -139,7 +159,8 @@ pairs_are kind widths octets some (suc most) (operator ∷ tail) pairs read enou
                   subst (λ (b : Bool). IsPairsOutcome kind widths octets (joined more (length octets - length next) (pairs_at kind widths b most next)))
                   (not_none pairs (cleared, big_number (width_of operator) value)) later in
                   rw going (subst (IsPairsOutcome kind widths octets)
-                  (joined_more pairs (cleared, big_number (width_of operator) value) (length octets - length (operator ∷ tail)) (1 + width_of operator) (length octets - length next) (pairs_at kind widths false most next) e) behind)
+                  (joined_more pairs (cleared, big_number (width_of operator) value) (length octets - length (operator ∷ tail))
+                  (1 + width_of operator) (length octets - length next) (pairs_at kind widths false most next) e) behind)
             ])
       ])
     ]
@@ -209,7 +230,8 @@ typed_is family octets kind tail last parts read = by (form_of family kind) refl
         subst (λ (n : ℕ). IsValueBad family octets NoType n) start_is
         (no_type family octets (kind ∷ tail) last parts read some_octets (none_is_not_some (form_of family kind) is))
     by (Some form) is = elim (cases_lt last kind) [
-      | inl rises ↦ rw (lt-ltb last kind rises) (behind form is rises (body_at form tail) (body_is form tail (allows_at (forms family) kind form (all_allow family) is)))
+      | inl rises ↦ rw (lt-ltb last kind rises)
+          (behind form is rises (body_at form tail) (body_is form tail (allows_at (forms family) kind form (all_allow family) is)))
       | inr low ↦
           rw (le-ltb last kind low) (subst (λ (n : ℕ). IsValueBad family octets Order n) start_is
           (not_above family octets (kind ∷ tail) last parts read some_octets (some_is (form_of family kind) form is) low))
@@ -229,7 +251,8 @@ parts_more before one count more all (Err bad) e =
     let sum : all + bad.1 ≡ count + (more + bad.1) = omega (arith, e) in
     ap (λ (n : ℕ). let read : PartsRead = Err (bad.0, n) in read) sum
 
-components_are : (family : Family) (octets : List ℕ) (most : ℕ) (rest : List ℕ) (last : ℕ) (parts : List Part) → HasRead family octets rest last parts → length rest < most
+components_are : (family : Family) (octets : List ℕ) (most : ℕ) (rest : List ℕ) (last : ℕ) (parts : List Part) → HasRead family octets rest last parts
+    → length rest < most
     → IsValueOutcome family octets (joined_parts parts (length octets - length rest) (components_of family most last rest))
 unfolding components_of
 components_are family octets zero rest last parts read enough = absurd (omega arith)
@@ -248,9 +271,11 @@ components_are family octets (suc most) (kind ∷ tail) last parts read enough =
           let less : length next < most = omega (arith, length-drop found.1 tail) in
           let inside : suc (length tail) ≤ length octets = omega (arith, ap (λ (l : List ℕ). length l) read.split, length-append read.front (kind ∷ tail)) in
           let within : found.1 ≤ length tail = h.3 in
-          let e : length octets - length next ≡ length octets - length (kind ∷ tail) + (1 + found.1) = omega (arith, inside, within, length-drop found.1 tail) in
+          let e : length octets - length next ≡ length octets - length (kind ∷ tail) + (1 + found.1) =
+          omega (arith, inside, within, length-drop found.1 tail) in
           subst (IsValueOutcome family octets)
-          (parts_more parts (part kind found.0) (length octets - length (kind ∷ tail)) (1 + found.1) (length octets - length next) (components_of family most kind next) e)
+          (parts_more parts (part kind found.0) (length octets - length (kind ∷ tail)) (1 + found.1) (length octets - length next)
+          (components_of family most kind next) e)
           (components_are family octets most next kind (parts ++ part kind found.0 ∷ [])
           (more_part family octets kind tail last parts h.0 found.1 found.0 read h.2 h.1 h.4) less)
       | Err bad ↦ λ h. h
@@ -262,7 +287,8 @@ value_is family octets =
     let none : length octets - length octets ≡ 0 = omega arith in
     by (components_in family octets) none (components_are family octets (suc (length octets)) octets 0 [] (start family octets) enough)
   where
-    by : (found : PartsRead) → length octets - length octets ≡ 0 → IsValueOutcome family octets (joined_parts [] (length octets - length octets) found) → IsValueOutcome family octets found
+    by : (found : PartsRead) → length octets - length octets ≡ 0
+        → IsValueOutcome family octets (joined_parts [] (length octets - length octets) found) → IsValueOutcome family octets found
     by (Ok found) none h = h
     by (Err bad) none h =
         let e : length octets - length octets + bad.1 ≡ bad.1 = omega (arith, none) in
@@ -285,15 +311,18 @@ length_is (first ∷ second ∷ tail) small = elim (cases_lt first 240) [
   | inr large ↦ rw (le-ltb first 240 large) (omega arith, (large, small 0 0 (omega arith), small 1 0 (omega arith), refl))
 ]
 
-sized_is : (family : Family) (octets : List ℕ) (head len : ℕ) → head ≤ length octets → IsLength (take head octets) len → IsFrameOutcome family octets (sized_at family head len octets)
+sized_is : (family : Family) (octets : List ℕ) (head len : ℕ) → head ≤ length octets → IsLength (take head octets) len
+    → IsFrameOutcome family octets (sized_at family head len octets)
 sized_is family octets head len inside is = elim (cases_lt (length (drop head octets)) len) [
   | inl few ↦
       rw (lt-ltb (length (drop head octets)) len few)
       (passes_end octets head len is (subst (λ (l : List ℕ). length l < len) (sym (take_rest octets head)) few), refl)
-  | inr room ↦ rw (le-ltb (length (drop head octets)) len room) (by room (components_in family (take len (drop head octets))) (value_is family (take len (drop head octets))))
+  | inr room ↦ rw (le-ltb (length (drop head octets)) len room)
+      (by room (components_in family (take len (drop head octets))) (value_is family (take len (drop head octets))))
 ]
   where
-    by : len ≤ length (drop head octets) → (found : PartsRead) → IsValueOutcome family (take len (drop head octets)) found → IsFrameOutcome family octets (framed family (head + len) found)
+    by : len ≤ length (drop head octets) → (found : PartsRead) → IsValueOutcome family (take len (drop head octets)) found
+        → IsFrameOutcome family octets (framed family (head + len) found)
     by room (Ok parts) h = (
       omega (arith, inside, room, length-drop head octets),
       refl,
@@ -314,7 +343,8 @@ frame_is family octets small = by (length_at octets) (length_is octets small)
 
 -- Fields
 
-framed_more : (family : Family) (frame rest : List ℕ) (rule : Ruled) (later : Result (List Ruled) (Reason × ℕ)) → rule.family ≡ family → IsFrame frame rule → IsFieldOutcome family rest later
+framed_more : (family : Family) (frame rest : List ℕ) (rule : Ruled) (later : Result (List Ruled) (Reason × ℕ)) → rule.family ≡ family
+    → IsFrame frame rule → IsFieldOutcome family rest later
     → IsFieldOutcome family (frame ++ rest) (with_rule rule later)
 framed_more family frame rest rule (Ok rules) families is holds = (frame, rest, refl, families, is, holds)
 framed_more family frame rest rule (Err bad) families is holds = frame_before_bad family frame rest rule bad families is holds
@@ -327,7 +357,8 @@ shorter (suc n) (octet ∷ rest) most enough some = omega (arith, length-drop n 
 not_nil : (octet : ℕ) (tail : List ℕ) → octet ∷ tail ≡ [] → ⊥
 not_nil octet tail none = cc
 
-frames_are : (family : Family) (most : ℕ) (octets : List ℕ) → IsOctets octets → length octets < most → IsFieldOutcome family octets (frames_of family most octets)
+frames_are : (family : Family) (most : ℕ) (octets : List ℕ) → IsOctets octets → length octets < most
+    → IsFieldOutcome family octets (frames_of family most octets)
 unfolding frames_of
 frames_are family zero octets small enough = absurd (omega arith)
 frames_are family (suc most) [] small enough = refl
@@ -338,7 +369,8 @@ frames_are family (suc most) (octet ∷ tail) small enough =
       | Err bad ↦ Err bad
     ])) [
       | Ok found ↦ λ h.
-          let later = frames_are family most (drop found.1 octets) (octets_drop found.1 octets small) (shorter found.1 octets most enough (frame_some (take found.1 octets) found.0 h.2)) in
+          let later = frames_are family most (drop found.1 octets) (octets_drop found.1 octets small)
+          (shorter found.1 octets most enough (frame_some (take found.1 octets) found.0 h.2)) in
           subst (λ (l : List ℕ). IsFieldOutcome family l (with_rule found.0 (frames_of family most (drop found.1 octets)))) (take-append-drop found.1 octets)
           (framed_more family (take found.1 octets) (drop found.1 octets) found.0 (frames_of family most (drop found.1 octets)) h.1 h.2 later)
       | Err bad ↦ λ h. record { front = []; rules = []; rest = octets; frames = refl; split = refl; some = λ none. not_nil octet tail none; bad = h }

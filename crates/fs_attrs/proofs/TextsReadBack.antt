@@ -1,5 +1,12 @@
 -- What is written of fields, attributes, prefixes and segments is read back as it was.
-use Rattle.fs_attrs.proofs.{Words.{◌≡◌, ℕ, suc, ◌+◌, ◌-◌, ◌*◌, ◌/◌, ◌^◌, ◌<◌, ◌≤◌, ◌==◌, Bool, true, false, ◌||◌, nat_le, nat_lt, List, [], ◌∷◌, ◌++◌, length, drop, Option, Some, None, refl, sym, ap, subst, ◌∙◌, arith, if◌then◌else◌, length-append, append_assoc, bit_or, flat_map, AllByRecursion, take_at, drop_at, nat_tests, big_number, big_bytes, length-bytes_high_first, big_number-reads_back, Shrinks, parts_of, with_part, parts_end, parts_step, Family, V4, V6, Segment, width_of, cleared, octets_for, first_octets, octets_back, Attribute, sized, long_field, first_attribute, Shown, first_prefix, are_prefixes, prefixes_of, as_width, first_as, numbers_of, first_segment, segments_of, are_segments, as_text, segment_text, segments_text, long_text, prefix_text, prefixes_text, flags_of, attribute_text}, PartSizes.{attribute_shrinks, prefix_shrinks, as_shrinks, segment_shrinks}}
+use Rattle.fs_attrs.proofs.Words.{◌≡◌, ℕ, suc, ◌+◌, ◌-◌, ◌*◌, ◌/◌, ◌^◌, ◌<◌, ◌≤◌, ◌==◌, Bool, true, false, ◌||◌, nat_le, nat_lt, List, [], ◌∷◌, ◌++◌}
+use Rattle.fs_attrs.proofs.Words.{length, drop, Option, Some, None, refl, sym, ap, subst, ◌∙◌, arith, if◌then◌else◌, length-append, append_assoc}
+use Rattle.fs_attrs.proofs.Words.{bit_or, flat_map, AllByRecursion, take_at, drop_at, nat_tests, big_number, big_bytes, length-bytes_high_first}
+use Rattle.fs_attrs.proofs.Words.{big_number-reads_back, Shrinks, parts_of, with_part, parts_end, parts_step, Family, V4, V6, Segment, width_of}
+use Rattle.fs_attrs.proofs.Words.{cleared, octets_for, first_octets, octets_back, Attribute, sized, long_field, first_attribute, Shown, first_prefix}
+use Rattle.fs_attrs.proofs.Words.{are_prefixes, prefixes_of, as_width, first_as, numbers_of, first_segment, segments_of, are_segments, as_text}
+use Rattle.fs_attrs.proofs.Words.{segment_text, segments_text, long_text, prefix_text, prefixes_text, flags_of, attribute_text}
+use Rattle.fs_attrs.proofs.PartSizes.{attribute_shrinks, prefix_shrinks, as_shrinks, segment_shrinks}
 use Rattle.std.specs.Prelude.{bit_and}
 use Rattle.fs_message.specs.Write.{as_field}
 
@@ -24,7 +31,8 @@ sized_front size front rest e =
     let long : nat_le size (length (front ++ rest)) ≡ true = grind (arith, nat_tests) in
     rw (long, take_at front rest size (sym e), drop_at front rest size (sym e)) refl
 
-long_by : (head octets rest : List ℕ) → length head ≡ 2 → big_number 2 (head ++ (octets ++ rest)) ≡ length octets → long_field ((head ++ octets) ++ rest) ≡ Some (octets, rest)
+long_by : (head octets rest : List ℕ) → length head ≡ 2 → big_number 2 (head ++ (octets ++ rest)) ≡ length octets
+    → long_field ((head ++ octets) ++ rest) ≡ Some (octets, rest)
 long_by head octets rest size number =
     let both : length (head ++ (octets ++ rest)) ≡ length head + length (octets ++ rest) = length-append head (octets ++ rest) in
     let long : nat_lt (length (head ++ (octets ++ rest))) 2 ≡ false = grind (arith, nat_tests) in
@@ -32,7 +40,8 @@ long_by head octets rest size number =
 
 pub long_read : (octets rest : List ℕ) → length octets < 65536 → long_field (long_text octets ++ rest) ≡ Some (octets, rest)
 long_read octets rest small =
-    long_by (big_bytes 2 (length octets)) octets rest (length-bytes_high_first 2 (length octets)) (big_number-reads_back 2 (length octets) (octets ++ rest) small)
+    long_by (big_bytes 2 (length octets)) octets rest (length-bytes_high_first 2 (length octets))
+    (big_number-reads_back 2 (length octets) (octets ++ rest) small)
 
 -- attributes
 
@@ -80,7 +89,8 @@ all_fit (given ∷ list) small =
     let long : length given.value ≤ length (attribute_text given) = long_at (nat_lt 255 (length given.value)) given in
     (omega arith, all_fit list (omega arith))
 
-pub attributes_read : (list : List Attribute) → length (flat_map attribute_text list) < 65536 → parts_of first_attribute (flat_map attribute_text list) ≡ (list, [])
+pub attributes_read : (list : List Attribute) → length (flat_map attribute_text list) < 65536
+    → parts_of first_attribute (flat_map attribute_text list) ≡ (list, [])
 attributes_read list small = parts_spelled first_attribute attribute_text Fits attribute_shrinks refl reads_attribute list (all_fit list small)
 
 -- prefixes
@@ -110,13 +120,16 @@ reads_prefix family prefix rest is =
     subst (λ (f : Family). first_prefix family (prefix_text (f, prefix.1, prefix.2) ++ rest) ≡ Some ((f, prefix.1, prefix.2), rest)) (sym is.same)
     (prefix_at family prefix.1 prefix.2 rest is.short is.clear)
 
-prefixes_parts : (family : Family) (prefixes : List Shown) → AllByRecursion (IsShown family) prefixes → parts_of (first_prefix family) (prefixes_text prefixes) ≡ (prefixes, [])
-prefixes_parts family prefixes all = parts_spelled (first_prefix family) prefix_text (IsShown family) (prefix_shrinks family) refl (reads_prefix family) prefixes all
+prefixes_parts : (family : Family) (prefixes : List Shown) → AllByRecursion (IsShown family) prefixes
+    → parts_of (first_prefix family) (prefixes_text prefixes) ≡ (prefixes, [])
+prefixes_parts family prefixes all =
+    parts_spelled (first_prefix family) prefix_text (IsShown family) (prefix_shrinks family) refl (reads_prefix family) prefixes all
 
 pub prefixes_whole : (family : Family) (prefixes : List Shown) → AllByRecursion (IsShown family) prefixes → are_prefixes family (prefixes_text prefixes) ≡ true
 prefixes_whole family prefixes all = ap (λ (z : List Shown × List ℕ). length z.1 == 0) (prefixes_parts family prefixes all)
 
-pub prefixes_read : (family : Family) (prefixes : List Shown) → AllByRecursion (IsShown family) prefixes → prefixes_of family (prefixes_text prefixes) ≡ prefixes
+pub prefixes_read : (family : Family) (prefixes : List Shown) → AllByRecursion (IsShown family) prefixes
+    → prefixes_of family (prefixes_text prefixes) ≡ prefixes
 prefixes_read family prefixes all = ap (λ (z : List Shown × List ℕ). z.0) (prefixes_parts family prefixes all)
 
 -- segments
@@ -165,10 +178,12 @@ numbers_size four (asn ∷ numbers) =
     ∙ ap (λ (n : ℕ). as_width four + n) (numbers_size four numbers))
 
 pub numbers_read : (four : Bool) (numbers : List ℕ) → AllByRecursion (FitsAs four) numbers → numbers_of four (flat_map (as_text four) numbers) ≡ numbers
-numbers_read four numbers all = ap (λ (z : List ℕ × List ℕ). z.0) (parts_spelled (first_as four) (as_text four) (FitsAs four) (as_shrinks four) (none_left four) (reads_as four) numbers all) where
-  none_left : (four : Bool) → first_as four [] ≡ None
-  none_left true = refl
-  none_left false = refl
+numbers_read four numbers all =
+    ap (λ (z : List ℕ × List ℕ). z.0)
+    (parts_spelled (first_as four) (as_text four) (FitsAs four) (as_shrinks four) (none_left four) (reads_as four) numbers all) where
+      none_left : (four : Bool) → first_as four [] ≡ None
+      none_left true = refl
+      none_left false = refl
 
 pub record FitsSegment (four : Bool) (given : Segment) : Type 0 where
   pub some : 1 ≤ length given.numbers
@@ -185,13 +200,25 @@ reads_segment four given rest fits =
     let four_ : nat_le given.form 4 ≡ true = let h = fits.highest in grind (arith, nat_tests) in
     let some : nat_lt 0 (length given.numbers) ≡ true = let h = fits.some in grind (arith, nat_tests) in
     let long : nat_le (length given.numbers * as_width four) (length (octets ++ rest)) ≡ true = grind (arith, nat_tests) in
-    rw (one, four_, some, long, take_at octets rest (length given.numbers * as_width four) size, drop_at octets rest (length given.numbers * as_width four) size, numbers_read four given.numbers fits.numbers) refl
+    rw (
+      one,
+      four_,
+      some,
+      long,
+      take_at octets rest (length given.numbers * as_width four) size,
+      drop_at octets rest (length given.numbers * as_width four) size,
+      numbers_read four given.numbers fits.numbers,
+    ) refl
 
-segments_parts : (four : Bool) (segments : List Segment) → AllByRecursion (FitsSegment four) segments → parts_of (first_segment four) (segments_text four segments) ≡ (segments, [])
-segments_parts four segments all = parts_spelled (first_segment four) (segment_text four) (FitsSegment four) (segment_shrinks four) refl (reads_segment four) segments all
+segments_parts : (four : Bool) (segments : List Segment) → AllByRecursion (FitsSegment four) segments
+    → parts_of (first_segment four) (segments_text four segments) ≡ (segments, [])
+segments_parts four segments all =
+    parts_spelled (first_segment four) (segment_text four) (FitsSegment four) (segment_shrinks four) refl (reads_segment four) segments all
 
-pub segments_whole : (four : Bool) (segments : List Segment) → AllByRecursion (FitsSegment four) segments → are_segments four (segments_text four segments) ≡ true
+pub segments_whole : (four : Bool) (segments : List Segment) → AllByRecursion (FitsSegment four) segments
+    → are_segments four (segments_text four segments) ≡ true
 segments_whole four segments all = ap (λ (z : List Segment × List ℕ). length z.1 == 0) (segments_parts four segments all)
 
-pub segments_read : (four : Bool) (segments : List Segment) → AllByRecursion (FitsSegment four) segments → segments_of four (segments_text four segments) ≡ segments
+pub segments_read : (four : Bool) (segments : List Segment) → AllByRecursion (FitsSegment four) segments
+    → segments_of four (segments_text four segments) ≡ segments
 segments_read four segments all = ap (λ (z : List Segment × List ℕ). z.0) (segments_parts four segments all)

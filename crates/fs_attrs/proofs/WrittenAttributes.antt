@@ -1,5 +1,9 @@
 -- The values of the attributes that are written, type by type.
-use Rattle.fs_attrs.proofs.{Words.{◌≡◌, ℕ, suc, ◌==◌, Bool, true, false, nat_lt, List, [], ◌∷◌, ◌++◌, length, Option, Some, None, refl, ap, ◌∙◌, arith, if◌then◌else◌, option_map, find, filter, is_some, option_or, concat, find-append, nat_tests, big_bytes, Path, Terms, Routes, Update, Attribute, attribute, value_of, is_doubled, reach_text, unreach_text, reach_in, unreach_in, next_hop_in, local_pref_in, originator_in, actions_in, path_in, written_attributes, segments_text}, AttributeScans.{value_here, above_one, there}}
+use Rattle.fs_attrs.proofs.Words.{◌≡◌, ℕ, suc, ◌==◌, Bool, true, false, nat_lt, List, [], ◌∷◌, ◌++◌, length, Option, Some, None, refl, ap, ◌∙◌, arith}
+use Rattle.fs_attrs.proofs.Words.{if◌then◌else◌, option_map, find, filter, is_some, option_or, concat, find-append, nat_tests, big_bytes, Path, Terms}
+use Rattle.fs_attrs.proofs.Words.{Routes, Update, Attribute, attribute, value_of, is_doubled, reach_text, unreach_text, reach_in, unreach_in}
+use Rattle.fs_attrs.proofs.Words.{next_hop_in, local_pref_in, originator_in, actions_in, path_in, written_attributes, segments_text}
+use Rattle.fs_attrs.proofs.AttributeScans.{value_here, above_one, there}
 
 -- no attribute is of the type
 abbrev Lacks : ℕ → List Attribute → Type 0
@@ -47,9 +51,13 @@ path_lacks : (kind : ℕ) (terms : Terms) (update : Update) (path : Option Path)
     → Lacks kind (path_in terms update path)
 path_lacks kind terms update None a b c d e f = refl
 path_lacks kind terms update (Some path) a b c d e f =
-    both_lack kind (attribute 1 (path.origin ∷ []) ∷ []) (attribute 2 (segments_text terms.four path.segments) ∷ tail_in terms update path) (one_lacks kind 1 (path.origin ∷ []) a)
-    (both_lack kind (attribute 2 (segments_text terms.four path.segments) ∷ []) (tail_in terms update path) (one_lacks kind 2 (segments_text terms.four path.segments) b)
-    (both_lack kind (next_hop_in terms update.classic_in) (local_pref_in terms path.local_pref ++ (originator_in path.originator ++ actions_in update.actions)) (some_lacks kind 3 _ (length update.classic_in == 0) c)
+    both_lack kind (attribute 1 (path.origin ∷ []) ∷ []) (attribute 2 (segments_text terms.four path.segments) ∷ tail_in terms update path)
+    (one_lacks kind 1 (path.origin ∷ []) a)
+    (both_lack kind (attribute 2 (segments_text terms.four path.segments) ∷ []) (tail_in terms update path)
+    (one_lacks kind 2 (segments_text terms.four path.segments) b)
+    (both_lack kind (next_hop_in terms update.classic_in)
+    (local_pref_in terms path.local_pref ++ (originator_in path.originator ++ actions_in update.actions))
+    (some_lacks kind 3 _ (length update.classic_in == 0) c)
     (both_lack kind (local_pref_in terms path.local_pref) (originator_in path.originator ++ actions_in update.actions) (some_lacks kind 5 _ terms.external d)
     (both_lack kind (originator_in path.originator) (actions_in update.actions) (originator_lacks kind path.originator e)
     (some_lacks kind 16 _ (length update.actions == 0) f)))))
@@ -62,7 +70,8 @@ reach_value terms update = by update.reach where
   rest = unreach_in update.unreach ++ path_in terms update update.path
 
   lacks : Lacks 14 rest
-  lacks = both_lack 14 (unreach_in update.unreach) (path_in terms update update.path) (unreach_lacks 14 update.unreach refl) (path_lacks 14 terms update update.path refl refl refl refl refl refl)
+  lacks = both_lack 14 (unreach_in update.unreach) (path_in terms update update.path) (unreach_lacks 14 update.unreach refl)
+      (path_lacks 14 terms update update.path refl refl refl refl refl refl)
 
   by : (reach : Option Routes) → value_of 14 (reach_in terms reach ++ rest) ≡ option_map (reach_text terms.address) reach
   by None = lacks
@@ -70,7 +79,8 @@ reach_value terms update = by update.reach where
 
 pub unreach_value : (terms : Terms) (update : Update) → value_of 15 (written_attributes terms update) ≡ option_map unreach_text update.unreach
 unreach_value terms update =
-    behind 15 (reach_in terms update.reach) (unreach_in update.unreach ++ path_in terms update update.path) (reach_lacks 15 terms update.reach refl) ∙ by update.unreach where
+    behind 15 (reach_in terms update.reach) (unreach_in update.unreach ++ path_in terms update update.path) (reach_lacks 15 terms update.reach refl)
+    ∙ by update.unreach where
       lacks : Lacks 15 (path_in terms update update.path)
       lacks = path_lacks 15 terms update update.path refl refl refl refl refl refl
 
@@ -95,7 +105,8 @@ reach_once terms update = by update.reach where
   rest = unreach_in update.unreach ++ path_in terms update update.path
 
   lacks : Lacks 14 rest
-  lacks = both_lack 14 (unreach_in update.unreach) (path_in terms update update.path) (unreach_lacks 14 update.unreach refl) (path_lacks 14 terms update update.path refl refl refl refl refl refl)
+  lacks = both_lack 14 (unreach_in update.unreach) (path_in terms update update.path) (unreach_lacks 14 update.unreach refl)
+      (path_lacks 14 terms update update.path refl refl refl refl refl refl)
 
   by : (reach : Option Routes) → is_doubled 14 (reach_in terms reach ++ rest) ≡ false
   by None = lacks_once 14 rest lacks
@@ -113,7 +124,8 @@ unreach_once terms update = by update.reach update.unreach where
   by (Some reach) (Some routes) = alone_once 15 (path_in terms update update.path) lacks
 
 -- without a path no other attribute stands
-pub none_value : (kind : ℕ) (terms : Terms) (update : Update) → update.path ≡ None → (14 == kind) ≡ false → (15 == kind) ≡ false → value_of kind (written_attributes terms update) ≡ None
+pub none_value : (kind : ℕ) (terms : Terms) (update : Update) → update.path ≡ None → (14 == kind) ≡ false → (15 == kind) ≡ false
+    → value_of kind (written_attributes terms update) ≡ None
 none_value kind terms update none a b =
     behind kind (reach_in terms update.reach) (unreach_in update.unreach ++ path_in terms update update.path) (reach_lacks kind terms update.reach a)
     ∙ behind kind (unreach_in update.unreach) (path_in terms update update.path) (unreach_lacks kind update.unreach b)
@@ -127,46 +139,60 @@ to_path kind terms update path there a b =
     ∙ behind kind (unreach_in update.unreach) (path_in terms update update.path) (unreach_lacks kind update.unreach b)
     ∙ ap (λ (z : Option Path). value_of kind (path_in terms update z)) there
 
-pub origin_value : (terms : Terms) (update : Update) (path : Path) → update.path ≡ Some path → value_of 1 (written_attributes terms update) ≡ Some (path.origin ∷ [])
+pub origin_value : (terms : Terms) (update : Update) (path : Path) → update.path ≡ Some path
+    → value_of 1 (written_attributes terms update) ≡ Some (path.origin ∷ [])
 origin_value terms update path is = to_path 1 terms update path is refl refl
 
-pub segments_value : (terms : Terms) (update : Update) (path : Path) → update.path ≡ Some path → value_of 2 (written_attributes terms update) ≡ Some (segments_text terms.four path.segments)
+pub segments_value : (terms : Terms) (update : Update) (path : Path) → update.path ≡ Some path
+    → value_of 2 (written_attributes terms update) ≡ Some (segments_text terms.four path.segments)
 segments_value terms update path is = to_path 2 terms update path is refl refl
 
 to_tail : (kind : ℕ) (terms : Terms) (update : Update) (path : Path) → (1 == kind) ≡ false → (2 == kind) ≡ false
     → value_of kind (path_in terms update (Some path)) ≡ value_of kind (tail_in terms update path)
 to_tail kind terms update path a b =
-    behind kind (attribute 1 (path.origin ∷ []) ∷ []) (attribute 2 (segments_text terms.four path.segments) ∷ tail_in terms update path) (one_lacks kind 1 (path.origin ∷ []) a)
-    ∙ behind kind (attribute 2 (segments_text terms.four path.segments) ∷ []) (tail_in terms update path) (one_lacks kind 2 (segments_text terms.four path.segments) b)
+    behind kind (attribute 1 (path.origin ∷ []) ∷ []) (attribute 2 (segments_text terms.four path.segments) ∷ tail_in terms update path)
+    (one_lacks kind 1 (path.origin ∷ []) a)
+    ∙ behind kind (attribute 2 (segments_text terms.four path.segments) ∷ []) (tail_in terms update path)
+    (one_lacks kind 2 (segments_text terms.four path.segments) b)
 
 past_hop : (kind : ℕ) (terms : Terms) (update : Update) (path : Path) → (3 == kind) ≡ false
-    → value_of kind (tail_in terms update path) ≡ value_of kind (local_pref_in terms path.local_pref ++ (originator_in path.originator ++ actions_in update.actions))
+    → value_of kind (tail_in terms update path)
+    ≡ value_of kind (local_pref_in terms path.local_pref ++ (originator_in path.originator ++ actions_in update.actions))
 past_hop kind terms update path c =
-    behind kind (next_hop_in terms update.classic_in) (local_pref_in terms path.local_pref ++ (originator_in path.originator ++ actions_in update.actions)) (some_lacks kind 3 _ (length update.classic_in == 0) c)
+    behind kind (next_hop_in terms update.classic_in)
+    (local_pref_in terms path.local_pref ++ (originator_in path.originator ++ actions_in update.actions))
+    (some_lacks kind 3 _ (length update.classic_in == 0) c)
 
 past_pref : (kind : ℕ) (terms : Terms) (update : Update) (path : Path) → (5 == kind) ≡ false
-    → value_of kind (local_pref_in terms path.local_pref ++ (originator_in path.originator ++ actions_in update.actions)) ≡ value_of kind (originator_in path.originator ++ actions_in update.actions)
+    → value_of kind (local_pref_in terms path.local_pref ++ (originator_in path.originator ++ actions_in update.actions))
+    ≡ value_of kind (originator_in path.originator ++ actions_in update.actions)
 past_pref kind terms update path c =
     behind kind (local_pref_in terms path.local_pref) (originator_in path.originator ++ actions_in update.actions) (some_lacks kind 5 _ terms.external c)
 
 abbrev pub pref_octets : Bool → ℕ → Option (List ℕ)
 pref_octets external local_pref = if external then None else Some (big_bytes 4 local_pref)
 
-pub pref_value : (terms : Terms) (update : Update) (path : Path) → update.path ≡ Some path → value_of 5 (written_attributes terms update) ≡ pref_octets terms.external path.local_pref
-pref_value terms update path is = to_path 5 terms update path is refl refl ∙ to_tail 5 terms update path refl refl ∙ past_hop 5 terms update path refl ∙ by terms.external where
-  rest : List Attribute
-  rest = originator_in path.originator ++ actions_in update.actions
+pub pref_value : (terms : Terms) (update : Update) (path : Path) → update.path ≡ Some path
+    → value_of 5 (written_attributes terms update) ≡ pref_octets terms.external path.local_pref
+pref_value terms update path is = to_path 5 terms update path is refl refl ∙ to_tail 5 terms update path refl refl ∙ past_hop 5 terms update path refl
+    ∙ by terms.external where
+      rest : List Attribute
+      rest = originator_in path.originator ++ actions_in update.actions
 
-  lacks : Lacks 5 rest
-  lacks = both_lack 5 (originator_in path.originator) (actions_in update.actions) (originator_lacks 5 path.originator refl) (some_lacks 5 16 _ (length update.actions == 0) refl)
+      lacks : Lacks 5 rest
+      lacks = both_lack 5 (originator_in path.originator) (actions_in update.actions) (originator_lacks 5 path.originator refl)
+          (some_lacks 5 16 _ (length update.actions == 0) refl)
 
-  by : (external : Bool) → value_of 5 ((if external then [] else attribute 5 (big_bytes 4 path.local_pref) ∷ []) ++ rest) ≡ pref_octets external path.local_pref
-  by true = lacks
-  by false = refl
+      by : (external : Bool) → value_of 5 ((if external then [] else attribute 5 (big_bytes 4 path.local_pref) ∷ []) ++ rest)
+          ≡ pref_octets external path.local_pref
+      by true = lacks
+      by false = refl
 
-pub originator_value : (terms : Terms) (update : Update) (path : Path) → update.path ≡ Some path → value_of 9 (written_attributes terms update) ≡ option_map (big_bytes 4) path.originator
+pub originator_value : (terms : Terms) (update : Update) (path : Path) → update.path ≡ Some path
+    → value_of 9 (written_attributes terms update) ≡ option_map (big_bytes 4) path.originator
 originator_value terms update path is =
-    to_path 9 terms update path is refl refl ∙ to_tail 9 terms update path refl refl ∙ past_hop 9 terms update path refl ∙ past_pref 9 terms update path refl ∙ by path.originator where
+    to_path 9 terms update path is refl refl ∙ to_tail 9 terms update path refl refl ∙ past_hop 9 terms update path refl
+    ∙ past_pref 9 terms update path refl ∙ by path.originator where
       lacks : Lacks 9 (actions_in update.actions)
       lacks = some_lacks 9 16 _ (length update.actions == 0) refl
 
@@ -177,9 +203,11 @@ originator_value terms update path is =
 abbrev pub actions_octets : Bool → List (List ℕ) → Option (List ℕ)
 actions_octets empty actions = if empty then None else Some (concat actions)
 
-pub actions_value : (terms : Terms) (update : Update) (path : Path) → update.path ≡ Some path → value_of 16 (written_attributes terms update) ≡ actions_octets (length update.actions == 0) update.actions
+pub actions_value : (terms : Terms) (update : Update) (path : Path) → update.path ≡ Some path
+    → value_of 16 (written_attributes terms update) ≡ actions_octets (length update.actions == 0) update.actions
 actions_value terms update path is =
-    to_path 16 terms update path is refl refl ∙ to_tail 16 terms update path refl refl ∙ past_hop 16 terms update path refl ∙ past_pref 16 terms update path refl
+    to_path 16 terms update path is refl refl ∙ to_tail 16 terms update path refl refl ∙ past_hop 16 terms update path refl
+    ∙ past_pref 16 terms update path refl
     ∙ behind 16 (originator_in path.originator) (actions_in update.actions) (originator_lacks 16 path.originator refl) ∙ by (length update.actions == 0) where
       by : (empty : Bool) → value_of 16 (if empty then [] else attribute 16 (concat update.actions) ∷ []) ≡ actions_octets empty update.actions
       by true = refl

@@ -1,5 +1,7 @@
 -- The fields of an UPDATE's body and its path attributes (RFC 4271, section 4.3).
-use Rattle.std.specs.{Prelude.{ℕ, ◌==◌, Bool, false, ◌&&◌, ◌||◌, not, bit_and, nat_le, nat_lt, if◌then◌else◌, List, [], ◌∷◌, length, take, drop, Option, Some, None, option_map, option_and_then, find, filter}, Option.{option_or, is_some, is_none}, Borrow.{Bor}}
+use Rattle.std.specs.Prelude.{ℕ, ◌==◌, Bool, false, ◌&&◌, ◌||◌, not, bit_and, nat_le, nat_lt, if◌then◌else◌, List, [], ◌∷◌, length, take, drop}
+use Rattle.std.specs.Prelude.{Option, Some, None, option_map, option_and_then, find, filter}
+use Rattle.std.specs.{Option.{option_or, is_some, is_none}, Borrow.{Bor}}
 use Rattle.byteorder.specs.Endian.{big_number}
 use Rattle.fs_base.specs.Parts.{parts_of}
 use Rattle.fs_attrs.specs.declared.attributes.{Fields.{Fields}, Lent.{Lent}, Values.{Values}}

@@ -1,5 +1,7 @@
 -- The path attributes of routes (RFC 4271, section 4.3; RFC 4456, section 8).
-use Rattle.std.specs.{Prelude.{ℕ, ◌==◌, Bool, false, not, ◌&&◌, ◌||◌, nat_le, if◌then◌else◌, List, [], length, get_or, Option, Some, None, option_and_then, unwrap_or}, Option.{is_none, option_map_or}, List.{list_any}}
+use Rattle.std.specs.Prelude.{ℕ, ◌==◌, Bool, false, not, ◌&&◌, ◌||◌, nat_le, if◌then◌else◌, List, [], length, get_or, Option, Some, None}
+use Rattle.std.specs.Prelude.{option_and_then, unwrap_or}
+use Rattle.std.specs.{Option.{is_none, option_map_or}, List.{list_any}}
 use Rattle.byteorder.specs.Endian.{big_number}
 use Rattle.fs_base.specs.declared.path.Path.{Path}
 use Rattle.fs_actions.specs.Actions.{are_communities}

@@ -1,9 +1,11 @@
 -- The routes of MP_REACH_NLRI and MP_UNREACH_NLRI (RFC 4760, sections 3 and 4; RFC 8955, section 4), or the fault of one.
-use Rattle.std.specs.Prelude.{◌≡◌, ℕ, ◌+◌, ◌==◌, Bool, false, not, ◌&&◌, ◌||◌, nat_lt, if◌then◌else◌, List, length, drop, get_or, Option, Some, None, Result, Ok, Err, ⊤}
+use Rattle.std.specs.Prelude.{◌≡◌, ℕ, ◌+◌, ◌==◌, Bool, false, not, ◌&&◌, ◌||◌, nat_lt, if◌then◌else◌, List, length, drop, get_or, Option, Some, None}
+use Rattle.std.specs.Prelude.{Result, Ok, Err, ⊤}
 use Rattle.byteorder.specs.Endian.{big_number}
 use Rattle.fs_base.specs.declared.prefix.Family.{Family, TheVariants.{V4, V6}}
 use Rattle.fs_nlri.specs.{declared.fault.{Reason.{Reason}, NlriFault.{NlriFault, TheVariants.{Bad, Memory as NoMemory}}}, Outcome.{AreBadFrames}}
-use Rattle.fs_attrs.specs.{declared.update.{Routes.{Routes, TheVariants.{Unicast, Flow}}, UpdateFault.{UpdateFault, TheVariants.{Optional, Memory}}}, Attributes.{Valued}, Prefixes.{are_prefixes, prefixes_of}, Rules.{rules_of}}
+use Rattle.fs_attrs.specs.declared.update.{Routes.{Routes, TheVariants.{Unicast, Flow}}, UpdateFault.{UpdateFault, TheVariants.{Optional, Memory}}}
+use Rattle.fs_attrs.specs.{Attributes.{Valued}, Prefixes.{are_prefixes, prefixes_of}, Rules.{rules_of}}
 
 -- a fault of MP_REACH_NLRI or MP_UNREACH_NLRI, with the reason and the place of an NLRI's own fault
 abbrev pub Wrong : Type 0

@@ -2,11 +2,15 @@
 -- place of the fault of its first faulty frame. Each word answers what stands at the front with the number of its
 -- octets, or a reason and a place that counts from the front. That this is the one outcome which the grammar of flow
 -- rules gives is a law (`rules_are_the_outcome`).
-use Rattle.std.specs.{Prelude.{ℕ, suc, zero, ◌+◌, ◌-◌, ◌*◌, ◌==◌, Bool, true, false, not, bit_and, nat_lt, if◌then◌else◌, List, [], ◌∷◌, length, take, drop, Option, Some, None, Result, Ok, Err}, List.{list_any}}
+use Rattle.std.specs.Prelude.{ℕ, suc, zero, ◌+◌, ◌-◌, ◌*◌, ◌==◌, Bool, true, false, not, bit_and, nat_lt, if◌then◌else◌, List, [], ◌∷◌, length, take}
+use Rattle.std.specs.Prelude.{drop, Option, Some, None, Result, Ok, Err}
+use Rattle.std.specs.List.{list_any}
 use Rattle.byteorder.specs.Endian.{big_number}
 use Rattle.fs_base.specs.declared.prefix.Family.{Family, TheVariants.{V4}}
 use Rattle.fs_ops.specs.{declared.kind.Kind.{Kind}, Operator.{counted_bits, ends, width_code, width_of}}
-use Rattle.fs_nlri.specs.{declared.fault.Reason.{Reason, TheVariants.{Cut, NoType, Order, PrefixLength, Offset, Width, Length}}, Forms.{Form, V4Form, V6Form, ListForm, form_of, kept_bits}, Parts.{Body, V4Body, V6Body, ListBody, Part, part, Ruled, ruled}, Spelling.{octets_for, first_bits}, Making.{is_range}}
+use Rattle.fs_nlri.specs.declared.fault.Reason.{Reason, TheVariants.{Cut, NoType, Order, PrefixLength, Offset, Width, Length}}
+use Rattle.fs_nlri.specs.Forms.{Form, V4Form, V6Form, ListForm, form_of, kept_bits}
+use Rattle.fs_nlri.specs.{Parts.{Body, V4Body, V6Body, ListBody, Part, part, Ruled, ruled}, Spelling.{octets_for, first_bits}, Making.{is_range}}
 
 -- a prefix of IPv4
 abbrev pub v4_at : List ℕ → Result (Body × ℕ) (Reason × ℕ)

@@ -1,5 +1,7 @@
 -- The segments of AS_PATH (RFC 4271, section 4.3; RFC 5065, section 3; RFC 6793, section 4): what is read, which are written, and their text.
-use Rattle.std.specs.{Prelude.{ℕ, ◌*◌, ◌^◌, ◌<◌, ◌==◌, Bool, ◌&&◌, nat_le, nat_lt, if◌then◌else◌, List, ◌∷◌, length, take, drop, flat_map, Option, Some, None, All}, List.{list_all}}
+use Rattle.std.specs.Prelude.{ℕ, ◌*◌, ◌^◌, ◌<◌, ◌==◌, Bool, ◌&&◌, nat_le, nat_lt, if◌then◌else◌, List, ◌∷◌, length, take, drop, flat_map, Option}
+use Rattle.std.specs.Prelude.{Some, None, All}
+use Rattle.std.specs.List.{list_all}
 use Rattle.byteorder.specs.Endian.{big_number, big_bytes}
 use Rattle.fs_base.specs.{declared.path.Segment.{Segment}, Parts.{parts_of}}
 use Rattle.fs_message.specs.Write.{as_field}

@@ -1,7 +1,9 @@
 -- The texts of fields, prefixes, rules, attributes and next hops (RFC 4271, section 4.3; RFC 4760, section 3; RFC 8955, section 4).
 use Rattle.std.specs.Prelude.{◌≡◌, ℕ, ◌==◌, ◌||◌, bit_or, nat_lt, if◌then◌else◌, List, ◌∷◌, ◌++◌, length, replicate, flat_map, Result, OnOk}
 use Rattle.byteorder.specs.Endian.{big_bytes}
-use Rattle.fs_base.specs.{declared.{config.Address.{Address, TheVariants.{V4 as V4Address, V6 as V6Address}}, prefix.Family.{Family, TheVariants.{V4, V6}}}, Bits.{width_of}}
+use Rattle.fs_base.specs.declared.config.Address.{Address, TheVariants.{V4 as V4Address, V6 as V6Address}}
+use Rattle.fs_base.specs.declared.prefix.Family.{Family, TheVariants.{V4, V6}}
+use Rattle.fs_base.specs.Bits.{width_of}
 use Rattle.fs_nlri.specs.{Parts.{Ruled}, Rule.{first_octets, canonical_frame}}
 use Rattle.fs_attrs.specs.{Attributes.{Attribute}, Prefixes.{Shown}}
 

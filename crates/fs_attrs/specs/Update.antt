@@ -4,7 +4,10 @@ use Rattle.std.specs.Prelude.{◌≡◌, ℕ, ◌==◌, Bool, not, ◌&&◌, ◌
 use Rattle.fs_base.specs.declared.{path.Path.{Path}, prefix.Family.TheVariants.{V4}}
 use Rattle.fs_nlri.specs.Parts.{Ruled}
 use Rattle.fs_actions.specs.Actions.{actions_of}
-use Rattle.fs_attrs.specs.{declared.update.{Terms.{Terms}, Routes.{Routes, TheVariants.{Unicast, Flow}}, Update.{Update}, UpdateFault.{UpdateFault, TheVariants.{List as ListFault, Network, Optional, Memory}}}, Attributes.{Valued, Body, body_of}, Prefixes.{Shown, are_prefixes, prefixes_of}, Paths.{withdraws, path_of}, Routes.{has_routes, optional_of}}
+use Rattle.fs_attrs.specs.declared.update.{Terms.{Terms}, Routes.{Routes, TheVariants.{Unicast, Flow}}, Update.{Update}}
+use Rattle.fs_attrs.specs.declared.update.UpdateFault.{UpdateFault, TheVariants.{List as ListFault, Network, Optional, Memory}}
+use Rattle.fs_attrs.specs.{Attributes.{Valued, Body, body_of}, Prefixes.{Shown, are_prefixes, prefixes_of}, Paths.{withdraws, path_of}}
+use Rattle.fs_attrs.specs.Routes.{has_routes, optional_of}
 
 -- the extended communities, none where they are missing
 abbrev pub communities_in : Valued → List ℕ

@@ -1,8 +1,10 @@
 -- The updates that can be written.
-use Rattle.std.specs.{Prelude.{◌==◌, Bool, true, false, not, ◌&&◌, ◌||◌, nat_le, if◌then◌else◌, List, length, Option, Some, None}, List.{list_all}, Option.{is_some, is_none}}
+use Rattle.std.specs.Prelude.{◌==◌, Bool, true, false, not, ◌&&◌, ◌||◌, nat_le, if◌then◌else◌, List, length, Option, Some, None}
+use Rattle.std.specs.{List.{list_all}, Option.{is_some, is_none}}
 use Rattle.fs_base.specs.{declared.{path.Path.{Path}, prefix.Family.{Family, TheVariants.{V4, V6}}}, Bits.{afi_of}}
 use Rattle.fs_nlri.specs.Parts.{Ruled}
-use Rattle.fs_attrs.specs.{declared.update.{Terms.{Terms}, Routes.{Routes, TheVariants.{Unicast, Flow}}, Update.{Update}}, Prefixes.{Shown}, Segments.{is_written_segment}}
+use Rattle.fs_attrs.specs.declared.update.{Terms.{Terms}, Routes.{Routes, TheVariants.{Unicast, Flow}}, Update.{Update}}
+use Rattle.fs_attrs.specs.{Prefixes.{Shown}, Segments.{is_written_segment}}
 
 abbrev pub are_prefixes_of : Family → List Shown → Bool
 are_prefixes_of family prefixes = list_all (λ prefix. afi_of prefix.0 == afi_of family) prefixes

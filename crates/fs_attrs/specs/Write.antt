@@ -1,12 +1,18 @@
 -- The body of an UPDATE that is written (RFC 4271, section 4.3; RFC 4760, sections 3 and 4; RFC 4456, section 8;
 -- RFC 8955, section 4), and that it is read back. The order of the attributes is the project's own choice.
-use Rattle.std.specs.{Prelude.{◌≡◌, ℕ, ◌+◌, ◌^◌, ◌<◌, ◌≤◌, ◌==◌, Bool, true, ◌||◌, if◌then◌else◌, List, [], ◌∷◌, ◌++◌, length, flat_map, Option, Some, None, Result, Ok, Err, All, IsTrue, IfSome, ⊤}, List.{concat, list_all}}
+use Rattle.std.specs.Prelude.{◌≡◌, ℕ, ◌+◌, ◌^◌, ◌<◌, ◌≤◌, ◌==◌, Bool, true, ◌||◌, if◌then◌else◌, List, [], ◌∷◌, ◌++◌, length, flat_map, Option, Some}
+use Rattle.std.specs.Prelude.{None, Result, Ok, Err, All, IsTrue, IfSome, ⊤}
+use Rattle.std.specs.List.{concat, list_all}
 use Rattle.byteorder.specs.Endian.{big_bytes}
 use Rattle.fs_base.specs.{declared.{config.Address.{Address}, path.{Segment.{Segment}, Path.{Path}}, prefix.Family.TheVariants.{V4}}, Bits.{afi_of}}
 use Rattle.fs_nlri.specs.Rule.{IsRule}
 use Rattle.fs_actions.specs.Actions.{IsActions}
 use Rattle.fs_message.specs.Write.{message_text}
-use Rattle.fs_attrs.specs.{declared.update.{Terms.{Terms}, Routes.{Routes, TheVariants.{Unicast, Flow}}, Update.{Update}, WriteFault.{WriteFault, TheVariants.{TooLong, Memory}}}, Attributes.{Attribute, attribute}, Lists.{IsPrefix}, Prefixes.{Shown}, Segments.{segments_text, AreNumbers, are_low}, Texts.{long_text, prefixes_text, rules_text, attribute_text, next_hop}, Update.{update_of}}
+use Rattle.fs_attrs.specs.declared.update.{Terms.{Terms}, Routes.{Routes, TheVariants.{Unicast, Flow}}, Update.{Update}}
+use Rattle.fs_attrs.specs.declared.update.WriteFault.{WriteFault, TheVariants.{TooLong, Memory}}
+use Rattle.fs_attrs.specs.{Attributes.{Attribute, attribute}, Lists.{IsPrefix}, Prefixes.{Shown}, Segments.{segments_text, AreNumbers, are_low}}
+use Rattle.fs_attrs.specs.Texts.{long_text, prefixes_text, rules_text, attribute_text, next_hop}
+use Rattle.fs_attrs.specs.Update.{update_of}
 
 -- Flow routes have none (RFC 8955, section 4).
 abbrev pub hop_of : Address → Routes → List ℕ

@@ -1,7 +1,8 @@
 //! The fields of an UPDATE's body and its path attributes (RFC 4271, section 4.3).
 
 ghost use Rattle.std.specs.{Prelude.{◌≡◌, Some, option_map}, Option.{option_or}};
-ghost use Rattle.fs_attrs.specs.Attributes.{short_field, long_field, first_attribute, values_in, body_of, lent, lent_value, lent_values, lent_body, values_with, has_kept};
+ghost use Rattle.fs_attrs.specs.Attributes.{short_field, long_field, first_attribute, values_in, body_of, lent, lent_value, lent_values, lent_body};
+ghost use Rattle.fs_attrs.specs.Attributes.{values_with, has_kept};
 
 use byteorder::{BigEndian, ByteOrder};
 

@@ -1,7 +1,8 @@
 //! The path attributes of routes.
 
 ghost use Rattle.std.specs.Prelude.{◌≡◌, ◌&&◌, not, nat_le, IfOk};
-ghost use Rattle.fs_attrs.specs.{Attributes.{lent_value, lent_values}, Paths.{origin_wrong, path_wrong, number_wrong, number_of, origin_of, path_of, is_wrong, withdraws}};
+ghost use Rattle.fs_attrs.specs.Attributes.{lent_value, lent_values};
+ghost use Rattle.fs_attrs.specs.Paths.{origin_wrong, path_wrong, number_wrong, number_of, origin_of, path_of, is_wrong, withdraws};
 ghost use Rattle.fs_actions.specs.Actions.{are_communities};
 
 use crate::attributes::Values;

@@ -2,7 +2,9 @@
 
 ghost use Rattle.std.specs.Prelude.{◌≡◌, IfOk, IfErr};
 ghost use Rattle.fs_nlri.specs.Feed.{Frames};
-ghost use Rattle.fs_attrs.specs.{Attributes.{lent_value, lent_values}, Routes.{unicast_routes, flow_routes, routes_of, is_read, reach_of, unreach_of, if_there, optional_of, has_routes, ReadsAs, field_fault, IsFieldFault}};
+ghost use Rattle.fs_attrs.specs.Attributes.{lent_value, lent_values};
+ghost use Rattle.fs_attrs.specs.Routes.{unicast_routes, flow_routes, routes_of, is_read, reach_of, unreach_of, if_there, optional_of, has_routes};
+ghost use Rattle.fs_attrs.specs.Routes.{ReadsAs, field_fault, IsFieldFault};
 
 use crate::attributes::Values;
 use crate::lists::RuleList;

@@ -1,7 +1,8 @@
 //! The segments of AS_PATH (RFC 4271, section 4.3; RFC 5065, section 3): reading, writing, and which are written.
 
 ghost use Rattle.std.specs.Prelude.{◌≡◌, ◌^◌, ◌<◌, ◌≤◌, ◌++◌, nat_le, length, flat_map, option_map, All, IfOk, OnOk};
-ghost use Rattle.fs_attrs.specs.Segments.{as_width, first_as, numbers_of, first_segment, segments_of, lent_segment, is_written_segment, as_text, segment_text, segments_text, AreNumbers};
+ghost use Rattle.fs_attrs.specs.Segments.{as_width, first_as, numbers_of, first_segment, segments_of, lent_segment, is_written_segment, as_text};
+ghost use Rattle.fs_attrs.specs.Segments.{segment_text, segments_text, AreNumbers};
 
 use crate::texts::{append_u16, append_u32};
 use byteorder::{BigEndian, ByteOrder};

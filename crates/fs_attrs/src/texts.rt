@@ -4,7 +4,8 @@ ghost use Rattle.std.specs.Prelude.{◌≡◌, ◌+◌, ◌-◌, ◌*◌, ◌^�
 ghost use Rattle.byteorder.specs.Endian.{big_bytes};
 ghost use Rattle.fs_base.specs.{Bits.{width_of}, declared.prefix.Family.TheVariants.{V4}};
 ghost use Rattle.fs_nlri.specs.{Spelling.{octets_for}, Rule.{IsRule, shown, first_octets}};
-ghost use Rattle.fs_attrs.specs.{Attributes.{attribute}, Texts.{long_text, prefix_text, prefixes_text, rules_text, flags_of, attribute_text, next_hop, AddsAttributes}};
+ghost use Rattle.fs_attrs.specs.Attributes.{attribute};
+ghost use Rattle.fs_attrs.specs.Texts.{long_text, prefix_text, prefixes_text, rules_text, flags_of, attribute_text, next_hop, AddsAttributes};
 
 use crate::attributes::{
     EXTENDED_COMMUNITIES, EXTENDED_LENGTH, MP_REACH, MP_UNREACH, ORIGINATOR_ID,

@@ -2,7 +2,9 @@
 
 ghost use Rattle.std.specs.{Prelude.{◌≡◌, ◌==◌}, List.{list_all}};
 ghost use Rattle.fs_base.specs.Bits.{afi_of};
-ghost use Rattle.fs_attrs.specs.{Writable.{are_prefixes_of, are_rules_of, are_attribute_routes, if_routes, is_path_of_session, is_written_path, announces, has_its_path, is_writable}, Segments.{is_written_segment}};
+ghost use Rattle.fs_attrs.specs.Writable.{are_prefixes_of, are_rules_of, are_attribute_routes, if_routes, is_path_of_session, is_written_path};
+ghost use Rattle.fs_attrs.specs.Writable.{announces, has_its_path, is_writable};
+ghost use Rattle.fs_attrs.specs.Segments.{is_written_segment};
 
 use crate::lists::{PrefixList, RuleList};
 use crate::segments::is_written;

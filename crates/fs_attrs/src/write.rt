@@ -2,7 +2,11 @@
 
 ghost use Rattle.std.specs.Prelude.{◌≡◌, ◌^◌, ◌<◌, ◌≤◌, ◌++◌, [], ◌∷◌, Some, length, flat_map, All, OnOk, IfSome, IsTrue};
 ghost use Rattle.byteorder.specs.Endian.{big_bytes};
-ghost use Rattle.fs_attrs.specs.{Attributes.{attribute}, Segments.{segments_text, AreNumbers}, Write.{as_path_in, hop_field, hop_of, family_of, routes_text, reach_text, unreach_text, reach_in, unreach_in, next_hop_in, local_pref_in, originator_in, actions_in, path_in, written_attributes, update_text, Writes, AreRoutes, IfRoutes, IsPath, IsSound, ReadsBack}, Texts.{attribute_text, AddsAttributes}, Writable.{is_writable, is_written_path, has_its_path}};
+ghost use Rattle.fs_attrs.specs.{Attributes.{attribute}, Segments.{segments_text, AreNumbers}};
+ghost use Rattle.fs_attrs.specs.Write.{as_path_in, hop_field, hop_of, family_of, routes_text, reach_text, unreach_text, reach_in, unreach_in};
+ghost use Rattle.fs_attrs.specs.Write.{next_hop_in, local_pref_in, originator_in, actions_in, path_in, written_attributes, update_text, Writes};
+ghost use Rattle.fs_attrs.specs.Write.{AreRoutes, IfRoutes, IsPath, IsSound, ReadsBack};
+ghost use Rattle.fs_attrs.specs.{Texts.{attribute_text, AddsAttributes}, Writable.{is_writable, is_written_path, has_its_path}};
 ghost use Rattle.fs_actions.specs.Actions.{IsActions};
 
 use crate::attributes::{

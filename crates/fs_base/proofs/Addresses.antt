@@ -1,5 +1,6 @@
 -- Which addresses a prefix has: those from its lowest to its highest.
-use Rattle.fs_base.proofs.{Words.{ℕ, ◌≡◌, ◌+◌, ◌-◌, ◌*◌, ◌^◌, ◌<◌, ◌≤◌, ap, subst, sym, pow_pos, arith, ◌↔◌, Prefix, width_of, cleared, last_address}, Blocks.{IsBlock, block_inside, block_meeting}, Covers.{block}}
+use Rattle.fs_base.proofs.Words.{ℕ, ◌≡◌, ◌+◌, ◌-◌, ◌*◌, ◌^◌, ◌<◌, ◌≤◌, ap, subst, sym, pow_pos, arith, ◌↔◌, Prefix, width_of, cleared, last_address}
+use Rattle.fs_base.proofs.{Blocks.{IsBlock, block_inside, block_meeting}, Covers.{block}}
 
 -- an address is a block of its own
 pub one_address : (w a : ℕ) → a < 2 ^ w → IsBlock w w a

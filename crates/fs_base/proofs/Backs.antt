@@ -1,5 +1,6 @@
 -- Octets that are put back before others.
-use Rattle.fs_base.proofs.Words.{◌≡◌, ◌≤◌, ◌+◌, ℕ, List, ◌++◌, length, take, drop, sym, ap, ◌∙◌, arith, length-append, length-drop, length-take, take-replicate, take-take, take-put_mid_below}
+use Rattle.fs_base.proofs.Words.{◌≡◌, ◌≤◌, ◌+◌, ℕ, List, ◌++◌, length, take, drop, sym, ap, ◌∙◌, arith, length-append, length-drop, length-take}
+use Rattle.fs_base.proofs.Words.{take-replicate, take-take, take-put_mid_below}
 use borrow.Rule.Slice.PartMut.{put_mid}
 use Rattle.fs_base.specs.Back.{IsBack}
 

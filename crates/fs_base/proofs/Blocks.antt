@@ -1,6 +1,8 @@
 -- Blocks of addresses, as plain numbers: where one lies in another.
 use Rattle.std.proofs.{Common.{add-mul, mul-le-mul_right}, lemmas.Nat.{pow_pos}}
-use Rattle.fs_base.proofs.Words.{ℕ, ◌≡◌, ◌+◌, ◌-◌, ◌*◌, ◌/◌, ◌%◌, ◌^◌, ◌<◌, ◌≤◌, sym, ap, ◌∙◌, subst, arith, mul_assoc, one-mul, lt_of_mul-lt-mul_right, div-add-mod', pow-add, mod_below, div-mul-add, mod-eq_of_lt, div-mul-le_self, Family, V4, V6, width_of, cleared}
+use Rattle.fs_base.proofs.Words.{ℕ, ◌≡◌, ◌+◌, ◌-◌, ◌*◌, ◌/◌, ◌%◌, ◌^◌, ◌<◌, ◌≤◌, sym, ap, ◌∙◌, subst, arith, mul_assoc, one-mul}
+use Rattle.fs_base.proofs.Words.{lt_of_mul-lt-mul_right, div-add-mod', pow-add, mod_below, div-mul-add, mod-eq_of_lt, div-mul-le_self, Family, V4, V6}
+use Rattle.fs_base.proofs.Words.{width_of, cleared}
 pub use Rattle.fs_base.specs.Bits.{IsBlock, whole_width, block_cleared, block_below, block_of, block_again, cleared_again, min_short}
 
 pub width_most : (f : Family) → 2 ^ width_of f ≤ 2 ^ 128
@@ -74,7 +76,8 @@ pub block_meeting : (w m a n b : ℕ) → IsBlock w m a → IsBlock w n b → m 
 block_meeting w m a n b large small h low high =
     let even = sizes w m n h small.short in
     first_bits_of w m b (block_below w n b small)
-    ∙ meeting (2 ^ (w - m)) (2 ^ (w - n)) (2 ^ (n - m)) large.count small.count a b even (pow_pos (w - n)) (pow_pos (w - m)) large.spelled small.spelled low high
+    ∙ meeting (2 ^ (w - m)) (2 ^ (w - n)) (2 ^ (n - m)) large.count small.count a b even (pow_pos (w - n))
+    (pow_pos (w - m)) large.spelled small.spelled low high
 
 -- of two blocks that meet, the longer one doesn't end later
 pub block_ending : (w m a n b : ℕ) → IsBlock w m a → IsBlock w n b → m ≤ n → b < a + 2 ^ (w - m) → b + 2 ^ (w - n) ≤ a + 2 ^ (w - m)

@@ -1,7 +1,9 @@
 -- Laws of tests: of `&&`, `||` and `not`, and of two tests that say the same.
 use Rattle.std.proofs.Common.{◌≡◌, ◌⊎◌, inl, inr, refl, sym, Bool, true, false, not, ◌&&◌, ◌||◌, true≢false, ap, if◌then◌else◌}
 -- std's laws, by the names that are used here
-pub use Rattle.std.proofs.{Math.Bool.{and-true as and_true}, lemmas.Bool.{and_from as and_both, false_from_ne_true as false_from, not-false as true_of_not, not_from_true as not_of_true, or_left as or_first, or_parts as or_false, or_right as or_second}}
+pub use Rattle.std.proofs.Math.Bool.{and-true as and_true}
+pub use Rattle.std.proofs.lemmas.Bool.{and_from as and_both, false_from_ne_true as false_from, not-false as true_of_not, not_from_true as not_of_true}
+pub use Rattle.std.proofs.lemmas.Bool.{or_left as or_first, or_parts as or_false, or_right as or_second}
 
 -- Each part of both.
 pub and_first : (a b : Bool) → (a && b) ≡ true → a ≡ true

@@ -1,6 +1,8 @@
 -- How many of the first bits of two numbers are the same.
 use Rattle.std.{proofs.Common.{pow-add}, specs.Int.Bits.{xor_self}}
-use Rattle.fs_base.proofs.Words.{ℕ, ◌≡◌, ◌+◌, ◌-◌, ◌*◌, ◌/◌, ◌%◌, ◌^◌, ◌<◌, ◌≤◌, ◌⊎◌, inl, inr, sym, ap, ◌∙◌, arith, bit_xor, pow_pos, pow_mono, zero-mul, mul-div_cancel, div-eq_of_lt, bit_at, cases_lt, xor_shr, xor_lt, leading_length, shr_split, mod_below, same_from_bits, bit_at_xor, bit_at-lt, bit_at-zero, cleared}
+use Rattle.fs_base.proofs.Words.{ℕ, ◌≡◌, ◌+◌, ◌-◌, ◌*◌, ◌/◌, ◌%◌, ◌^◌, ◌<◌, ◌≤◌, ◌⊎◌, inl, inr, sym, ap, ◌∙◌, arith, bit_xor, pow_pos, pow_mono}
+use Rattle.fs_base.proofs.Words.{zero-mul, mul-div_cancel, div-eq_of_lt, bit_at, cases_lt, xor_shr, xor_lt, leading_length, shr_split, mod_below}
+use Rattle.fs_base.proofs.Words.{same_from_bits, bit_at_xor, bit_at-lt, bit_at-zero, cleared}
 use lib.Count.{count_leading_zeros}
 use Rattle.fs_base.proofs.Blocks.{first_bits_of}
 
@@ -36,7 +38,8 @@ digits_of w x h k = at (leading_length 128 x big) where
 pub zeros_enough : (w x : ℕ) → w ≤ 128 → x < 2 ^ w → 128 - w ≤ count_leading_zeros 128 x
 zeros_enough w x h k = let d : Digits w x = digits_of w x h k in omega arith
 
-pub common_there : (w n a b : ℕ) → w ≤ 128 → a < 2 ^ w → b < 2 ^ w → n ≤ w → cleared w n a ≡ cleared w n b → n ≤ count_leading_zeros 128 (bit_xor a b) - (128 - w)
+pub common_there : (w n a b : ℕ) → w ≤ 128 → a < 2 ^ w → b < 2 ^ w → n ≤ w → cleared w n a ≡ cleared w n b
+    → n ≤ count_leading_zeros 128 (bit_xor a b) - (128 - w)
 common_there w n a b wide below_a below_b h e = let d : Digits w (bit_xor a b) = digits_of w (bit_xor a b) wide (xor_lt w a b below_a below_b) in
     let few : d.digits ≤ w - n = d.below (w - n) below in omega arith where
       blocks : a / 2 ^ (w - n) * 2 ^ (w - n) ≡ b / 2 ^ (w - n) * 2 ^ (w - n)
@@ -53,7 +56,8 @@ common_there w n a b wide below_a below_b h e = let d : Digits w (bit_xor a b) =
           let z : bit_xor a b / 2 ^ (w - n) * 2 ^ (w - n) ≡ 0 = ap (λ k. k * 2 ^ (w - n)) none ∙ zero-mul (2 ^ (w - n)) in
           let r : bit_xor a b % 2 ^ (w - n) < 2 ^ (w - n) = mod_below (bit_xor a b) (2 ^ (w - n)) (pow_pos (w - n)) in omega arith
 
-pub common_back : (w n a b : ℕ) → w ≤ 128 → a < 2 ^ w → b < 2 ^ w → n ≤ w → n ≤ count_leading_zeros 128 (bit_xor a b) - (128 - w) → cleared w n a ≡ cleared w n b
+pub common_back : (w n a b : ℕ) → w ≤ 128 → a < 2 ^ w → b < 2 ^ w → n ≤ w → n ≤ count_leading_zeros 128 (bit_xor a b) - (128 - w)
+    → cleared w n a ≡ cleared w n b
 common_back w n a b wide below_a below_b h e = first_bits_of w n a below_a ∙ ap (λ k. k * 2 ^ (w - n)) same ∙ sym (first_bits_of w n b below_b) where
   digits : Digits w (bit_xor a b)
   digits = digits_of w (bit_xor a b) wide (xor_lt w a b below_a below_b)

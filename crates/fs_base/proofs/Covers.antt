@@ -1,6 +1,10 @@
 -- Which prefixes lie under which, and how the order tells it.
 use Rattle.std.proofs.Common.{nat_le}
-use Rattle.fs_base.proofs.{Words.{ℕ, ◌≡◌, ◌+◌, ◌-◌, ◌^◌, ◌<◌, ◌≤◌, ◌⊎◌, inl, inr, refl, sym, ap, ◌∙◌, subst, arith, true, ◌&&◌, ◌==◌, nat_cmp, is_le, pow_pos, true≢false, ordering_then, nat_tests, cases_lt, Family, V4, V6, Prefix, width_of, afi_of, cleared, covers, prefix_cmp, last_address}, Bools.{and_both, and_first, and_second, same_tests}, Blocks.{IsBlock, block_of, block_inside, block_meeting, block_ending}}
+use Rattle.fs_base.proofs.Words.{ℕ, ◌≡◌, ◌+◌, ◌-◌, ◌^◌, ◌<◌, ◌≤◌, ◌⊎◌, inl, inr, refl, sym, ap, ◌∙◌, subst, arith, true, ◌&&◌, ◌==◌, nat_cmp, is_le}
+use Rattle.fs_base.proofs.Words.{pow_pos, true≢false, ordering_then, nat_tests, cases_lt, Family, V4, V6, Prefix, width_of, afi_of, cleared, covers}
+use Rattle.fs_base.proofs.Words.{prefix_cmp, last_address}
+use Rattle.fs_base.proofs.Bools.{and_both, and_first, and_second, same_tests}
+use Rattle.fs_base.proofs.Blocks.{IsBlock, block_of, block_inside, block_meeting, block_ending}
 
 pub same_family : (f g : Family) → afi_of f ≡ afi_of g → f ≡ g
 same_family V4 V4 h = refl
@@ -195,7 +199,13 @@ range_law p f q family bits length = same_tests (covers p q) (is_le (prefix_cmp 
   host = ap (λ n. 2 ^ (width_of p.family - n)) length ∙ (let e : width_of p.family - width_of p.family ≡ 0 = omega arith in ap (λ k. 2 ^ k) e)
 
   under : covers p f ≡ true
-  under = covers_test p f (record { family = ap afi_of (sym family); longer = omega (arith, length, p.short); starts = omega (arith, bits); ends = omega (arith, host, size, bits) })
+  under = covers_test p f (record {
+    family = ap afi_of (sym family);
+    longer = omega (arith, length, p.short);
+    starts = omega (arith, bits);
+    ends =
+        omega (arith, host, size, bits);
+  })
 
   first : covers p q ≡ true → Comes f q
   first h = let fact : Covers p q = covers_fact p q h in
@@ -212,7 +222,8 @@ range_law p f q family bits length = same_tests (covers p q) (is_le (prefix_cmp 
   there h = and_both (is_le (prefix_cmp f q)) (is_le (prefix_cmp q p)) (comes_test f q (first h)) (covered_before p q h)
 
   back : (is_le (prefix_cmp f q) && is_le (prefix_cmp q p)) ≡ true → covers p q ≡ true
-  back h = between_covered p f q under (and_first (is_le (prefix_cmp f q)) (is_le (prefix_cmp q p)) h) (and_second (is_le (prefix_cmp f q)) (is_le (prefix_cmp q p)) h)
+  back h = between_covered p f q under (and_first (is_le (prefix_cmp f q)) (is_le (prefix_cmp q p)) h)
+      (and_second (is_le (prefix_cmp f q)) (is_le (prefix_cmp q p)) h)
 
 pub same_family_of : (f g : Family) → (afi_of f == afi_of g) ≡ true → f ≡ g
 same_family_of V4 V4 h = refl

@@ -1,6 +1,11 @@
 -- The octets of a number are the only ones of their count that write it, in either order.
-use Rattle.fs_base.proofs.{Words.{◌≡◌, ℕ, zero, suc, ◌+◌, ◌*◌, ◌^◌, ◌<◌, ◌≤◌, List, [], ◌∷◌, length, take, refl, sym, ap, ◌∙◌, arith, inl, inr, add-mul, mod-lt, mul-le-mul_right, length-take, append-nil, cases_lt, byte_at, bytes_high_first, bytes_low_first, IsOctets}, Octets.{octets_at, octets_cons, octets_head, octets_nil, octets_tail, octets_take}}
-use Rattle.byteorder.specs.{Endian.{big_number, big_bytes, little_number, little_bytes}, Numbers.{big_from-cons, big_from-lt, big_from-take, big_number-reads_back, length-bytes_high_first, length-bytes_low_first, little_from-cons, little_from-lt, little_from-take, little_number-reads_back}}
+use Rattle.fs_base.proofs.Words.{◌≡◌, ℕ, zero, suc, ◌+◌, ◌*◌, ◌^◌, ◌<◌, ◌≤◌, List, [], ◌∷◌, length, take, refl, sym, ap, ◌∙◌, arith, inl, inr}
+use Rattle.fs_base.proofs.Words.{add-mul, mod-lt, mul-le-mul_right, length-take, append-nil, cases_lt, byte_at, bytes_high_first, bytes_low_first}
+use Rattle.fs_base.proofs.Words.{IsOctets}
+use Rattle.fs_base.proofs.Octets.{octets_at, octets_cons, octets_head, octets_nil, octets_tail, octets_take}
+use Rattle.byteorder.specs.Endian.{big_number, big_bytes, little_number, little_bytes}
+use Rattle.byteorder.specs.Numbers.{big_from-cons, big_from-lt, big_from-take, big_number-reads_back, length-bytes_high_first, length-bytes_low_first}
+use Rattle.byteorder.specs.Numbers.{little_from-cons, little_from-lt, little_from-take, little_number-reads_back}
 
 -- a digit and what is below it make one number in one way
 not_above : (p x a y b : ℕ) → a < p → x * p + a ≡ y * p + b → x < y → ⊥

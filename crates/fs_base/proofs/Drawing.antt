@@ -1,5 +1,8 @@
 -- How the octets that reads give are counted.
-use Rattle.fs_base.{proofs.Words.{◌≡◌, ℕ, List, [], ◌++◌, ◌<◌, ◌≤◌, ◌+◌, ◌-◌, ◌⊎◌, inl, inr, subst, length, min, take, drop, refl, ap, sym, ◌∙◌, arith, append_assoc, drop-append-add, cases_lt, drop-append-le, drop-drop, drop_all, length-drop, take-append-drop, common_steps, Counted, Draws, Passed}, specs.Outside.{Rose}}
+use Rattle.fs_base.proofs.Words.{◌≡◌, ℕ, List, [], ◌++◌, ◌<◌, ◌≤◌, ◌+◌, ◌-◌, ◌⊎◌, inl, inr, subst, length, min, take, drop, refl, ap, sym, ◌∙◌, arith}
+use Rattle.fs_base.proofs.Words.{append_assoc, drop-append-add, cases_lt, drop-append-le, drop-drop, drop_all, length-drop, take-append-drop}
+use Rattle.fs_base.proofs.Words.{common_steps, Counted, Draws, Passed}
+use Rattle.fs_base.specs.Outside.{Rose}
 
 drop_join : (n : ℕ) (xs ys : List ℕ) → drop n (xs ++ ys) ≡ drop n xs ++ drop (n - length xs) ys
 drop_join n xs ys = by (cases_lt (length xs) n)

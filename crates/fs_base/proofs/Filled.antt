@@ -1,5 +1,7 @@
 -- The loop that fills a buffer: so many octets stand in it, and the rest is left.
-use Rattle.fs_base.proofs.Words.{◌≡◌, ℕ, List, [], ◌++◌, ◌<◌, ◌≤◌, ◌+◌, ◌-◌, length, take, drop, min, inl, inr, ap, sym, ◌∙◌, arith, append_assoc, length-append, take-append-add, drop_all, take-append-drop, take-append-le, length-take, length-drop, take-take, cases_lt, common_steps, window, Ok, IsTrue, PassesIn, Counted}
+use Rattle.fs_base.proofs.Words.{◌≡◌, ℕ, List, [], ◌++◌, ◌<◌, ◌≤◌, ◌+◌, ◌-◌, length, take, drop, min, inl, inr, ap, sym, ◌∙◌, arith, append_assoc}
+use Rattle.fs_base.proofs.Words.{length-append, take-append-add, drop_all, take-append-drop, take-append-le, length-take, length-drop, take-take}
+use Rattle.fs_base.proofs.Words.{cases_lt, common_steps, window, Ok, IsTrue, PassesIn, Counted}
 use Rattle.std.specs.Prelude.{◌⊎◌}
 use borrow.Rule.Slice.PartMut.{put_mid}
 use Rattle.fs_base.specs.Filling.{Fills, FillsFrom, FillsIn}
@@ -104,7 +106,8 @@ fills_more start now later into piece limit taken n m f size within more =
     sym (ap (λ octets. octets ++ later) (more.filled ∙ take-take m (limit - (taken + n)) now most)
     ∙ ap (λ octets. take m now ++ octets) more.left ∙ take-append-drop m now) in
     let filled : Filled start later whole (n + m) = filled_more start now later into piece n m f size room takes in
-    fills_end start later whole limit taken (n + m) filled (omega (arith, most, within)) (why judged (cases_lt m (length piece)) (cases_lt m (limit - (taken + n)))) where
+    fills_end start later whole limit taken (n + m) filled (omega (arith, most, within))
+    (why judged (cases_lt m (length piece)) (cases_lt m (limit - (taken + n)))) where
       whole : List ℕ
       whole = put_mid n (length into - n) into piece
 

@@ -1,4 +1,5 @@
-use Rattle.fs_base.proofs.Words.{◌≡◌, ℕ, List, [], ◌++◌, Option, Some, None, Result, Ok, Err, ◌+◌, length, take, min, ap, ◌∙◌, arith, append_assoc, OnErr, take-append-add, common_steps, Grew, GrewPart}
+use Rattle.fs_base.proofs.Words.{◌≡◌, ℕ, List, [], ◌++◌, Option, Some, None, Result, Ok, Err, ◌+◌, length, take, min, ap, ◌∙◌, arith, append_assoc}
+use Rattle.fs_base.proofs.Words.{OnErr, take-append-add, common_steps, Grew, GrewPart}
 
 -- Laws of what a sink tells.
 

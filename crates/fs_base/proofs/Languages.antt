@@ -1,5 +1,7 @@
 -- Laws of the words of specs/Language: what a cut and a first fault are, whatever the language.
-use Rattle.fs_base.proofs.{Words.{◌≡◌, ℕ, ◌+◌, ◌<◌, ◌≤◌, List, [], ◌++◌, length, take, drop, sym, subst, ◌⊎◌, inl, inr, arith, length-append, append_assoc, take-append-drop, append-nil, cases_lt, IsOctets, Begins, IsCut, IsFirstFault}, Octets.{octets_nil, octets_append, octets_take, octets_drop, take-append-add, take_longer}}
+use Rattle.fs_base.proofs.Words.{◌≡◌, ℕ, ◌+◌, ◌<◌, ◌≤◌, List, [], ◌++◌, length, take, drop, sym, subst, ◌⊎◌, inl, inr, arith, length-append}
+use Rattle.fs_base.proofs.Words.{append_assoc, take-append-drop, append-nil, cases_lt, IsOctets, Begins, IsCut, IsFirstFault}
+use Rattle.fs_base.proofs.Octets.{octets_nil, octets_append, octets_take, octets_drop, take-append-add, take_longer}
 
 -- a text begins itself
 pub whole_begins : (Whole : List ℕ → Type 0) (octets : List ℕ) → Whole octets → Begins Whole octets
@@ -31,7 +33,13 @@ one_fault Whole octets p q are one other = elim (cases p q) [
 ]
   where
     cases : (p q : ℕ) → (p + 1 ≤ q) ⊎ ((p ≡ q) ⊎ (q + 1 ≤ p))
-    cases p q = elim (cases_lt p q) [ inl less ↦ inl (omega arith) | inr no_less ↦ elim (cases_lt q p) [ inl more ↦ inr (inr (omega arith)) | inr no_more ↦ inr (inl (omega arith)) ] ]
+    cases p q = elim (cases_lt p q) [
+      | inl less ↦ inl (omega arith)
+      | inr no_less ↦ elim (cases_lt q p) [
+        | inl more ↦ inr (inr (omega arith))
+        | inr no_more ↦ inr (inl (omega arith))
+      ]
+    ]
 
 -- octets with a fault begin no text, so they are none and aren't cut
 pub fault_begins : (Whole : List ℕ → Type 0) (octets : List ℕ) (p : ℕ) → IsOctets octets → IsFirstFault Whole octets p → Begins Whole octets → ⊥
@@ -49,7 +57,8 @@ pub record Leads (M L : List ℕ → Type 0) (front : List ℕ) : Type 0 where
   pub back : (rest : List ℕ) → Begins L (front ++ rest) → Begins M rest
 
 -- a fault is the same fault behind such a front
-pub fault_after : (M L : List ℕ → Type 0) (front rest : List ℕ) (place : ℕ) → Leads M L front → IsFirstFault M rest place → IsFirstFault L (front ++ rest) (length front + place)
+pub fault_after : (M L : List ℕ → Type 0) (front rest : List ℕ) (place : ℕ) → Leads M L front → IsFirstFault M rest place
+    → IsFirstFault L (front ++ rest) (length front + place)
 fault_after M L front rest place leads fault = record {
   inside = let within : place < length rest = fault.inside in omega (arith, length-append front rest);
   before = subst (Begins L) (sym (take-append-add front rest place)) (leads.there (take place rest) fault.before);
@@ -60,7 +69,8 @@ fault_after M L front rest place leads fault = record {
     one_more front rest place =
         let e : length front + place + 1 ≡ length front + (place + 1) = omega arith in rw e (take-append-add front rest (place + 1))
 
-pub cut_after : (M L : List ℕ → Type 0) (front rest : List ℕ) (place : ℕ) → Leads M L front → IsCut M rest place → IsCut L (front ++ rest) (length front + place)
+pub cut_after : (M L : List ℕ → Type 0) (front rest : List ℕ) (place : ℕ) → Leads M L front → IsCut M rest place
+    → IsCut L (front ++ rest) (length front + place)
 cut_after M L front rest place leads cut = record {
   at_end = let ended : place ≡ length rest = cut.at_end in omega (arith, length-append front rest);
   begins = leads.there rest cut.begins;

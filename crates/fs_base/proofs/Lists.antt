@@ -1,7 +1,10 @@
 -- Lists: what holds of each element, filters, and an ordered map's entries after a change.
-use Rattle.fs_base.proofs.{Words.{◌≡◌, refl, sym, ap, subst, ◌∙◌, Bool, true, false, cond, ◌&&◌, ◌||◌, List, [], ◌∷◌, ◌++◌, filter, map, true≢false, Some, Ordering, Less, Equal, Greater, is_eq, is_le, AllByRecursion, list_any, list_all, find, match_ordering}, Bools.{or_false, or_first, or_second}}
+use Rattle.fs_base.proofs.Words.{◌≡◌, refl, sym, ap, subst, ◌∙◌, Bool, true, false, cond, ◌&&◌, ◌||◌, List, [], ◌∷◌, ◌++◌, filter, map, true≢false}
+use Rattle.fs_base.proofs.Words.{Some, Ordering, Less, Equal, Greater, is_eq, is_le, AllByRecursion, list_any, list_all, find, match_ordering}
+use Rattle.fs_base.proofs.Bools.{or_false, or_first, or_second}
 pub use Rattle.std.proofs.lemmas.List.Elements.{filter-append}
-use Rattle.std.{specs.{List.Sorted.{IsStrictlySortedBy}, BTreeMap.{insert_entry}, Map.{keys_of, remove_entry}}, proofs.lemmas.Map.Keys.{sorted_head, sorted_tail}}
+use Rattle.std.specs.{List.Sorted.{IsStrictlySortedBy}, BTreeMap.{insert_entry}, Map.{keys_of, remove_entry}}
+use Rattle.std.proofs.lemmas.Map.Keys.{sorted_head, sorted_tail}
 
 pub each_weaker : {X : Type 0} (P Q : X → Type 0) → ((x : X) → P x → Q x) → (xs : List X) → AllByRecursion P xs → AllByRecursion Q xs
 each_weaker P Q h [] k = tt
@@ -11,7 +14,8 @@ pub each : {X : Type 0} (P : X → Type 0) → ((x : X) → P x) → (xs : List 
 each P h [] = tt
 each P h (x ∷ xs) = (h x, each P h xs)
 
-pub each_both : {X : Type 0} (P Q R : X → Type 0) → ((x : X) → P x → Q x → R x) → (xs : List X) → AllByRecursion P xs → AllByRecursion Q xs → AllByRecursion R xs
+pub each_both : {X : Type 0} (P Q R : X → Type 0) → ((x : X) → P x → Q x → R x) → (xs : List X) → AllByRecursion P xs → AllByRecursion Q xs
+    → AllByRecursion R xs
 each_both P Q R h [] k l = tt
 each_both P Q R h (x ∷ xs) k l = (h x k.0 l.0, each_both P Q R h xs k.1 l.1)
 
@@ -52,7 +56,8 @@ filter_all p (x ∷ xs) h = at (p x) h.0 (filter_all p xs h.1) where
 pub any_filter : {X : Type 0} (p q : X → Bool) (xs : List X) → list_any q (filter p xs) ≡ list_any (λ x. p x && q x) xs
 any_filter p q [] = refl
 any_filter p q (x ∷ xs) = at (p x) (any_filter p q xs) where
-  at : (a : Bool) → list_any q (filter p xs) ≡ list_any (λ x. p x && q x) xs → list_any q (cond a (x ∷ filter p xs) (filter p xs)) ≡ ((a && q x) || list_any (λ x. p x && q x) xs)
+  at : (a : Bool) → list_any q (filter p xs) ≡ list_any (λ x. p x && q x) xs
+      → list_any q (cond a (x ∷ filter p xs) (filter p xs)) ≡ ((a && q x) || list_any (λ x. p x && q x) xs)
   at true ih = ap (λ b. q x || b) ih
   at false ih = ih
 
@@ -74,7 +79,8 @@ each_none p [] h = refl
 each_none p (x ∷ xs) h = let e : p x ≡ false = h.0 in let k : list_any p xs ≡ false = each_none p xs h.1 in cc
 
 -- of an element that passes, what holds of each holds
-pub any_each : {X : Type 0} (p : X → Bool) (P : X → Type 0) (G : Type 0) (xs : List X) → list_any p xs ≡ true → AllByRecursion P xs → ((x : X) → p x ≡ true → P x → G) → G
+pub any_each : {X : Type 0} (p : X → Bool) (P : X → Type 0) (G : Type 0) (xs : List X) → list_any p xs ≡ true → AllByRecursion P xs
+    → ((x : X) → p x ≡ true → P x → G) → G
 any_each p P G [] h k f = absurd (true≢false (sym h))
 any_each p P G (x ∷ xs) h k f = at (p x) refl (λ e. any_each p P G xs e k.1 f) h where
   at : (a : Bool) → p x ≡ a → (list_any p xs ≡ true → G) → (a || list_any p xs) ≡ true → G
@@ -84,7 +90,8 @@ any_each p P G (x ∷ xs) h k f = at (p x) refl (λ e. any_each p P G xs e k.1 f
 pub all_each : {X : Type 0} (p : X → Bool) (xs : List X) → list_all p xs ≡ true → AllByRecursion (λ x. p x ≡ true) xs
 all_each p [] h = tt
 all_each p (x ∷ xs) h = at (p x) refl (all_each p xs) h where
-  at : (a : Bool) → p x ≡ a → (list_all p xs ≡ true → AllByRecursion (λ x. p x ≡ true) xs) → (a && list_all p xs) ≡ true → (p x ≡ true) × AllByRecursion (λ x. p x ≡ true) xs
+  at : (a : Bool) → p x ≡ a → (list_all p xs ≡ true → AllByRecursion (λ x. p x ≡ true) xs) → (a && list_all p xs) ≡ true
+      → (p x ≡ true) × AllByRecursion (λ x. p x ≡ true) xs
   at true e ih g = (e, ih g)
   at false e ih g = absurd (true≢false (sym g))
 
@@ -111,7 +118,8 @@ each_remove P test (e ∷ es) all = at (test e.0) (each_remove P test es all.1) 
   at false ih = (all.0, ih)
 
 -- a filter on keys that leaves the inserted key out, and those equal to it
-pub filter-insert_other : {K X : Type 0} (cmp : K → K → Ordering) (test : K → Bool) (k : K) (v : X) → test k ≡ false → ((q : K) → cmp k q ≡ Equal → test q ≡ false)
+pub filter-insert_other : {K X : Type 0} (cmp : K → K → Ordering) (test : K → Bool) (k : K) (v : X) → test k ≡ false
+    → ((q : K) → cmp k q ≡ Equal → test q ≡ false)
     → (es : List (K × X)) → filter (λ e. test e.0) (insert_entry cmp es k v) ≡ filter (λ e. test e.0) es
 filter-insert_other {K} {X} cmp test k v h same [] = at (test k) h where
   at : (b : Bool) → b ≡ false → cond {A = List (K × X)} b ((k, v) ∷ []) [] ≡ []
@@ -162,34 +170,36 @@ pub record IsLeast {K X : Type 0} (cmp : K → K → Ordering) (test : K → Boo
   pub passes : test first ≡ true
   pub least : AllByRecursion (λ e. test e.0 ≡ true → is_le (cmp first e.0) ≡ true) es
 
-pub filter_first : {K X : Type 0} (cmp : K → K → Ordering) → ((q : K) → cmp q q ≡ Equal) → (test : K → Bool) (es : List (K × X)) → IsStrictlySortedBy cmp (keys_of es)
+pub filter_first : {K X : Type 0} (cmp : K → K → Ordering) → ((q : K) → cmp q q ≡ Equal) → (test : K → Bool) (es : List (K × X))
+    → IsStrictlySortedBy cmp (keys_of es)
     → (x : K × X) (rest : List (K × X)) → filter (λ e. test e.0) es ≡ x ∷ rest → IsLeast cmp test es x.0
 filter_first cmp same test [] sorted x rest h = cc
-filter_first {K} {X} cmp same test (e ∷ es) sorted x rest h = at (test e.0) refl (filter_first cmp same test es (sorted_tail cmp e.0 (keys_of es) sorted) x rest) h where
-  head : (xs ys : List (K × X)) (y z : K × X) → y ∷ xs ≡ z ∷ ys → y ≡ z
-  head xs ys y z k = cc
+filter_first {K} {X} cmp same test (e ∷ es) sorted x rest h =
+    at (test e.0) refl (filter_first cmp same test es (sorted_tail cmp e.0 (keys_of es) sorted) x rest) h where
+      head : (xs ys : List (K × X)) (y z : K × X) → y ∷ xs ≡ z ∷ ys → y ≡ z
+      head xs ys y z k = cc
 
-  behind : AllByRecursion (λ f. cmp e.0 f.0 ≡ Less) es
-  behind = each_of_map (λ f. f.0) (λ k. cmp e.0 k ≡ Less) es (sorted_head cmp e.0 (keys_of es) sorted)
+      behind : AllByRecursion (λ f. cmp e.0 f.0 ≡ Less) es
+      behind = each_of_map (λ f. f.0) (λ k. cmp e.0 k ≡ Less) es (sorted_head cmp e.0 (keys_of es) sorted)
 
-  here : test e.0 ≡ true → IsLeast cmp test (e ∷ es) e.0
-  here passes = record {
-    there = or_first (is_eq (cmp e.0 e.0)) (list_any (λ f. is_eq (cmp e.0 f.0)) es) (ap is_eq (same e.0));
-    passes = passes;
-    least = (
-      λ _. ap is_le (same e.0),
-      each_weaker (λ f. cmp e.0 f.0 ≡ Less) (λ f. test f.0 ≡ true → is_le (cmp e.0 f.0) ≡ true) (λ f less _. less_is_le (cmp e.0 f.0) less) es behind,
-    );
-  }
+      here : test e.0 ≡ true → IsLeast cmp test (e ∷ es) e.0
+      here passes = record {
+        there = or_first (is_eq (cmp e.0 e.0)) (list_any (λ f. is_eq (cmp e.0 f.0)) es) (ap is_eq (same e.0));
+        passes = passes;
+        least = (
+          λ _. ap is_le (same e.0),
+          each_weaker (λ f. cmp e.0 f.0 ≡ Less) (λ f. test f.0 ≡ true → is_le (cmp e.0 f.0) ≡ true) (λ f less _. less_is_le (cmp e.0 f.0) less) es behind,
+        );
+      }
 
-  at : (b : Bool) → test e.0 ≡ b → (filter (λ e. test e.0) es ≡ x ∷ rest → IsLeast cmp test es x.0)
-      → cond b (e ∷ filter (λ e. test e.0) es) (filter (λ e. test e.0) es) ≡ x ∷ rest → IsLeast cmp test (e ∷ es) x.0
-  at true p ih k = subst (λ y. IsLeast cmp test (e ∷ es) y.0) (head (filter (λ e. test e.0) es) rest e x k) (here p)
-  at false p ih k = let l : IsLeast cmp test es x.0 = ih k in record {
-    there = or_second (is_eq (cmp x.0 e.0)) (list_any (λ f. is_eq (cmp x.0 f.0)) es) l.there;
-    passes = l.passes;
-    least = ((λ t. absurd (true≢false (sym t ∙ p))), l.least);
-  }
+      at : (b : Bool) → test e.0 ≡ b → (filter (λ e. test e.0) es ≡ x ∷ rest → IsLeast cmp test es x.0)
+          → cond b (e ∷ filter (λ e. test e.0) es) (filter (λ e. test e.0) es) ≡ x ∷ rest → IsLeast cmp test (e ∷ es) x.0
+      at true p ih k = subst (λ y. IsLeast cmp test (e ∷ es) y.0) (head (filter (λ e. test e.0) es) rest e x k) (here p)
+      at false p ih k = let l : IsLeast cmp test es x.0 = ih k in record {
+        there = or_second (is_eq (cmp x.0 e.0)) (list_any (λ f. is_eq (cmp x.0 f.0)) es) l.there;
+        passes = l.passes;
+        least = ((λ t. absurd (true≢false (sym t ∙ p))), l.least);
+      }
 
 -- nothing passes a filter that leaves nothing
 pub filter_empty : {X : Type 0} (p : X → Bool) (xs : List X) → filter p xs ≡ [] → AllByRecursion (λ x. p x ≡ false) xs
@@ -211,7 +221,8 @@ any_weaker p q h (x ∷ xs) k = at (p x) refl (any_weaker p q h xs) k where
 pub find_filter : {X : Type 0} (p q : X → Bool) (xs : List X) → find q (filter p xs) ≡ find (λ x. p x && q x) xs
 find_filter p q [] = refl
 find_filter p q (x ∷ xs) = at (p x) (find_filter p q xs) where
-  at : (b : Bool) → find q (filter p xs) ≡ find (λ x. p x && q x) xs → find q (cond b (x ∷ filter p xs) (filter p xs)) ≡ cond (b && q x) (Some x) (find (λ x. p x && q x) xs)
+  at : (b : Bool) → find q (filter p xs) ≡ find (λ x. p x && q x) xs
+      → find q (cond b (x ∷ filter p xs) (filter p xs)) ≡ cond (b && q x) (Some x) (find (λ x. p x && q x) xs)
   at true ih = ap (λ rest. cond (q x) (Some x) rest) ih
   at false ih = ih
 

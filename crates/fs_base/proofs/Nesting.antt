@@ -1,5 +1,7 @@
 -- What follows from one prefix covering another: of covers of covers, of equal prefixes, of shorter ones.
-use Rattle.fs_base.proofs.{Words.{ℕ, ◌≡◌, ◌+◌, ◌-◌, ◌^◌, ◌<◌, ◌≤◌, refl, sym, ap, ◌∙◌, subst, arith, true, nat_cmp, is_eq, pow_pos, min, ordering_then, nat_tests, Prefix, width_of, afi_of, cleared, covers, prefix_cmp, last_address, IsPrefixOf}, Covers.{Covers, covers_fact, covers_test, meeting_covers, same_family, same_width, covers_bits, covers_from_bits}}
+use Rattle.fs_base.proofs.Words.{ℕ, ◌≡◌, ◌+◌, ◌-◌, ◌^◌, ◌<◌, ◌≤◌, refl, sym, ap, ◌∙◌, subst, arith, true, nat_cmp, is_eq, pow_pos, min, ordering_then}
+use Rattle.fs_base.proofs.Words.{nat_tests, Prefix, width_of, afi_of, cleared, covers, prefix_cmp, last_address, IsPrefixOf}
+use Rattle.fs_base.proofs.Covers.{Covers, covers_fact, covers_test, meeting_covers, same_family, same_width, covers_bits, covers_from_bits}
 
 pub covers_self : (p : Prefix) → covers p p ≡ true
 covers_self p = covers_test p p (record { family = refl; longer = omega arith; starts = omega arith; ends = omega arith })

@@ -1,5 +1,6 @@
 -- Octet lists: their parts are octets, and how two splits of one list relate.
-use Rattle.fs_base.proofs.Words.{◌≡◌, ℕ, ◌+◌, ◌<◌, ◌≤◌, List, [], ◌∷◌, ◌++◌, length, get_or, take, drop, refl, sym, subst, inl, inr, arith, take_at, drop_at, take-append-drop, take-take, get_or_past, cases_lt, AllByRecursion, concat, common_steps, IsOctets}
+use Rattle.fs_base.proofs.Words.{◌≡◌, ℕ, ◌+◌, ◌<◌, ◌≤◌, List, [], ◌∷◌, ◌++◌, length, get_or, take, drop, refl, sym, subst, inl, inr, arith, take_at}
+use Rattle.fs_base.proofs.Words.{drop_at, take-append-drop, take-take, get_or_past, cases_lt, AllByRecursion, concat, common_steps, IsOctets}
 pub use Rattle.std.proofs.Math.Seq.{take-append-add}
 use Rattle.std.proofs.lemmas.List.Elements.{All-from_get_or, All-append, All-take, All-drop}
 

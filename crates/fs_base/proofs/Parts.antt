@@ -1,6 +1,9 @@
 -- Laws of the parts that stand one behind the other.
 use Rattle.std.proofs.Common.{length-drop}
-use Rattle.fs_base.proofs.{Words.{◌≡◌, ℕ, zero, suc, List, [], ◌++◌, Option, Some, None, ◌<◌, ◌≤◌, ◌+◌, ◌-◌, inl, inr, length, take, drop, refl, ap, sym, ◌∙◌, arith, subst, nat_le, drop-take, nat_tests, with_part, parts_within, parts_of, parts_then, Shrinks, ShrinksBy, Stable}, Options.{none_or_some}}
+use Rattle.fs_base.proofs.Words.{◌≡◌, ℕ, zero, suc, List, [], ◌++◌, Option, Some, None, ◌<◌, ◌≤◌, ◌+◌, ◌-◌, inl, inr, length, take, drop, refl, ap}
+use Rattle.fs_base.proofs.Words.{sym, ◌∙◌, arith, subst, nat_le, drop-take, nat_tests, with_part, parts_within, parts_of, parts_then, Shrinks}
+use Rattle.fs_base.proofs.Words.{ShrinksBy, Stable}
+use Rattle.fs_base.proofs.Options.{none_or_some}
 
 module _ {N A : Type 0} (size : N → ℕ) (next : N → Option (A × N)) where
   within_end : (n : ℕ) (now : N) → next now ≡ None → parts_within next n now ≡ ([], now)

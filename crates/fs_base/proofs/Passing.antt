@@ -1,5 +1,6 @@
 -- Calls one behind the other: what they do to the files, and to the slot that they read.
-use Rattle.fs_base.proofs.{Words.{◌≡◌, ℕ, List, [], Bool, Option, refl, ◌∙◌, subst, arith, le_trans, Counted, Calls, Draws, Passed, Passes, PassesOn}, Drawing.{draws_more, draws_straight, passed_none, passed_then}}
+use Rattle.fs_base.proofs.Words.{◌≡◌, ℕ, List, [], Bool, Option, refl, ◌∙◌, subst, arith, le_trans, Counted, Calls, Draws, Passed, Passes, PassesOn}
+use Rattle.fs_base.proofs.Drawing.{draws_more, draws_straight, passed_none, passed_then}
 
 -- what was taken, told in another way
 pub passes_as : {One Other : Type 0} {told : Bool} {calls calls' : Calls} {left left' : ℕ → List ℕ} {holds holds' : List ℕ → Option (List ℕ)}

@@ -1,5 +1,9 @@
 -- The order of prefixes is what its words say.
-use Rattle.fs_base.{proofs.{Words.{ℕ, ◌≡◌, ◌+◌, ◌-◌, ◌^◌, ◌<◌, ◌≤◌, ◌⊎◌, inl, inr, sym, ap, ◌∙◌, arith, true, false, nat_cmp, is_eq, Less, Equal, pow_pos, true≢false, ordering_then, cases_lt, nat_tests, V4, V6, Prefix, width_of, afi_of, covers, prefix_cmp, last_address, prefix_total}, Covers.{Covers, covers_fact, meeting_covers, same_width}, Nesting.{Alike, alike, alike_test}, Orderings.{equal_of_is_eq}}, specs.Laws.{IsPrecedence}}
+use Rattle.fs_base.proofs.Words.{ℕ, ◌≡◌, ◌+◌, ◌-◌, ◌^◌, ◌<◌, ◌≤◌, ◌⊎◌, inl, inr, sym, ap, ◌∙◌, arith, true, false, nat_cmp, is_eq, Less, Equal}
+use Rattle.fs_base.proofs.Words.{pow_pos, true≢false, ordering_then, cases_lt, nat_tests, V4, V6, Prefix, width_of, afi_of, covers, prefix_cmp}
+use Rattle.fs_base.proofs.Words.{last_address, prefix_total}
+use Rattle.fs_base.proofs.{Covers.{Covers, covers_fact, meeting_covers, same_width}, Nesting.{Alike, alike, alike_test}, Orderings.{equal_of_is_eq}}
+use Rattle.fs_base.specs.Laws.{IsPrecedence}
 
 first_family : (f g a b m n : ℕ) → f < g → ordering_then (nat_cmp f g) (ordering_then (nat_cmp a b) (nat_cmp n m)) ≡ Less
 first_family f g a b m n h = grind (arith, nat_tests)
@@ -21,15 +25,16 @@ precedence_law = record { total = prefix_total; families = families; nested = ne
       first_family (afi_of p.family) (afi_of q.family) (last_address p) (last_address q) p.length q.length less
 
   nested : (p q : Prefix) → covers p q ≡ true → p.length < q.length → prefix_cmp q p ≡ Less
-  nested p q h shorter = longer_first (afi_of q.family) (afi_of p.family) (last_address q) (last_address p) q.length p.length (sym (covers_fact p q h).family) ends shorter where
-    fact : Covers p q
-    fact = covers_fact p q h
+  nested p q h shorter = longer_first (afi_of q.family) (afi_of p.family) (last_address q) (last_address p) q.length p.length
+      (sym (covers_fact p q h).family) ends shorter where
+        fact : Covers p q
+        fact = covers_fact p q h
 
-    ends : last_address q ≤ last_address p
-    ends =
-        let last : last_address q ≡ q.bits + 2 ^ (width_of p.family - q.length) - 1 =
-        ap (λ w. q.bits + 2 ^ (w - q.length) - 1) (sym (same_width p.family q.family fact.family)) in
-        omega (arith, last, fact.ends)
+        ends : last_address q ≤ last_address p
+        ends =
+            let last : last_address q ≡ q.bits + 2 ^ (width_of p.family - q.length) - 1 =
+            ap (λ w. q.bits + 2 ^ (w - q.length) - 1) (sym (same_width p.family q.family fact.family)) in
+            omega (arith, last, fact.ends)
 
   apart : (p q : Prefix) → p.family ≡ q.family → covers p q ≡ false → covers q p ≡ false → p.bits < q.bits → prefix_cmp p q ≡ Less
   apart p q family h k lower =

@@ -1,6 +1,12 @@
 -- The longest prefix that covers another, found by the order: where the first prefix from `low` on doesn't cover
 -- it, each that does covers what the two have in common.
-use Rattle.fs_base.{proofs.{Words.{◌≡◌, ◌<◌, ◌≤◌, ◌⊎◌, inl, inr, sym, ◌∙◌, true, false, List, true≢false, is_eq, is_le, arith, AllByRecursion, cases_lt, Prefix, covers, prefix_cmp}, Bools.{false_from}, Covers.{covers_fact, covered_before, between_covered, Covers, same_family}, Nesting.{covers_self, covers_trans, covers_same_length, alike_covers}, Lists.{each, each_both, each_weaker}}, specs.Search.{IsFirst, IsLongest}}
+use Rattle.fs_base.proofs.Words.{◌≡◌, ◌<◌, ◌≤◌, ◌⊎◌, inl, inr, sym, ◌∙◌, true, false, List, true≢false, is_eq, is_le, arith, AllByRecursion, cases_lt}
+use Rattle.fs_base.proofs.Words.{Prefix, covers, prefix_cmp}
+use Rattle.fs_base.proofs.Bools.{false_from}
+use Rattle.fs_base.proofs.Covers.{covers_fact, covered_before, between_covered, Covers, same_family}
+use Rattle.fs_base.proofs.Nesting.{covers_self, covers_trans, covers_same_length, alike_covers}
+use Rattle.fs_base.proofs.Lists.{each, each_both, each_weaker}
+use Rattle.fs_base.specs.Search.{IsFirst, IsLongest}
 
 module _ {X : Type 0} (at : X → Prefix) (held : List X) where
   -- what covers d covers p as well

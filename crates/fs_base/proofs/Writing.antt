@@ -1,5 +1,7 @@
 -- The loop that writes a whole piece: so much was written, and so much is left.
-use Rattle.fs_base.proofs.{Words.{◌≡◌, ◌<◌, ◌+◌, ℕ, List, [], ◌++◌, Option, length, take, drop, ap, sym, ◌∙◌, arith, append_assoc, length-append, take-append-drop, Grew, GrewPart}, Grew.{Grew-trans, part_then, part_none}}
+use Rattle.fs_base.proofs.Words.{◌≡◌, ◌<◌, ◌+◌, ℕ, List, [], ◌++◌, Option, length, take, drop, ap, sym, ◌∙◌, arith, append_assoc, length-append}
+use Rattle.fs_base.proofs.Words.{take-append-drop, Grew, GrewPart}
+use Rattle.fs_base.proofs.Grew.{Grew-trans, part_then, part_none}
 
 pub record Writing (piece rest : List ℕ) (before now : Option (List ℕ)) : Type 0 where
   pub done : List ℕ

@@ -1,5 +1,6 @@
 -- Octets that were put back, as they are kept: behind zeros, which no octet is read from.
-use Rattle.std.{specs.Prelude.{ℕ, List, ◌++◌, ◌≡◌, ◌≤◌, ◌-◌, length, take, drop, replicate}, proofs.{Common.{ap, sym, ◌∙◌, arith}, lemmas.List.{length-drop, take-append-drop}}}
+use Rattle.std.specs.Prelude.{ℕ, List, ◌++◌, ◌≡◌, ◌≤◌, ◌-◌, length, take, drop, replicate}
+use Rattle.std.proofs.{Common.{ap, sym, ◌∙◌, arith}, lemmas.List.{length-drop, take-append-drop}}
 
 pub record IsBack (octets : List ℕ) (from : ℕ) : Type 0 where
   pub within : from ≤ 4

@@ -1,5 +1,6 @@
 -- The bits of addresses.
-use Rattle.std.proofs.{Common.{ℕ, min, ◌≡◌, ◌+◌, ◌-◌, ◌*◌, ◌/◌, ◌%◌, ◌^◌, ◌<◌, ◌≤◌, refl, sym, ap, ◌∙◌, subst, arith}, lemmas.Nat.{pow_pos, pow-add, mod_below, div_below, row_fits}, Math.Nat.{mod-eq_of_lt, mul-div_cancel}}
+use Rattle.std.proofs.Common.{ℕ, min, ◌≡◌, ◌+◌, ◌-◌, ◌*◌, ◌/◌, ◌%◌, ◌^◌, ◌<◌, ◌≤◌, refl, sym, ap, ◌∙◌, subst, arith}
+use Rattle.std.proofs.{lemmas.Nat.{pow_pos, pow-add, mod_below, div_below, row_fits}, Math.Nat.{mod-eq_of_lt, mul-div_cancel}}
 use Rattle.fs_base.specs.declared.prefix.Family.{Family, TheVariants.{V4, V6}}
 
 -- address family numbers, RFC 4760 section 3
@@ -38,7 +39,9 @@ block_cleared w n bits h = record {
   below = subst (λ k. bits % 2 ^ w < k) (whole_width w n h) (mod_below bits (2 ^ w) (pow_pos w))
 
   within : cleared w n bits + 2 ^ (w - n) ≤ 2 ^ w
-  within = subst (λ k. cleared w n bits + 2 ^ (w - n) ≤ k) (sym (whole_width w n h)) (row_fits (bits % 2 ^ w / 2 ^ (w - n)) (2 ^ (w - n)) (2 ^ n) (2 ^ (w - n)) (div_below (bits % 2 ^ w) (2 ^ (w - n)) (2 ^ n) (pow_pos (w - n)) below) (omega arith))
+  within = subst (λ k. cleared w n bits + 2 ^ (w - n) ≤ k) (sym (whole_width w n h))
+      (row_fits (bits % 2 ^ w / 2 ^ (w - n)) (2 ^ (w - n)) (2 ^ n) (2 ^ (w - n))
+      (div_below (bits % 2 ^ w) (2 ^ (w - n)) (2 ^ n) (pow_pos (w - n)) below) (omega arith))
 
 pub block_below : (w n b : ℕ) → IsBlock w n b → b < 2 ^ w
 block_below w n b h = let p : 0 < 2 ^ (w - n) = pow_pos (w - n) in omega (arith, h.within)
@@ -48,7 +51,8 @@ block_of w n b h e = subst (λ k. IsBlock w n k) (sym e) (block_cleared w n b h)
 
 -- the bits of a block are cleared already
 pub block_again : (w n b : ℕ) → IsBlock w n b → b ≡ cleared w n b
-block_again w n b h = sym (ap (λ k. k / 2 ^ (w - n) * 2 ^ (w - n)) (mod-eq_of_lt (block_below w n b h)) ∙ ap (λ k. k * 2 ^ (w - n)) (ap (λ k. k / 2 ^ (w - n)) h.spelled ∙ mul-div_cancel h.count (pow_pos (w - n))) ∙ sym h.spelled)
+block_again w n b h = sym (ap (λ k. k / 2 ^ (w - n) * 2 ^ (w - n)) (mod-eq_of_lt (block_below w n b h))
+    ∙ ap (λ k. k * 2 ^ (w - n)) (ap (λ k. k / 2 ^ (w - n)) h.spelled ∙ mul-div_cancel h.count (pow_pos (w - n))) ∙ sym h.spelled)
 
 pub cleared_again : (w n bits : ℕ) → n ≤ w → cleared w n bits ≡ cleared w n (cleared w n bits)
 cleared_again w n bits h = block_again w n (cleared w n bits) (block_cleared w n bits h)

@@ -1,7 +1,12 @@
 -- Prefixes: which lie under which, and their order.
-use Rattle.std.{specs.{Prelude.{◌≡◌, ℕ, ◌+◌, ◌-◌, ◌^◌, ◌<◌, ◌==◌, Bool, ◌&&◌, min, nat_le}, Cmp.{IsTotalOrder, on_total, then_total, back_total, nat_cmp_total}, Ordering.{nat_cmp, on, then_cmp, flip_args, is_eq, ordering_then}, declared.cmp.Ordering.{Ordering}}, proofs.{Common.{arith, refl, ap}, lemmas.{Bool.Decides.{nat_tests}, Nat.{pow_pos}}}}
+use Rattle.std.specs.Prelude.{◌≡◌, ℕ, ◌+◌, ◌-◌, ◌^◌, ◌<◌, ◌==◌, Bool, ◌&&◌, min, nat_le}
+use Rattle.std.specs.Cmp.{IsTotalOrder, on_total, then_total, back_total, nat_cmp_total}
+use Rattle.std.specs.{Ordering.{nat_cmp, on, then_cmp, flip_args, is_eq, ordering_then}, declared.cmp.Ordering.{Ordering}}
+use Rattle.std.proofs.{Common.{arith, refl, ap}, lemmas.{Bool.Decides.{nat_tests}, Nat.{pow_pos}}}
 use denote.Enum.Bare.{sameb}
-use Rattle.fs_base.specs.{contracts.prefix.Family.{the_type}, declared.prefix.{Family.{Family, TheVariants.{V4, V6}}, Prefix.{Prefix}}, Bits.{width_of, afi_of, cleared, cleared_again, min_short}}
+use Rattle.fs_base.specs.contracts.prefix.Family.{the_type}
+use Rattle.fs_base.specs.declared.prefix.{Family.{Family, TheVariants.{V4, V6}}, Prefix.{Prefix}}
+use Rattle.fs_base.specs.Bits.{width_of, afi_of, cleared, cleared_again, min_short}
 
 -- the prefix of the first bits of an address
 pub record IsPrefixOf (family : Family) (bits length : ℕ) (prefix : Prefix) : Type 0 where
@@ -35,7 +40,8 @@ prefix_cmp = then_cmp (on (λ p. afi_of p.family) nat_cmp) (then_cmp (on last_ad
 -- The laws of the order, which its impl gives.
 
 pub prefix_total : IsTotalOrder prefix_cmp
-prefix_total = then_total (on_total (λ p. afi_of p.family) nat_cmp_total) (then_total (on_total last_address nat_cmp_total) (back_total (on_total (λ p. p.length) nat_cmp_total)))
+prefix_total = then_total (on_total (λ p. afi_of p.family) nat_cmp_total)
+    (then_total (on_total last_address nat_cmp_total) (back_total (on_total (λ p. p.length) nat_cmp_total)))
 
 -- two numbers and two lengths are the same where the order cannot tell them apart
 same_numbers : (x y a b m n : ℕ) → 0 < x → 0 < y → (m ≡ n → x ≡ y)
@@ -46,7 +52,9 @@ same_within : (w a b m n : ℕ) → ((m == n) && (a == b)) ≡ is_eq (ordering_t
 same_within w a b m n = same_numbers (2 ^ (w - m)) (2 ^ (w - n)) a b m n (pow_pos (w - m)) (pow_pos (w - n)) (λ e. ap (λ k. 2 ^ (w - k)) e)
 
 same_parts : (f g : Family) (a b m n : ℕ)
-    → (sameb the_type f g && ((m == n) && (a == b))) ≡ is_eq (ordering_then (nat_cmp (afi_of f) (afi_of g)) (ordering_then (nat_cmp (a + 2 ^ (width_of f - m) - 1) (b + 2 ^ (width_of g - n) - 1)) (nat_cmp n m)))
+    → (sameb the_type f g && ((m == n) && (a == b)))
+    ≡ is_eq (ordering_then (nat_cmp (afi_of f) (afi_of g))
+    (ordering_then (nat_cmp (a + 2 ^ (width_of f - m) - 1) (b + 2 ^ (width_of g - n) - 1)) (nat_cmp n m)))
 same_parts V4 V4 a b m n = same_within 32 a b m n
 same_parts V4 V6 a b m n = refl
 same_parts V6 V4 a b m n = refl

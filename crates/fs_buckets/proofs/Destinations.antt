@@ -1,4 +1,5 @@
-use Rattle.fs_buckets.proofs.Words.{◌≡◌, ℕ, ◌-◌, refl, sym, subst, Option, Some, None, none-some, same_Some, Family, Ruled, IsRule, destination_of, IsMade, made_parts, last_shown, span_by, span_of}
+use Rattle.fs_buckets.proofs.Words.{◌≡◌, ℕ, ◌-◌, refl, sym, subst, Option, Some, None, none-some, same_Some, Family, Ruled, IsRule, destination_of}
+use Rattle.fs_buckets.proofs.Words.{IsMade, made_parts, last_shown, span_by, span_of}
 
 -- A rule's destination by its first and last address.
 

@@ -1,5 +1,6 @@
 -- Where a list of addresses that rise turns.
-use Rattle.fs_buckets.proofs.Words.{◌≡◌, ℕ, ◌<◌, ◌≤◌, ◌⊎◌, inl, inr, subst, List, get_or, length, nat_lt, arith, cases_order, ltb-true, lt-ltb, get_or_default, AreRising}
+use Rattle.fs_buckets.proofs.Words.{◌≡◌, ℕ, ◌<◌, ◌≤◌, ◌⊎◌, inl, inr, subst, List, get_or, length, nat_lt, arith, cases_order, ltb-true, lt-ltb}
+use Rattle.fs_buckets.proofs.Words.{get_or_default, AreRising}
 use Rattle.std.specs.List.Sorted.{IsPartitionedBy}
 
 -- no later one is less

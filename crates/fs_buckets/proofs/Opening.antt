@@ -1,5 +1,11 @@
 -- Buckets with an empty one more among them.
-use Rattle.fs_buckets.proofs.{Words.{◌≡◌, ℕ, ◌+◌, ◌-◌, ◌^◌, ◌<◌, ◌≤◌, ◌⊎◌, ◌||◌, inl, inr, refl, sym, ap, ap₂, subst, ◌∙◌, [], ◌∷◌, Bool, true, false, if◌then◌else◌, nat_le, nat_lt, Some, length, get_or, arith, insert, mod-eq_of_lt, cases_lt, cases_order, le-leb, le-ltb, lt-leb, lt-ltb, Buckets, Node, numbers_in, nodes_in, AreChanged, AreOpened, IsSubnet, beside, node_at, parent_beside, HasEmpty, IsGap, IsLeft, IsPassed, bucket_span, AreSound}, Splicing.{at_back, at_front, at_middle, spliced_size}, Stretching.{first_of, home_of, home_over, home_under, last_of, none, start_of}, Subnets.{subnet_proper, subnets_nest}}
+use Rattle.fs_buckets.proofs.Words.{◌≡◌, ℕ, ◌+◌, ◌-◌, ◌^◌, ◌<◌, ◌≤◌, ◌⊎◌, ◌||◌, inl, inr, refl, sym, ap, ap₂, subst, ◌∙◌, [], ◌∷◌, Bool, true, false}
+use Rattle.fs_buckets.proofs.Words.{if◌then◌else◌, nat_le, nat_lt, Some, length, get_or, arith, insert, mod-eq_of_lt, cases_lt, cases_order, le-leb}
+use Rattle.fs_buckets.proofs.Words.{le-ltb, lt-leb, lt-ltb, Buckets, Node, numbers_in, nodes_in, AreChanged, AreOpened, IsSubnet, beside, node_at}
+use Rattle.fs_buckets.proofs.Words.{parent_beside, HasEmpty, IsGap, IsLeft, IsPassed, bucket_span, AreSound}
+use Rattle.fs_buckets.proofs.Splicing.{at_back, at_front, at_middle, spliced_size}
+use Rattle.fs_buckets.proofs.Stretching.{first_of, home_of, home_over, home_under, last_of, none, start_of}
+use Rattle.fs_buckets.proofs.Subnets.{subnet_proper, subnets_nest}
 
 -- where a bucket stands among those with one more at a place
 lift : (place i : ℕ) → ℕ
@@ -30,7 +36,8 @@ behind_it place i h = elim (lifted place i) [ inl l ↦ omega (arith, h, l.0, l.
 
 in_order : (place i j : ℕ) → lift place i < lift place j → i < j
 in_order place i j h = at (lifted place i) (lifted place j) where
-  at : ((i < place) × (lift place i ≡ i)) ⊎ ((place ≤ i) × (lift place i ≡ i + 1)) → ((j < place) × (lift place j ≡ j)) ⊎ ((place ≤ j) × (lift place j ≡ j + 1)) → i < j
+  at : ((i < place) × (lift place i ≡ i)) ⊎ ((place ≤ i) × (lift place i ≡ i + 1))
+      → ((j < place) × (lift place j ≡ j)) ⊎ ((place ≤ j) × (lift place j ≡ j + 1)) → i < j
   at (inl l) (inl k) = omega (arith, h, l.1, k.1)
   at (inl l) (inr k) = omega (arith, l.0, k.0)
   at (inr l) (inl k) = omega (arith, h, l.0, l.1, k.0, k.1)
@@ -45,7 +52,11 @@ origin place m i within below = at (cases_order i place) where
   at : (i ≡ place) ⊎ ((i < place) ⊎ (place < i)) → Origin place m i
   at (inl same) = inl same
   at (inr (inl less)) = inr (i, lift_low place i less, omega (arith, less, within))
-  at (inr (inr more)) = inr (i - 1, lift_high place (i - 1) (omega (arith, more)) ∙ (let e : i - 1 + 1 ≡ i = omega (arith, more) in e), omega (arith, below, more))
+  at (inr (inr more)) = inr (
+    i - 1,
+    lift_high place (i - 1) (omega (arith, more)) ∙ (let e : i - 1 + 1 ≡ i = omega (arith, more) in e),
+    omega (arith, below, more),
+  )
 
 one : (place m : ℕ) (P : ℕ → Type 0) → place ≤ m → ((o : ℕ) → o < m → P (lift place o)) → P place → (i : ℕ) → i < m + 1 → P i
 one place m P within old new i below = at (origin place m i within below) where
@@ -53,14 +64,16 @@ one place m P within old new i below = at (origin place m i within below) where
   at (inl same) = subst P (sym same) new
   at (inr (o, is, inside)) = subst P is (old o inside)
 
-two : (place m : ℕ) (R : ℕ → ℕ → Type 0) → place ≤ m → ((o p : ℕ) → o < p → p < m → R (lift place o) (lift place p)) → ((o : ℕ) → o < place → R (lift place o) place)
+two : (place m : ℕ) (R : ℕ → ℕ → Type 0) → place ≤ m → ((o p : ℕ) → o < p → p < m → R (lift place o) (lift place p))
+    → ((o : ℕ) → o < place → R (lift place o) place)
     → ((p : ℕ) → place ≤ p → p < m → R place (lift place p)) → (i j : ℕ) → i < j → j < m + 1 → R i j
 two place m R within olds to from i j less below = at (origin place m i within (omega (arith, less, below))) (origin place m j within below) where
   at : Origin place m i → Origin place m j → R i j
   at (inl a) (inl b) = absurd (omega (arith, less, a, b))
   at (inl a) (inr (p, e, inside)) = subst (λ x. R x j) (sym a) (subst (R place) e (from p (behind_it place p (omega (arith, less, a, e))) inside))
   at (inr (o, d, inside)) (inl b) = subst (R i) (sym b) (subst (λ x. R x place) d (to o (below_it place o (omega (arith, less, d, b)))))
-  at (inr (o, d, inner)) (inr (p, e, inside)) = subst (λ x. R x j) d (subst (R (lift place o)) e (olds o p (in_order place o p (omega (arith, less, d, e))) inside))
+  at (inr (o, d, inner)) (inr (p, e, inside)) =
+      subst (λ x. R x j) d (subst (R (lift place o)) e (olds o p (in_order place o p (omega (arith, less, d, e))) inside))
 
 -- the first buckets with an empty one of these addresses at a place, whose rules would stand from a number on
 pub record IsOpened (old new : Buckets) (bucket low from parent : ℕ) (span : ℕ × ℕ) : Type 0 where
@@ -75,7 +88,8 @@ pub record IsOpened (old new : Buckets) (bucket low from parent : ℕ) (span : �
 abbrev parent_of : Buckets → ℕ → ℕ
 parent_of b i = (node_at (nodes_in b.nodes) i).parent
 
-pub opens : (old new : Buckets) (n bucket low from parent : ℕ) (span : ℕ × ℕ) → AreSound old n → IsSubnet span.0 span.1 → IsGap old bucket span from → IsOpened old new bucket low from parent span
+pub opens : (old new : Buckets) (n bucket low from parent : ℕ) (span : ℕ × ℕ) → AreSound old n → IsSubnet span.0 span.1 → IsGap old bucket span from
+    → IsOpened old new bucket low from parent span
     → HasEmpty old new bucket span from
 opens old new n bucket low from parent span s own gap o = record {
   sound = record {
@@ -85,22 +99,27 @@ opens old new n bucket low from parent span s own gap o = record {
         (λ i less. omega (arith, last_is i, last_at, last_passed i less))
         (λ j past below. omega (arith, last_is j, last_at, last_left j past below)) i j less (omega (arith, below, lasts));
     subnets = λ i below. one bucket m (λ i. IsSubnet (first_of new i) (last_of new i)) inside
-        (λ i below. subst (λ x. IsSubnet x (last_of new (lift bucket i))) (sym (first_is i (omega (arith, below)))) (subst (IsSubnet (first_of old i)) (sym (last_is i)) (s.subnets i below)))
+        (λ i below. subst (λ x. IsSubnet x (last_of new (lift bucket i))) (sym (first_is i (omega (arith, below))))
+        (subst (IsSubnet (first_of old i)) (sym (last_is i)) (s.subnets i below)))
         (subst (λ x. IsSubnet x (last_of new bucket)) (sym first_at) (subst (IsSubnet span.0) (sym last_at) own)) i (omega (arith, below, lasts));
     nested = λ i j less below. two bucket m (λ i j. first_of new j ≤ last_of new i → first_of new j ≤ first_of new i) inside nests
-        (λ i less meets. let x = first_is i (omega (arith, less, inside)) in omega (arith, x, first_at, first_passed i less (omega (arith, meets, first_at, last_is i))))
-        (λ j past below meets. let x = first_is j (omega (arith, below)) in omega (arith, x, first_at, first_left j past below (omega (arith, meets, x, last_at)))) i j less (omega (arith, below, lasts));
+        (λ i less meets. let x = first_is i (omega (arith, less, inside)) in
+        omega (arith, x, first_at, first_passed i less (omega (arith, meets, first_at, last_is i))))
+        (λ j past below meets. let x = first_is j (omega (arith, below)) in
+        omega (arith, x, first_at, first_left j past below (omega (arith, meets, x, last_at)))) i j less (omega (arith, below, lasts));
     after = λ i below. (ups i (omega (arith, below, lasts))).0;
     within = λ i below. let w = (ups i (omega (arith, below, lasts))).1 in omega (arith, w, lasts);
     least = λ i j below less under. two bucket m (λ i j. j < parent_of new i → first_of new i < first_of new j) inside leasts before
-        (λ j past below under. let x = first_is j (omega (arith, below)) in omega (arith, x, first_at, o.least j past (omega (arith, under, parent_at, lift_high bucket j past))))
+        (λ j past below under. let x = first_is j (omega (arith, below)) in
+        omega (arith, x, first_at, o.least j past (omega (arith, under, parent_at, lift_high bucket j past))))
         i j less (let top = (ups i (omega (arith, below, lasts))).1 in omega (arith, under, top)) under;
     starts = λ i j le below. start i j le (omega (arith, below, lasts)) (cases_lt i j);
     tail = ap (start_of new) (lasts ∙ sym (lift_high bucket m inside)) ∙ start_is m (omega arith) ∙ s.tail ∙ sym o.homes.size;
     few = omega arith;
     home = λ k below. omega (arith, home_is k (here k below), lift_most bucket (home_of old k), s.home k (here k below), lasts);
     begins = λ k below. let h = s.home k (here k below) in
-        let e : start_of new (home_of new k) ≡ start_of old (home_of old k) = ap (start_of new) (home_is k (here k below)) ∙ start_is (home_of old k) (omega (arith, h)) in
+        let e : start_of new (home_of new k) ≡ start_of old (home_of old k) = ap (start_of new) (home_is k (here k below))
+        ∙ start_is (home_of old k) (omega (arith, h)) in
         omega (arith, e, s.begins k (here k below));
     ends = λ k below. end k (here k below) (cases_order (home_of old k + 1) bucket);
   };
@@ -115,7 +134,8 @@ opens old new n bucket low from parent span s own gap o = record {
   size = o.homes.size;
   housed = λ spans housed. record {
     homed = λ k below. let h = s.home k (here k below) in
-        housed.homed k (here k below) ∙ sym (ap (λ i. Some (bucket_span new i)) (home_is k (here k below)) ∙ ap₂ (λ (x y : ℕ). Some (x, y)) (first_is (home_of old k) (omega (arith, h))) (last_is (home_of old k)));
+        housed.homed k (here k below) ∙ sym (ap (λ i. Some (bucket_span new i)) (home_is k (here k below))
+        ∙ ap₂ (λ (x y : ℕ). Some (x, y)) (first_is (home_of old k) (omega (arith, h))) (last_is (home_of old k)));
     bare = λ k past. housed.bare k (omega (arith, past, o.homes.size));
   };
 } where
@@ -126,7 +146,8 @@ opens old new n bucket low from parent span s own gap o = record {
   inside = gap.within
 
   lasts : length (numbers_in new.lasts) ≡ length (numbers_in old.lasts) + 1
-  lasts = let a = spliced_size (numbers_in old.lasts) (span.1 ∷ []) bucket bucket (omega arith) inside in let b : length (numbers_in new.lasts) ≡ length (insert (numbers_in old.lasts) bucket span.1) = ap length o.lasts in omega (arith, a, b)
+  lasts = let a = spliced_size (numbers_in old.lasts) (span.1 ∷ []) bucket bucket (omega arith) inside in
+      let b : length (numbers_in new.lasts) ≡ length (insert (numbers_in old.lasts) bucket span.1) = ap length o.lasts in omega (arith, a, b)
 
   -- last addresses
   last_is : (i : ℕ) → last_of new (lift bucket i) ≡ last_of old i
@@ -180,15 +201,19 @@ opens old new n bucket low from parent span s own gap o = record {
 
     at : (parent_of old i < bucket) ⊎ (bucket ≤ parent_of old i) → (i < low) ⊎ (low ≤ i) → (i < bucket) ⊎ (bucket ≤ i) → Parent i
     at (inl near) c d = inl (near, by true _ (lt-ltb (parent_of old i) bucket near) refl)
-    at (inr over) (inl before) d = inr (inl (over, inl before, by false true (le-ltb (parent_of old i) bucket over) (ap (λ b. b || nat_le bucket i) (lt-ltb i low before))))
-    at (inr over) (inr within) (inl front) = inr (inr (over, front, by false false (le-ltb (parent_of old i) bucket over) (λ j. le-ltb i low within j || lt-leb bucket i front j)))
-    at (inr over) (inr within) (inr past) = inr (inl (over, inr past, by false true (le-ltb (parent_of old i) bucket over) (λ j. le-ltb i low within j || le-leb bucket i past j)))
+    at (inr over) (inl before) d =
+        inr (inl (over, inl before, by false true (le-ltb (parent_of old i) bucket over) (ap (λ b. b || nat_le bucket i) (lt-ltb i low before))))
+    at (inr over) (inr within) (inl front) =
+        inr (inr (over, front, by false false (le-ltb (parent_of old i) bucket over) (λ j. le-ltb i low within j || lt-leb bucket i front j)))
+    at (inr over) (inr within) (inr past) =
+        inr (inl (over, inr past, by false true (le-ltb (parent_of old i) bucket over) (λ j. le-ltb i low within j || le-leb bucket i past j)))
 
   parent_at : parent_of new bucket ≡ parent + 1
   parent_at = ap (λ (x : Node ℕ). x.parent) (o.nodes.at none)
 
   ups : (i : ℕ) → i < length (numbers_in old.lasts) + 1 → (i < parent_of new i) × (parent_of new i ≤ length (numbers_in old.lasts) + 1)
-  ups = one bucket m (λ i. (i < parent_of new i) × (parent_of new i ≤ length (numbers_in old.lasts) + 1)) inside (λ i below. up i below (parent_is i below) (s.after i below) (s.within i below))
+  ups = one bucket m (λ i. (i < parent_of new i) × (parent_of new i ≤ length (numbers_in old.lasts) + 1)) inside
+      (λ i below. up i below (parent_is i below) (s.after i below) (s.within i below))
       (omega (arith, parent_at, o.over.0), omega (arith, parent_at, o.over.1)) where
         up : (i : ℕ) → i < length (numbers_in old.lasts) → Parent i → i < parent_of old i → parent_of old i ≤ length (numbers_in old.lasts)
             → (lift bucket i < parent_of new (lift bucket i)) × (parent_of new (lift bucket i) ≤ length (numbers_in old.lasts) + 1)
@@ -222,13 +247,15 @@ opens old new n bucket low from parent span s own gap o = record {
     at (inr tied) = let l : first_of old i + 0 ≤ span.0 = tied.1 in omega (arith, l)
 
   -- two of the old ones, and one before the new
-  nests : (i j : ℕ) → i < j → j < length (numbers_in old.lasts) → first_of new (lift bucket j) ≤ last_of new (lift bucket i) → first_of new (lift bucket j) ≤ first_of new (lift bucket i)
+  nests : (i j : ℕ) → i < j → j < length (numbers_in old.lasts) → first_of new (lift bucket j) ≤ last_of new (lift bucket i)
+      → first_of new (lift bucket j) ≤ first_of new (lift bucket i)
   nests i j less below meets =
       let x = first_is i (omega (arith, less, below)) in
       let y = first_is j (omega (arith, below)) in
       omega (arith, x, y, s.nested i j less below (omega (arith, meets, y, last_is i)))
 
-  leasts : (i j : ℕ) → i < j → j < length (numbers_in old.lasts) → lift bucket j < parent_of new (lift bucket i) → first_of new (lift bucket i) < first_of new (lift bucket j)
+  leasts : (i j : ℕ) → i < j → j < length (numbers_in old.lasts) → lift bucket j < parent_of new (lift bucket i)
+      → first_of new (lift bucket i) < first_of new (lift bucket j)
   leasts i j less below under =
       let early : i < length (numbers_in old.lasts) = omega (arith, less, below) in
       omega (arith, first_is i (omega (arith, early)), first_is j (omega (arith, below)), s.least i j early less (short (parent_is i early))) where
@@ -240,7 +267,13 @@ opens old new n bucket low from parent span s own gap o = record {
   before : (i : ℕ) → i < bucket → bucket < parent_of new (lift bucket i) → first_of new (lift bucket i) < first_of new bucket
   before i less under =
       let early : i < length (numbers_in old.lasts) = omega (arith, less, inside) in
-      omega (arith, first_is i (omega (arith, early)), first_at, subnet_proper (first_of old i) (last_of old i) (s.subnets i early), o.apart i (at (parent_is i early))) where
+      omega (
+        arith,
+        first_is i (omega (arith, early)),
+        first_at,
+        subnet_proper (first_of old i) (last_of old i) (s.subnets i early),
+        o.apart i (at (parent_is i early)),
+      ) where
         at : Parent i → i < low
         at (inl p) = absurd (omega (arith, p.0, p.1, under))
         at (inr (inl p)) = elim p.1 [ inl early ↦ early | inr past ↦ absurd (omega (arith, less, past)) ]
@@ -248,9 +281,15 @@ opens old new n bucket low from parent span s own gap o = record {
 
   start : (i j : ℕ) → i ≤ j → j ≤ length (numbers_in old.lasts) + 1 → (i < j) ⊎ (j ≤ i) → start_of new i ≤ start_of new j
   start i j le below (inl less) = two bucket (m + 1) (λ i j. start_of new i ≤ start_of new j) (omega (arith, inside))
-      (λ i j less below. omega (arith, start_is i (omega (arith, less, below)), start_is j (omega (arith, below)), s.starts i j (omega (arith, less)) (omega (arith, below))))
+      (λ i j less below. omega (
+        arith,
+        start_is i (omega (arith, less, below)),
+        start_is j (omega (arith, below)),
+        s.starts i j (omega (arith, less)) (omega (arith, below)),
+      ))
       (λ i less. omega (arith, start_is i (omega (arith, less, inside)), start_at, begin, s.starts i bucket (omega (arith, less)) inside))
-      (λ j past below. omega (arith, start_is j (omega (arith, below)), start_at, begin, s.starts bucket j past (omega (arith, below)))) i j less (omega (arith, below))
+      (λ j past below. omega (arith, start_is j (omega (arith, below)), start_at, begin, s.starts bucket j past (omega (arith, below)))) i j less
+      (omega (arith, below))
   start i j le below (inr past) = let same : i ≡ j = omega (arith, le, past) in subst (λ k. start_of new i ≤ start_of new k) same (omega arith)
 
   -- homes
@@ -263,7 +302,8 @@ opens old new n bucket low from parent span s own gap o = record {
     | inr late ↦ o.homes.done k 0 late below ∙ sym (lift_high bucket (home_of old k) (home_over old n bucket k s inside below (omega (arith, late, begin))))
   ]
 
-  end : (k : ℕ) → k < length old.homes.items → (home_of old k + 1 ≡ bucket) ⊎ ((home_of old k + 1 < bucket) ⊎ (bucket < home_of old k + 1)) → k < start_of new (home_of new k + 1)
+  end : (k : ℕ) → k < length old.homes.items → (home_of old k + 1 ≡ bucket) ⊎ ((home_of old k + 1 < bucket) ⊎ (bucket < home_of old k + 1))
+      → k < start_of new (home_of new k + 1)
   end k below place = at place where
     next : home_of new k + 1 ≡ lift bucket (home_of old k + 1) → k < start_of new (home_of new k + 1)
     next is = let h = s.home k below in
@@ -272,8 +312,14 @@ opens old new n bucket low from parent span s own gap o = record {
 
     at : (home_of old k + 1 ≡ bucket) ⊎ ((home_of old k + 1 < bucket) ⊎ (bucket < home_of old k + 1)) → k < start_of new (home_of new k + 1)
     at (inl last) =
-        let e : start_of new (home_of new k + 1) ≡ start_of new bucket = ap (start_of new) (omega (arith, home_is k below, lift_low bucket (home_of old k) (omega (arith, last)), last)) in
+        let e : start_of new (home_of new k + 1) ≡ start_of new bucket =
+        ap (start_of new) (omega (arith, home_is k below, lift_low bucket (home_of old k) (omega (arith, last)), last)) in
         let a : start_of old (home_of old k + 1) ≡ start_of old bucket = ap (start_of old) last in
         omega (arith, e, a, start_at, begin, s.ends k below)
     at (inr (inl less)) = next (omega (arith, home_is k below, lift_low bucket (home_of old k) (omega (arith, less)), lift_low bucket (home_of old k + 1) less))
-    at (inr (inr more)) = next (omega (arith, home_is k below, lift_high bucket (home_of old k) (omega (arith, more)), lift_high bucket (home_of old k + 1) (omega (arith, more))))
+    at (inr (inr more)) = next (omega (
+      arith,
+      home_is k below,
+      lift_high bucket (home_of old k) (omega (arith, more)),
+      lift_high bucket (home_of old k + 1) (omega (arith, more)),
+    ))

@@ -1,4 +1,5 @@
-use Rattle.fs_buckets.proofs.Words.{◌≡◌, ℕ, zero, suc, ◌+◌, ◌<◌, ◌++◌, [], ◌∷◌, List, length, get_or, take, drop, map, refl, sym, ap, subst, ◌∙◌, AllZip, map_more}
+use Rattle.fs_buckets.proofs.Words.{◌≡◌, ℕ, zero, suc, ◌+◌, ◌<◌, ◌++◌, [], ◌∷◌, List, length, get_or, take, drop, map, refl, sym, ap, subst, ◌∙◌}
+use Rattle.fs_buckets.proofs.Words.{AllZip, map_more}
 
 -- Lists of which each element stands so to that at its place in another.
 
@@ -29,7 +30,8 @@ each_dropped R (suc n) (x ∷ xs) [] h = absurd h
 each_dropped R (suc n) (x ∷ xs) (y ∷ ys) h = each_dropped R n xs ys h.1
 
 -- what a loop makes of one element more
-pub each_pushed : {X Y Z : Type 0} (R : Y → Z → Type 0) (f : X → Y) (xs : List X) (i : ℕ) (x : X) (old new : List Z) (z : Z) → i < length xs → x ≡ get_or xs i x → new ≡ old ++ z ∷ []
+pub each_pushed : {X Y Z : Type 0} (R : Y → Z → Type 0) (f : X → Y) (xs : List X) (i : ℕ) (x : X) (old new : List Z) (z : Z) → i < length xs
+    → x ≡ get_or xs i x → new ≡ old ++ z ∷ []
     → AllZip R (map f (take i xs)) old → R (f x) z → AllZip R (map f (take (i + 1) xs)) new
 each_pushed R f xs i x old new z below is pushed all one =
     subst (λ ys. AllZip R ys new) (sym (map_more f xs i x below ∙ ap (λ y. map f (take i xs) ++ f y ∷ []) (sym is)))

@@ -1,32 +1,44 @@
-use Rattle.fs_buckets.proofs.Words.{◌≡◌, ℕ, zero, suc, ◌+◌, ◌-◌, ◌<◌, ◌≤◌, refl, sym, ap, ap₂, ◌∙◌, Bool, true, false, true≢false, cond, not, ◌||◌, List, [], ◌∷◌, ◌++◌, length, get_or, take, drop, map, filter, Ordering, Less, Equal, Greater, arith, is_eq, is_gt, is_lt, filter-append}
+use Rattle.fs_buckets.proofs.Words.{◌≡◌, ℕ, zero, suc, ◌+◌, ◌-◌, ◌<◌, ◌≤◌, refl, sym, ap, ap₂, ◌∙◌, Bool, true, false, true≢false, cond, not, ◌||◌}
+use Rattle.fs_buckets.proofs.Words.{List, [], ◌∷◌, ◌++◌, length, get_or, take, drop, map, filter, Ordering, Less, Equal, Greater, arith, is_eq, is_gt}
+use Rattle.fs_buckets.proofs.Words.{is_lt, filter-append}
 
 -- Lists parted by a test, or by an order: what stands in front, at a place, and behind.
 
 -- What passes a test stands in front, or behind.
-pub filter_front : {X K : Type 0} (key : X → K) (p : K → Bool) (e : K) (xs : List X) (n : ℕ) → ((k : ℕ) → k < n → k < length xs → p (get_or (map key xs) k e) ≡ true)
+pub filter_front : {X K : Type 0} (key : X → K) (p : K → Bool) (e : K) (xs : List X) (n : ℕ)
+    → ((k : ℕ) → k < n → k < length xs → p (get_or (map key xs) k e) ≡ true)
     → ((k : ℕ) → n ≤ k → k < length xs → p (get_or (map key xs) k e) ≡ false) → filter (λ x. p (key x)) xs ≡ take n xs
 filter_front key p e [] zero passes fails = refl
 filter_front key p e [] (suc n) passes fails = refl
-filter_front key p e (x ∷ xs) zero passes fails = at (p (key x)) (fails 0 (omega arith) (omega arith)) (filter_front key p e xs zero (λ k below. absurd (omega (arith, below))) (λ k above below. fails (suc k) (omega arith) (omega (arith, below)))) where
-  at : (a : Bool) → a ≡ false → filter (λ y. p (key y)) xs ≡ [] → cond a (x ∷ filter (λ y. p (key y)) xs) (filter (λ y. p (key y)) xs) ≡ []
-  at true h ih = absurd (true≢false h)
-  at false h ih = ih
+filter_front key p e (x ∷ xs) zero passes fails =
+    at (p (key x)) (fails 0 (omega arith) (omega arith))
+    (filter_front key p e xs zero (λ k below. absurd (omega (arith, below)))
+    (λ k above below. fails (suc k) (omega arith) (omega (arith, below)))) where
+      at : (a : Bool) → a ≡ false → filter (λ y. p (key y)) xs ≡ [] → cond a (x ∷ filter (λ y. p (key y)) xs) (filter (λ y. p (key y)) xs) ≡ []
+      at true h ih = absurd (true≢false h)
+      at false h ih = ih
 filter_front key p e (x ∷ xs) (suc n) passes fails = at (p (key x)) (passes 0 (omega arith) (omega arith))
-    (filter_front key p e xs n (λ k less below. passes (suc k) (omega (arith, less)) (omega (arith, below))) (λ k above below. fails (suc k) (omega (arith, above)) (omega (arith, below)))) where
+    (filter_front key p e xs n (λ k less below. passes (suc k) (omega (arith, less)) (omega (arith, below)))
+    (λ k above below. fails (suc k) (omega (arith, above)) (omega (arith, below)))) where
       at : (a : Bool) → a ≡ true → filter (λ y. p (key y)) xs ≡ take n xs → cond a (x ∷ filter (λ y. p (key y)) xs) (filter (λ y. p (key y)) xs) ≡ x ∷ take n xs
       at true h ih = ap (λ ys. x ∷ ys) ih
       at false h ih = absurd (true≢false (sym h))
 
-pub filter_back : {X K : Type 0} (key : X → K) (p : K → Bool) (e : K) (xs : List X) (n : ℕ) → ((k : ℕ) → k < n → k < length xs → p (get_or (map key xs) k e) ≡ false)
+pub filter_back : {X K : Type 0} (key : X → K) (p : K → Bool) (e : K) (xs : List X) (n : ℕ)
+    → ((k : ℕ) → k < n → k < length xs → p (get_or (map key xs) k e) ≡ false)
     → ((k : ℕ) → n ≤ k → k < length xs → p (get_or (map key xs) k e) ≡ true) → filter (λ x. p (key x)) xs ≡ drop n xs
 filter_back key p e [] zero fails passes = refl
 filter_back key p e [] (suc n) fails passes = refl
-filter_back key p e (x ∷ xs) zero fails passes = at (p (key x)) (passes 0 (omega arith) (omega arith)) (filter_back key p e xs zero (λ k below. absurd (omega (arith, below))) (λ k above below. passes (suc k) (omega arith) (omega (arith, below)))) where
-  at : (a : Bool) → a ≡ true → filter (λ y. p (key y)) xs ≡ xs → cond a (x ∷ filter (λ y. p (key y)) xs) (filter (λ y. p (key y)) xs) ≡ x ∷ xs
-  at true h ih = ap (λ ys. x ∷ ys) ih
-  at false h ih = absurd (true≢false (sym h))
+filter_back key p e (x ∷ xs) zero fails passes =
+    at (p (key x)) (passes 0 (omega arith) (omega arith))
+    (filter_back key p e xs zero (λ k below. absurd (omega (arith, below)))
+    (λ k above below. passes (suc k) (omega arith) (omega (arith, below)))) where
+      at : (a : Bool) → a ≡ true → filter (λ y. p (key y)) xs ≡ xs → cond a (x ∷ filter (λ y. p (key y)) xs) (filter (λ y. p (key y)) xs) ≡ x ∷ xs
+      at true h ih = ap (λ ys. x ∷ ys) ih
+      at false h ih = absurd (true≢false (sym h))
 filter_back key p e (x ∷ xs) (suc n) fails passes = at (p (key x)) (fails 0 (omega arith) (omega arith))
-    (filter_back key p e xs n (λ k less below. fails (suc k) (omega (arith, less)) (omega (arith, below))) (λ k above below. passes (suc k) (omega (arith, above)) (omega (arith, below)))) where
+    (filter_back key p e xs n (λ k less below. fails (suc k) (omega (arith, less)) (omega (arith, below)))
+    (λ k above below. passes (suc k) (omega (arith, above)) (omega (arith, below)))) where
       at : (a : Bool) → a ≡ false → filter (λ y. p (key y)) xs ≡ drop n xs → cond a (x ∷ filter (λ y. p (key y)) xs) (filter (λ y. p (key y)) xs) ≡ drop n xs
       at true h ih = absurd (true≢false h)
       at false h ih = ih
@@ -42,7 +54,8 @@ tail_placed key place e x xs h = record {
   behind = λ i j less below. h.behind (suc i) (suc j) (omega (arith, less)) (omega (arith, below));
 }
 
-none_front : {X K : Type 0} (key : X → K) (p : K → Bool) (e : K) (xs : List X) → ((k : ℕ) → k < length xs → p (get_or (map key xs) k e) ≡ false) → filter (λ x. p (key x)) xs ≡ []
+none_front : {X K : Type 0} (key : X → K) (p : K → Bool) (e : K) (xs : List X) → ((k : ℕ) → k < length xs → p (get_or (map key xs) k e) ≡ false)
+    → filter (λ x. p (key x)) xs ≡ []
 none_front key p e xs fails = filter_front key p e xs 0 (λ k below. absurd (omega (arith, below))) (λ k above below. fails k below)
 
 in_parts : {X K : Type 0} (key : X → K) (place : K → Ordering) (e : K) (xs : List X) → ArePlaced key place e xs
@@ -76,7 +89,8 @@ turned p q r [] same = refl
 turned p q r (x ∷ xs) same = at (q x) refl (r x) refl (turned p q r xs same) where
   at : (b : Bool) → q x ≡ b → (c : Bool) → r x ≡ c → filter p (filter q xs) ≡ filter q (filter r xs)
       → filter p (cond b (x ∷ filter q xs) (filter q xs)) ≡ filter q (cond c (x ∷ filter r xs) (filter r xs))
-  at true passes true has ih = ap (λ a. cond a (x ∷ filter p (filter q xs)) (filter p (filter q xs))) (same x passes ∙ has) ∙ ap (λ ys. x ∷ ys) ih ∙ sym (ap (λ a. cond a (x ∷ filter q (filter r xs)) (filter q (filter r xs))) passes)
+  at true passes true has ih = ap (λ a. cond a (x ∷ filter p (filter q xs)) (filter p (filter q xs))) (same x passes ∙ has) ∙ ap (λ ys. x ∷ ys) ih
+      ∙ sym (ap (λ a. cond a (x ∷ filter q (filter r xs)) (filter q (filter r xs))) passes)
   at true passes false has ih = ap (λ a. cond a (x ∷ filter p (filter q xs)) (filter p (filter q xs))) (same x passes ∙ has) ∙ ih
   at false fails true has ih = ih ∙ sym (ap (λ a. cond a (x ∷ filter q (filter r xs)) (filter q (filter r xs))) fails)
   at false fails false has ih = ih
@@ -84,16 +98,21 @@ turned p q r (x ∷ xs) same = at (q x) refl (r x) refl (turned p q r xs same) w
 pub one_fewer : {X K : Type 0} (key : X → K) (place : K → Ordering) (e : K) (others : X → Bool) (ys xs : List X) → ArePlaced key place e ys
     → filter (λ x. not (is_eq (place (key x)) || others x)) ys ≡ filter (λ x. not (is_eq (place (key x)) || others x)) xs
     → filter (λ x. not (others x)) ys
-    ≡ filter (λ x. not (others x)) (filter (λ x. is_lt (place (key x))) xs ++ (filter (λ x. is_eq (place (key x))) ys ++ filter (λ x. is_gt (place (key x))) xs))
+    ≡ filter (λ x. not (others x))
+    (filter (λ x. is_lt (place (key x))) xs ++ (filter (λ x. is_eq (place (key x))) ys ++ filter (λ x. is_gt (place (key x))) xs))
 one_fewer {X} {K} key place e others ys xs placed same =
-    ap left (sym (in_parts key place e ys placed)) ∙ parts ys ∙ ap₂ (λ zs bs. zs ++ (left (filter (λ x. is_eq (place (key x))) ys) ++ bs)) front back ∙ sym (parts xs) where
+    ap left (sym (in_parts key place e ys placed)) ∙ parts ys ∙ ap₂ (λ zs bs. zs ++ (left (filter (λ x. is_eq (place (key x))) ys) ++ bs)) front back
+    ∙ sym (parts xs) where
       left : List X → List X
       left zs = filter (λ x. not (others x)) zs
 
-      parts : (zs : List X) → left (filter (λ x. is_lt (place (key x))) zs ++ (filter (λ x. is_eq (place (key x))) ys ++ filter (λ x. is_gt (place (key x))) zs))
+      parts : (zs : List X) → left (filter (λ x. is_lt (place (key x))) zs
+          ++ (filter (λ x. is_eq (place (key x))) ys ++ filter (λ x. is_gt (place (key x))) zs))
           ≡ left (filter (λ x. is_lt (place (key x))) zs) ++ (left (filter (λ x. is_eq (place (key x))) ys) ++ left (filter (λ x. is_gt (place (key x))) zs))
-      parts zs = filter-append (λ x. not (others x)) (filter (λ x. is_lt (place (key x))) zs) (filter (λ x. is_eq (place (key x))) ys ++ filter (λ x. is_gt (place (key x))) zs)
-          ∙ ap (λ bs. left (filter (λ x. is_lt (place (key x))) zs) ++ bs) (filter-append (λ x. not (others x)) (filter (λ x. is_eq (place (key x))) ys) (filter (λ x. is_gt (place (key x))) zs))
+      parts zs = filter-append (λ x. not (others x)) (filter (λ x. is_lt (place (key x))) zs)
+          (filter (λ x. is_eq (place (key x))) ys ++ filter (λ x. is_gt (place (key x))) zs)
+          ∙ ap (λ bs. left (filter (λ x. is_lt (place (key x))) zs) ++ bs)
+          (filter-append (λ x. not (others x)) (filter (λ x. is_eq (place (key x))) ys) (filter (λ x. is_gt (place (key x))) zs))
 
       before : (o : Ordering) (b : Bool) → is_lt o ≡ true → not b ≡ not (is_eq o || b)
       before Less b h = refl
@@ -105,11 +124,15 @@ one_fewer {X} {K} key place e others ys xs placed same =
       behind Equal b h = absurd (true≢false (sym h))
       behind Greater b h = refl
 
-      fronts : (zs : List X) → left (filter (λ x. is_lt (place (key x))) zs) ≡ filter (λ x. is_lt (place (key x))) (filter (λ x. not (is_eq (place (key x)) || others x)) zs)
-      fronts zs = turned (λ x. not (others x)) (λ x. is_lt (place (key x))) (λ x. not (is_eq (place (key x)) || others x)) zs (λ x h. before (place (key x)) (others x) h)
+      fronts : (zs : List X) → left (filter (λ x. is_lt (place (key x))) zs)
+          ≡ filter (λ x. is_lt (place (key x))) (filter (λ x. not (is_eq (place (key x)) || others x)) zs)
+      fronts zs = turned (λ x. not (others x)) (λ x. is_lt (place (key x))) (λ x. not (is_eq (place (key x)) || others x)) zs
+          (λ x h. before (place (key x)) (others x) h)
 
-      backs : (zs : List X) → left (filter (λ x. is_gt (place (key x))) zs) ≡ filter (λ x. is_gt (place (key x))) (filter (λ x. not (is_eq (place (key x)) || others x)) zs)
-      backs zs = turned (λ x. not (others x)) (λ x. is_gt (place (key x))) (λ x. not (is_eq (place (key x)) || others x)) zs (λ x h. behind (place (key x)) (others x) h)
+      backs : (zs : List X) → left (filter (λ x. is_gt (place (key x))) zs)
+          ≡ filter (λ x. is_gt (place (key x))) (filter (λ x. not (is_eq (place (key x)) || others x)) zs)
+      backs zs = turned (λ x. not (others x)) (λ x. is_gt (place (key x))) (λ x. not (is_eq (place (key x)) || others x)) zs
+          (λ x h. behind (place (key x)) (others x) h)
 
       front : left (filter (λ x. is_lt (place (key x))) ys) ≡ left (filter (λ x. is_lt (place (key x))) xs)
       front = fronts ys ∙ ap (λ zs. filter (λ x. is_lt (place (key x))) zs) same ∙ sym (fronts xs)

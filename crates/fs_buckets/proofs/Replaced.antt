@@ -1,11 +1,20 @@
 -- Where the rules of one destination stand in a list, and the list with them put anew.
-use Rattle.fs_buckets.proofs.{Words.{◌≡◌, ℕ, ◌+◌, ◌-◌, ◌<◌, ◌≤◌, ◌⊎◌, inl, inr, refl, sym, ap, ap₂, subst, ◌∙◌, Bool, false, Option, Some, None, List, ◌++◌, length, get_or, Ordering, Equal, Greater, arith, AllByRecursion, splice, is_gt, is_lt, cases_lt, length-map, Family, Listed, IsOfFamily, span_of, spans_of, IsStretch, place_by, span_cmp, replaced, AreNesting}, Nesting.{Fits, Follows}, Stretching.{Before, of_behind, of_same, three, less_equal, less_greater, equal_greater, same_of, behind_of, follows_at, proper_at}, Parting.{ArePlaced, filter_back, filter_front}}
+use Rattle.fs_buckets.proofs.Words.{◌≡◌, ℕ, ◌+◌, ◌-◌, ◌<◌, ◌≤◌, ◌⊎◌, inl, inr, refl, sym, ap, ap₂, subst, ◌∙◌, Bool, false, Option, Some, None, List}
+use Rattle.fs_buckets.proofs.Words.{◌++◌, length, get_or, Ordering, Equal, Greater, arith, AllByRecursion, splice, is_gt, is_lt, cases_lt, length-map}
+use Rattle.fs_buckets.proofs.Words.{Family, Listed, IsOfFamily, span_of, spans_of, IsStretch, place_by, span_cmp, replaced, AreNesting}
+use Rattle.fs_buckets.proofs.Nesting.{Fits, Follows}
+use Rattle.fs_buckets.proofs.Stretching.{Before, of_behind, of_same, three, less_equal, less_greater, equal_greater, same_of, behind_of, follows_at}
+use Rattle.fs_buckets.proofs.Stretching.{proper_at}
+use Rattle.fs_buckets.proofs.Parting.{ArePlaced, filter_back, filter_front}
 
 -- The rules that a stretch leaves are those before and behind its destination.
-pub replaced_is : (rules news : List Listed) (target : Option (ℕ × ℕ)) (from to : ℕ) → IsStretch (spans_of rules) target from to → replaced target news rules ≡ splice rules from to news
+pub replaced_is : (rules news : List Listed) (target : Option (ℕ × ℕ)) (from to : ℕ) → IsStretch (spans_of rules) target from to
+    → replaced target news rules ≡ splice rules from to news
 replaced_is rules news target from to s = ap₂ (λ zs bs. zs ++ (news ++ bs))
-    (filter_front (λ r. span_of r.rule) (λ o. is_lt (place_by target o)) None rules from (λ k below inside. ap is_lt (s.before k below)) (λ k above inside. at is_lt refl refl k above (inside_of k inside) (cases_lt k to)))
-    (filter_back (λ r. span_of r.rule) (λ o. is_gt (place_by target o)) None rules to (λ k below inside. front k below (cases_lt k from)) (λ k above inside. ap is_gt (s.behind k above (inside_of k inside)))) where
+    (filter_front (λ r. span_of r.rule) (λ o. is_lt (place_by target o)) None rules from (λ k below inside. ap is_lt (s.before k below))
+    (λ k above inside. at is_lt refl refl k above (inside_of k inside) (cases_lt k to)))
+    (filter_back (λ r. span_of r.rule) (λ o. is_gt (place_by target o)) None rules to (λ k below inside. front k below (cases_lt k from))
+    (λ k above inside. ap is_gt (s.behind k above (inside_of k inside)))) where
       inside_of : (k : ℕ) → k < length rules → k < length (spans_of rules)
       inside_of k below = subst (λ n. k < n) (sym (length-map rules (λ r. span_of r.rule))) below
 
@@ -22,8 +31,10 @@ replaced_is rules news target from to s = ap₂ (λ zs bs. zs ++ (news ++ bs))
 pub placed : (family : Family) (rules : List Listed) (target : Option (ℕ × ℕ)) → AllByRecursion (IsOfFamily family) rules
     → AreNesting (spans_of rules) → ArePlaced (λ r. span_of r.rule) (place_by target) None rules
 placed family rules target each h = record {
-  equal = λ i j less below e. equal_from target (get_or (spans_of rules) i None) (get_or (spans_of rules) j None) (follows_at (spans_of rules) i j h less) (λ q f. proper_at family rules j q each f) e;
-  behind = λ i j less below e. behind_from target (get_or (spans_of rules) i None) (get_or (spans_of rules) j None) (follows_at (spans_of rules) i j h less) (λ q f. proper_at family rules j q each f) e;
+  equal = λ i j less below e. equal_from target (get_or (spans_of rules) i None) (get_or (spans_of rules) j None)
+      (follows_at (spans_of rules) i j h less) (λ q f. proper_at family rules j q each f) e;
+  behind = λ i j less below e. behind_from target (get_or (spans_of rules) i None) (get_or (spans_of rules) j None)
+      (follows_at (spans_of rules) i j h less) (λ q f. proper_at family rules j q each f) e;
 } where
   apart : (p q t : ℕ × ℕ) → Fits p q → q.0 ≤ q.1 → p.1 ≡ t.1 → p.0 ≡ t.0 → Before q t → ⊥
   apart p q t fits proper last first (inl less) = let a : p.1 ≤ q.1 = fits.0 in omega (arith, a, less, last)

@@ -1,5 +1,11 @@
 -- Buckets with the rules of one destination put anew.
-use Rattle.fs_buckets.proofs.{Words.{◌≡◌, ℕ, ◌+◌, ◌-◌, ◌<◌, ◌≤◌, ◌⊎◌, inl, inr, sym, ap, subst, ◌∙◌, Option, Some, None, List, [], length, get_or, arith, AllByRecursion, splice, cases_lt, length-map, Family, width_of, Listed, all_admitted, shown_lent, LentRule, Buckets, IsSubnet, AreHoused, AreBucketsOf, HasStretch, Mends, AreSound, IsOfFamily, span_of, spans_of, AreNarrow, AreTo, IsStretch, place_by, AreNesting}, Splicing.{each_spliced, map_spliced}, Stretching.{bare_behind, housed_same, mends_spliced, nesting_housed, less_equal, nesting_spliced, none_count, same_count}, Widths.{narrow}, Nesting.{nesting_from}}
+use Rattle.fs_buckets.proofs.Words.{◌≡◌, ℕ, ◌+◌, ◌-◌, ◌<◌, ◌≤◌, ◌⊎◌, inl, inr, sym, ap, subst, ◌∙◌, Option, Some, None, List, [], length, get_or}
+use Rattle.fs_buckets.proofs.Words.{arith, AllByRecursion, splice, cases_lt, length-map, Family, width_of, Listed, all_admitted, shown_lent, LentRule}
+use Rattle.fs_buckets.proofs.Words.{Buckets, IsSubnet, AreHoused, AreBucketsOf, HasStretch, Mends, AreSound, IsOfFamily, span_of, spans_of, AreNarrow}
+use Rattle.fs_buckets.proofs.Words.{AreTo, IsStretch, place_by, AreNesting}
+use Rattle.fs_buckets.proofs.Splicing.{each_spliced, map_spliced}
+use Rattle.fs_buckets.proofs.Stretching.{bare_behind, housed_same, mends_spliced, nesting_housed, less_equal, nesting_spliced, none_count, same_count}
+use Rattle.fs_buckets.proofs.{Widths.{narrow}, Nesting.{nesting_from}}
 
 pub spans_size : (list : List LentRule) → length (spans_of (all_admitted list)) ≡ length list
 spans_size list = length-map (all_admitted list) (λ r. span_of r.rule) ∙ length-map list shown_lent
@@ -26,7 +32,8 @@ sound_more b n m s le = record {
 }
 
 -- The rules without a destination stand behind the others.
-pub bare_from : (xs : List (Option (ℕ × ℕ))) (b : Buckets) (from to : ℕ) → AreHoused xs b → length b.homes.items ≤ length xs → IsStretch xs None from to → length b.homes.items ≤ from
+pub bare_from : (xs : List (Option (ℕ × ℕ))) (b : Buckets) (from to : ℕ) → AreHoused xs b → length b.homes.items ≤ length xs
+    → IsStretch xs None from to → length b.homes.items ≤ from
 bare_from xs b from to h whole s = at (cases_lt from (length b.homes.items)) (cases_lt from to) where
   at : (from < length b.homes.items) ⊎ (length b.homes.items ≤ from) → (from < to) ⊎ (to ≤ from) → length b.homes.items ≤ from
   at (inr le) c = le
@@ -48,8 +55,10 @@ pub same_stay : (family : Family) (rules : List Listed) (b : Buckets) (target : 
     → HasStretch family rules b target from to → AreSound b (length b.homes.items)
     → AreTo target news → n ≡ to - from → length news ≡ n → AreBucketsOf (splice (spans_of rules) from to news) b (from + n + (length rules - to))
 same_stay family rules b target from to n news h sound each count size = record {
-  sound = sound_more b (length b.homes.items) _ sound (let w = h.whole in let o = h.stretch.ordered in let i = h.stretch.within in omega (arith, w, o, i, count, rules_size rules));
-  housed = housed_same (spans_of rules) (splice (spans_of rules) from to news) b (same_count (spans_of rules) news target from to h.stretch each (size ∙ count)) h.housed;
+  sound = sound_more b (length b.homes.items) _ sound (let w = h.whole in let o = h.stretch.ordered in let i = h.stretch.within in
+      omega (arith, w, o, i, count, rules_size rules));
+  housed = housed_same (spans_of rules) (splice (spans_of rules) from to news) b
+      (same_count (spans_of rules) news target from to h.stretch each (size ∙ count)) h.housed;
 }
 
 -- The destinations of rules of which a stretch is put anew: what the runs of these are made of, and that they nest.
@@ -76,7 +85,8 @@ mended family rules b target from to news h homes sound own each = record {
   before = nesting_housed (spans_of rules) b (length b.homes.items) sound h.housed
 
 -- the rules of a destination are of a prefix
-pub subnet_to : (family : Family) (news : List Listed) (p : ℕ × ℕ) → AllByRecursion (IsOfFamily family) news → AreTo (Some p) (spans_of news) → 0 < length (spans_of news) → IsSubnet p.0 p.1
+pub subnet_to : (family : Family) (news : List Listed) (p : ℕ × ℕ) → AllByRecursion (IsOfFamily family) news → AreTo (Some p) (spans_of news)
+    → 0 < length (spans_of news) → IsSubnet p.0 p.1
 subnet_to family news p own each some = (narrow family news own 0 p (each 0 some)).2
 
 pub nothing_nests : AreNesting []

@@ -1,5 +1,10 @@
 -- Buckets of which one has another count of rules.
-use Rattle.fs_buckets.proofs.{Words.{◌≡◌, ℕ, ◌+◌, ◌-◌, ◌^◌, ◌<◌, ◌≤◌, ◌⊎◌, inl, inr, sym, ap, ap₂, subst, ◌∙◌, Option, Some, None, List, length, get_or, replicate, arith, splice, cases_lt, get_or-replicate, get_or_default, length-replicate, Buckets, Node, numbers_in, nodes_in, AreAbove, AreChanged, IsSubnet, moved, node_at, AreHoused, span_at, AreBucketsOf, IsHolder, AreSound, AreTo}, Splicing.{Part, at_back, at_front, at_middle, part_at, spliced_size}, Stretching.{first_of, home_of, home_over, home_under, none, start_of}}
+use Rattle.fs_buckets.proofs.Words.{◌≡◌, ℕ, ◌+◌, ◌-◌, ◌^◌, ◌<◌, ◌≤◌, ◌⊎◌, inl, inr, sym, ap, ap₂, subst, ◌∙◌, Option, Some, None, List, length}
+use Rattle.fs_buckets.proofs.Words.{get_or, replicate, arith, splice, cases_lt, get_or-replicate, get_or_default, length-replicate, Buckets, Node}
+use Rattle.fs_buckets.proofs.Words.{numbers_in, nodes_in, AreAbove, AreChanged, IsSubnet, moved, node_at, AreHoused, span_at, AreBucketsOf, IsHolder}
+use Rattle.fs_buckets.proofs.Words.{AreSound, AreTo}
+use Rattle.fs_buckets.proofs.Splicing.{Part, at_back, at_front, at_middle, part_at, spliced_size}
+use Rattle.fs_buckets.proofs.Stretching.{first_of, home_of, home_over, home_under, none, start_of}
 
 -- the first buckets with so many rules in one of them, which are those from one number on before another in the other
 pub record AreResized (old new : Buckets) (bucket from to count : ℕ) : Type 0 where
@@ -8,10 +13,12 @@ pub record AreResized (old new : Buckets) (bucket from to count : ℕ) : Type 0 
   pub homes : new.homes.items ≡ splice old.homes.items from to (replicate count bucket)
 
 -- the bucket's rules are some of the rules
-pub bounds : (old : Buckets) (n bucket from to : ℕ) (span : ℕ × ℕ) → AreSound old n → IsHolder old bucket span from to → (from ≤ to) × (to ≤ length old.homes.items)
+pub bounds : (old : Buckets) (n bucket from to : ℕ) (span : ℕ × ℕ) → AreSound old n → IsHolder old bucket span from to
+    → (from ≤ to) × (to ≤ length old.homes.items)
 bounds old n bucket from to span s h =
     let a : start_of old bucket ≤ start_of old (bucket + 1) = s.starts bucket (bucket + 1) (omega arith) (let w = h.within in omega (arith, w)) in
-    let b : start_of old (bucket + 1) ≤ start_of old (length (numbers_in old.lasts)) = s.starts (bucket + 1) (length (numbers_in old.lasts)) (let w = h.within in omega (arith, w)) (omega arith) in
+    let b : start_of old (bucket + 1) ≤ start_of old (length (numbers_in old.lasts)) =
+    s.starts (bucket + 1) (length (numbers_in old.lasts)) (let w = h.within in omega (arith, w)) (omega arith) in
     (let x = h.start in let y = h.end in omega (arith, a, x, y), let y = h.end in let z = s.tail in omega (arith, b, y, z))
 
 -- where a rule's home comes from
@@ -67,16 +74,20 @@ resizes old new n most bucket from to count span spans news s h r fits housed wh
     size = let a = r.nodes.size in let b = s.size in omega (arith, a, b, lasts);
     rising = λ i j less below. subst (λ xs. get_or xs i 0 ≤ get_or xs j 0) (sym r.lasts) (s.rising i j less (down below));
     subnets = λ i below.
-        subst (λ x. IsSubnet x (get_or (numbers_in new.lasts) i 0)) (sym ((node_is old new bucket from to count i r (inside i (omega (arith, below, lasts)))).0))
+        subst (λ x. IsSubnet x (get_or (numbers_in new.lasts) i 0))
+        (sym ((node_is old new bucket from to count i r (inside i (omega (arith, below, lasts)))).0))
         (subst (λ xs. IsSubnet (node_at (nodes_in old.nodes) i).first (get_or xs i 0)) (sym r.lasts) (s.subnets i (down below)));
     nested = λ i j less below meets.
         let a = (node_is old new bucket from to count i r (inside i (omega (arith, less, below, lasts)))).0 in
         let b = (node_is old new bucket from to count j r (inside j (omega (arith, below, lasts)))).0 in
-        let m : (node_at (nodes_in new.nodes) j).first ≤ get_or (numbers_in old.lasts) i 0 = subst (λ xs. (node_at (nodes_in new.nodes) j).first ≤ get_or xs i 0) r.lasts meets in
+        let m : (node_at (nodes_in new.nodes) j).first ≤ get_or (numbers_in old.lasts) i 0 =
+        subst (λ xs. (node_at (nodes_in new.nodes) j).first ≤ get_or xs i 0) r.lasts meets in
         let c = s.nested i j less (down below) (omega (arith, m, b)) in
         omega (arith, a, b, c);
-    after = λ i below. let a = (node_is old new bucket from to count i r (inside i (omega (arith, below, lasts)))).1 in let b = s.after i (down below) in omega (arith, a, b);
-    within = λ i below. let a = (node_is old new bucket from to count i r (inside i (omega (arith, below, lasts)))).1 in let b = s.within i (down below) in omega (arith, a, b, lasts);
+    after = λ i below. let a = (node_is old new bucket from to count i r (inside i (omega (arith, below, lasts)))).1 in let b =
+        s.after i (down below) in omega (arith, a, b);
+    within = λ i below. let a = (node_is old new bucket from to count i r (inside i (omega (arith, below, lasts)))).1 in let b =
+        s.within i (down below) in omega (arith, a, b, lasts);
     least = λ i j below less under.
         let a = (node_is old new bucket from to count i r (inside i (omega (arith, below, lasts)))).0 in
         let p = (node_is old new bucket from to count i r (inside i (omega (arith, below, lasts)))).1 in
@@ -86,7 +97,8 @@ resizes old new n most bucket from to count span spans news s h r fits housed wh
         omega (arith, a, b, c);
     starts = λ i j le below. start i j le (omega (arith, below, lasts)) (cases_lt i (bucket + 1)) (cases_lt j (bucket + 1));
     tail = let a : start_of new (length (numbers_in new.lasts)) ≡ start_of new (length (numbers_in old.lasts)) = ap (start_of new) lasts in
-        let b = start_back old new bucket from to count (length (numbers_in old.lasts)) r (let w = h.within in omega (arith, w)) (inside (length (numbers_in old.lasts)) (omega arith)) in
+        let b = start_back old new bucket from to count (length (numbers_in old.lasts)) r (let w = h.within in
+        omega (arith, w)) (inside (length (numbers_in old.lasts)) (omega arith)) in
         let t : start_of old (length (numbers_in old.lasts)) ≡ length old.homes.items = s.tail in
         omega (arith, a, b, t, homes, ordered, ends);
     few = omega (arith, homes, fits);
@@ -106,7 +118,9 @@ resizes old new n most bucket from to count span spans news s h r fits housed wh
   ends = (bounds old n bucket from to span s h).1
 
   homes : length new.homes.items + to ≡ from + count + length old.homes.items
-  homes = let a = spliced_size old.homes.items (replicate count bucket) from to ordered ends in let b : length new.homes.items ≡ length (splice old.homes.items from to (replicate count bucket)) = ap length r.homes in let c = length-replicate count bucket in omega (arith, a, b, c)
+  homes = let a = spliced_size old.homes.items (replicate count bucket) from to ordered ends in
+      let b : length new.homes.items ≡ length (splice old.homes.items from to (replicate count bucket)) = ap length r.homes in let c =
+      length-replicate count bucket in omega (arith, a, b, c)
 
   down : {i : ℕ} → i < length (numbers_in new.lasts) → i < length (numbers_in old.lasts)
   down {i} below = subst (λ m. i < m) lasts below
@@ -115,9 +129,11 @@ resizes old new n most bucket from to count span spans news s h r fits housed wh
   inside i le = let a = s.size in omega (arith, le, a)
 
   place : (k : ℕ) → Place old new bucket from to count k
-  place k = part_at old.homes.items (replicate count bucket) new.homes.items bucket 0 from to count k (omega (arith, ordered, ends)) r.homes (length-replicate count bucket) (λ i below. get_or-replicate count i bucket 0 (omega (arith, below, length-replicate count bucket)))
+  place k = part_at old.homes.items (replicate count bucket) new.homes.items bucket 0 from to count k (omega (arith, ordered, ends)) r.homes
+      (length-replicate count bucket) (λ i below. get_or-replicate count i bucket 0 (omega (arith, below, length-replicate count bucket)))
 
-  start : (i j : ℕ) → i ≤ j → j ≤ length (numbers_in old.lasts) → (i < bucket + 1) ⊎ (bucket + 1 ≤ i) → (j < bucket + 1) ⊎ (bucket + 1 ≤ j) → start_of new i ≤ start_of new j
+  start : (i j : ℕ) → i ≤ j → j ≤ length (numbers_in old.lasts) → (i < bucket + 1) ⊎ (bucket + 1 ≤ i) → (j < bucket + 1) ⊎ (bucket + 1 ≤ j)
+      → start_of new i ≤ start_of new j
   start i j le below (inl a) (inl b) =
       let x = start_front old new bucket from to count i r a in
       let y = start_front old new bucket from to count j r b in
@@ -196,7 +212,8 @@ resizes old new n most bucket from to count span spans news s h r fits housed wh
       let e : start_of new (home_of new k + 1) ≡ start_of new (home_of old (behind k) + 1) = ap (λ m. start_of new (m + 1)) a.1 in
       let x = later k a.0 below in
       let w = s.home (behind k) (there k a.0 below) in
-      let y = start_back old new bucket from to count (home_of old (behind k) + 1) r (omega (arith, x)) (inside (home_of old (behind k) + 1) (omega (arith, w))) in
+      let y = start_back old new bucket from to count (home_of old (behind k) + 1) r (omega (arith, x))
+      (inside (home_of old (behind k) + 1) (omega (arith, w))) in
       let z : behind k < start_of old (home_of old (behind k) + 1) = s.ends (behind k) (there k a.0 below) in
       let l = a.0 in
       omega (arith, e, y, z, l, ordered)

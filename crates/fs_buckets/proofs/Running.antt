@@ -1,4 +1,6 @@
-use Rattle.fs_buckets.proofs.Words.{◌≡◌, ℕ, ◌+◌, ◌-◌, ◌<◌, ◌≤◌, ◌⊎◌, inl, inr, refl, sym, ap, ap₂, subst, ◌∙◌, ◌++◌, [], ◌∷◌, Option, Some, None, List, length, get_or, length-append, arith, cases_lt, cases_order, get_or_append_left, get_or_push, Node, AreBuckets, IsSubnet, node_at, AreNesting, AreNodes, ArePlain, AreRuns, Buckets, numbers_in, nodes_in, AreHoused}
+use Rattle.fs_buckets.proofs.Words.{◌≡◌, ℕ, ◌+◌, ◌-◌, ◌<◌, ◌≤◌, ◌⊎◌, inl, inr, refl, sym, ap, ap₂, subst, ◌∙◌, ◌++◌, [], ◌∷◌, Option, Some, None}
+use Rattle.fs_buckets.proofs.Words.{List, length, get_or, length-append, arith, cases_lt, cases_order, get_or_append_left, get_or_push, Node}
+use Rattle.fs_buckets.proofs.Words.{AreBuckets, IsSubnet, node_at, AreNesting, AreNodes, ArePlain, AreRuns, Buckets, numbers_in, nodes_in, AreHoused}
 
 -- Runs, one rule more; their parents and nodes; and the buckets that these are.
 
@@ -46,7 +48,8 @@ open_runs spans fs ls ss hs low high s now = record {
   firsts_size = omega (arith, fs_longer, ls_longer, fs_size);
   starts_size = omega (arith, ss_longer, ls_longer, ss_size);
   few = let a : length ls ≤ length hs = s.few in omega (arith, ls_longer, hs_longer, a);
-  home = each_more hs (length ls) (λ k h. h < length (ls ++ high ∷ [])) (λ k b. let a : get_or hs k 0 < length ls = s.home k b in omega (arith, a, ls_longer)) (omega (arith, ls_longer));
+  home = each_more hs (length ls) (λ k h. h < length (ls ++ high ∷ [])) (λ k b. let a : get_or hs k 0 < length ls = s.home k b in
+      omega (arith, a, ls_longer)) (omega (arith, ls_longer));
   span = each_more hs (length ls) (λ k h. get_or spans k None ≡ Some (get_or (fs ++ low ∷ []) h 0, get_or (ls ++ high ∷ []) h 0))
       (λ k b. s.span k b ∙ sym (pair_old (get_or hs k 0) (s.home k b))) (now ∙ sym pair_new);
   begins = each_more hs (length ls) (λ k h. get_or (ss ++ length hs ∷ []) h 0 ≤ k)
@@ -81,7 +84,8 @@ open_runs spans fs ls ss hs low high s now = record {
   ss_new : get_or (ss ++ length hs ∷ []) (length ls) 0 ≡ length hs
   ss_new = get_or_push ss (length hs) 0 (length ls) ss_size
 
-  pair_old : (h : ℕ) → h < length ls → ◌≡◌ {A = Option (ℕ × ℕ)} (Some (get_or (fs ++ low ∷ []) h 0, get_or (ls ++ high ∷ []) h 0)) (Some (get_or fs h 0, get_or ls h 0))
+  pair_old : (h : ℕ) → h < length ls
+      → ◌≡◌ {A = Option (ℕ × ℕ)} (Some (get_or (fs ++ low ∷ []) h 0, get_or (ls ++ high ∷ []) h 0)) (Some (get_or fs h 0, get_or ls h 0))
   pair_old h b = ap₂ (λ (x y : ℕ). Some (x, y)) (get_or_append_left fs (low ∷ []) 0 h (omega (arith, b, fs_size))) (get_or_append_left ls (high ∷ []) 0 h b)
 
   pair_new : ◌≡◌ {A = Option (ℕ × ℕ)} (Some (get_or (fs ++ low ∷ []) (length ls) 0, get_or (ls ++ high ∷ []) (length ls) 0)) (Some (low, high))
@@ -94,7 +98,8 @@ open_runs spans fs ls ss hs low high s now = record {
       let same : length ls ≡ get_or hs k 0 + 1 = omega (arith, end, out, ls_longer) in
       subst (λ i. k < get_or (ss ++ length hs ∷ []) i 0) same (subst (λ x. k < x) (sym ss_new) b)
 
-  rise : (i j : ℕ) → i < j → (j < length ls) ⊎ (length ls ≤ j) → j < length (ls ++ high ∷ []) → get_or (ss ++ length hs ∷ []) i 0 < get_or (ss ++ length hs ∷ []) j 0
+  rise : (i j : ℕ) → i < j → (j < length ls) ⊎ (length ls ≤ j) → j < length (ls ++ high ∷ [])
+      → get_or (ss ++ length hs ∷ []) i 0 < get_or (ss ++ length hs ∷ []) j 0
   rise i j less (inl inside) below =
       let a : get_or ss i 0 < get_or ss j 0 = s.rising i j less inside in
       let b : get_or (ss ++ length hs ∷ []) i 0 ≡ get_or ss i 0 = ss_old i (omega (arith, less, inside)) in
@@ -135,11 +140,13 @@ pub buckets_from : (spans : List (Option (ℕ × ℕ))) (fs ls ss hs ps : List �
     → ArePlain fs ps 0 → AreNodes fs ss ps (length hs) nodes → length hs ≤ count → AreBuckets ls nodes hs count
 buckets_from spans fs ls ss hs ps nodes count nesting subnets s plain made most = record {
   size = let a : length nodes ≡ length fs + 1 = made.size in omega (arith, a, sized);
-  rising = λ i j less below. nesting.rising (get_or ss i 0) (get_or ss j 0) (get_or fs i 0, get_or ls i 0) (get_or fs j 0, get_or ls j 0) (s.rising i j less below) (s.owner i (omega (arith, less, below))) (s.owner j below);
+  rising = λ i j less below. nesting.rising (get_or ss i 0) (get_or ss j 0) (get_or fs i 0, get_or ls i 0) (get_or fs j 0, get_or ls j 0)
+      (s.rising i j less below) (s.owner i (omega (arith, less, below))) (s.owner j below);
   subnets = λ i below. subst (λ x. IsSubnet x (get_or ls i 0)) (sym (first_is i below)) (subnets i below);
   nested = λ i j less below meets. nest i j less below meets;
   after = λ i below. subst (λ x. i < x) (sym (parent_is i below)) (plain.after i (omega arith) (inside i below));
-  within = λ i below. subst (λ x. x ≤ length ls) (sym (parent_is i below)) (subst (λ x. get_or ps i 0 ≤ x) sized (plain.within i (omega arith) (inside i below)));
+  within = λ i below. subst (λ x. x ≤ length ls) (sym (parent_is i below))
+      (subst (λ x. get_or ps i 0 ≤ x) sized (plain.within i (omega arith) (inside i below)));
   least = λ i j below less under.
       let a : get_or fs i 0 < get_or fs j 0 = plain.least i j (omega arith) (inside i below) less (subst (λ x. j < x) (parent_is i below) under) in
       let up : get_or ps i 0 ≤ length fs = plain.within i (omega arith) (inside i below) in
@@ -177,11 +184,14 @@ buckets_from spans fs ls ss hs ps nodes count nesting subnets s plain made most 
       let early : i < length ls = omega (arith, less, below) in
       let b : (node_at nodes i).first ≡ get_or fs i 0 = first_is i early in
       let d : (node_at nodes j).first ≡ get_or fs j 0 = first_is j below in
-      let a : get_or fs j 0 ≤ get_or fs i 0 = nesting.nested (get_or ss i 0) (get_or ss j 0) (get_or fs i 0, get_or ls i 0) (get_or fs j 0, get_or ls j 0) (s.rising i j less below) (s.owner i early) (s.owner j below)
+      let a : get_or fs j 0 ≤ get_or fs i 0 =
+      nesting.nested (get_or ss i 0) (get_or ss j 0) (get_or fs i 0, get_or ls i 0) (get_or fs j 0, get_or ls j 0) (s.rising i j less below)
+      (s.owner i early) (s.owner j below)
       (omega (arith, meets, d)) in
       omega (arith, a, b, d)
 
-  start : (i j : ℕ) → i ≤ j → j ≤ length ls → (i ≡ j) ⊎ ((i < j) ⊎ (j < i)) → (j < length ls) ⊎ (length ls ≤ j) → (node_at nodes i).start ≤ (node_at nodes j).start
+  start : (i j : ℕ) → i ≤ j → j ≤ length ls → (i ≡ j) ⊎ ((i < j) ⊎ (j < i)) → (j < length ls) ⊎ (length ls ≤ j)
+      → (node_at nodes i).start ≤ (node_at nodes j).start
   start i j le below (inl same) place = subst (λ x. (node_at nodes i).start ≤ (node_at nodes x).start) same (omega arith)
   start i j le below (inr (inl less)) (inl within) =
       let a : get_or ss i 0 < get_or ss j 0 = s.rising i j less within in
@@ -204,14 +214,17 @@ buckets_from spans fs ls ss hs ps nodes count nesting subnets s plain made most 
       subst (λ x. k < (node_at nodes x).start) same (omega (arith, b, tailed))
 
 -- the rules are housed in the buckets of their runs
-pub housed_from : (spans : List (Option (ℕ × ℕ))) (b : Buckets) (fs ls ss hs ps : List ℕ) → AreNesting spans → AreRuns spans fs ls ss hs → AreNodes fs ss ps (length hs) (nodes_in b.nodes)
+pub housed_from : (spans : List (Option (ℕ × ℕ))) (b : Buckets) (fs ls ss hs ps : List ℕ) → AreNesting spans → AreRuns spans fs ls ss hs
+    → AreNodes fs ss ps (length hs) (nodes_in b.nodes)
     → numbers_in b.lasts ≡ ls → b.homes.items ≡ hs → get_or spans (length hs) None ≡ None → AreHoused spans b
 housed_from spans b fs ls ss hs ps nesting s made l h rest = record {
   homed = λ k below.
       let inside : k < length hs = subst (λ (xs : List ℕ). k < length xs) h below in
-      subst (λ (xs : List ℕ). get_or spans k None ≡ Some ((node_at (nodes_in b.nodes) (get_or xs k 0)).first, get_or (numbers_in b.lasts) (get_or xs k 0) 0)) (sym h)
+      subst (λ (xs : List ℕ). get_or spans k None
+      ≡ Some ((node_at (nodes_in b.nodes) (get_or xs k 0)).first, get_or (numbers_in b.lasts) (get_or xs k 0) 0)) (sym h)
       (subst (λ (xs : List ℕ). get_or spans k None ≡ Some ((node_at (nodes_in b.nodes) (get_or hs k 0)).first, get_or xs (get_or hs k 0) 0)) (sym l)
-      (s.span k inside ∙ ap (λ (x : ℕ). Some (x, get_or ls (get_or hs k 0) 0)) (sym (ap (λ (x : Node ℕ). x.first) (made.each (get_or hs k 0) (inner k inside))))));
+      (s.span k inside ∙ ap (λ (x : ℕ). Some (x, get_or ls (get_or hs k 0) 0))
+      (sym (ap (λ (x : Node ℕ). x.first) (made.each (get_or hs k 0) (inner k inside))))));
   bare = λ k above. nesting.bare (length hs) k (subst (λ (xs : List ℕ). length xs ≤ k) h above) rest;
 } where
   inner : (k : ℕ) → k < length hs → get_or hs k 0 < length fs

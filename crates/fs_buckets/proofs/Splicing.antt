@@ -1,22 +1,29 @@
 -- Lists with a stretch put anew: what stands where, and what is left elsewhere.
-use Rattle.fs_buckets.proofs.Words.{◌≡◌, ℕ, zero, suc, ◌+◌, ◌-◌, ◌<◌, ◌≤◌, ◌⊎◌, inl, inr, refl, sym, ap, ap₂, subst, ◌∙◌, Some, List, [], ◌∷◌, ◌++◌, length, get_or, take, drop, map, length-take-le, length-drop, length-append, get_or-drop, arith, AllByRecursion, slice_get, splice, cases_lt, drop-map, get_or-append_right, get_or-take, get_or_append_left, map-append, take-map, none-some, same_Some}
+use Rattle.fs_buckets.proofs.Words.{◌≡◌, ℕ, zero, suc, ◌+◌, ◌-◌, ◌<◌, ◌≤◌, ◌⊎◌, inl, inr, refl, sym, ap, ap₂, subst, ◌∙◌, Some, List, [], ◌∷◌, ◌++◌}
+use Rattle.fs_buckets.proofs.Words.{length, get_or, take, drop, map, length-take-le, length-drop, length-append, get_or-drop, arith, AllByRecursion}
+use Rattle.fs_buckets.proofs.Words.{slice_get, splice, cases_lt, drop-map, get_or-append_right, get_or-take, get_or_append_left, map-append, take-map}
+use Rattle.fs_buckets.proofs.Words.{none-some, same_Some}
 use Rattle.fs_base.proofs.Lists.{each_append}
 use Rattle.fs_rules.proofs.Apart.{take_each, drop_each}
 
 pub at_front : {X : Type 0} (xs ys : List X) (from to k : ℕ) (d : X) → from ≤ length xs → k < from → get_or (splice xs from to ys) k d ≡ get_or xs k d
-at_front xs ys from to k d within below = get_or_append_left (take from xs) (ys ++ drop to xs) d k (omega (arith, below, size)) ∙ get_or-take from xs k d below where
-  size : length (take from xs) ≡ from
-  size = length-take-le from xs within
+at_front xs ys from to k d within below = get_or_append_left (take from xs) (ys ++ drop to xs) d k (omega (arith, below, size))
+    ∙ get_or-take from xs k d below where
+      size : length (take from xs) ≡ from
+      size = length-take-le from xs within
 
-past_front : {X : Type 0} (xs ys : List X) (from to k : ℕ) (d : X) → from ≤ length xs → from ≤ k → get_or (splice xs from to ys) k d ≡ get_or (ys ++ drop to xs) (k - from) d
+past_front : {X : Type 0} (xs ys : List X) (from to k : ℕ) (d : X) → from ≤ length xs → from ≤ k
+    → get_or (splice xs from to ys) k d ≡ get_or (ys ++ drop to xs) (k - from) d
 past_front xs ys from to k d within above = get_or-append_right (take from xs) (ys ++ drop to xs) from k d (length-take-le from xs within) above
 
-pub at_middle : {X : Type 0} (xs ys : List X) (from to k i : ℕ) (d : X) → from ≤ length xs → k ≡ from + i → i < length ys → get_or (splice xs from to ys) k d ≡ get_or ys i d
+pub at_middle : {X : Type 0} (xs ys : List X) (from to k i : ℕ) (d : X) → from ≤ length xs → k ≡ from + i → i < length ys
+    → get_or (splice xs from to ys) k d ≡ get_or ys i d
 at_middle xs ys from to k i d within is below =
     let same : k - from ≡ i = omega (arith, is) in
     past_front xs ys from to k d within (omega (arith, is)) ∙ ap (λ n. get_or (ys ++ drop to xs) n d) same ∙ get_or_append_left ys (drop to xs) d i below
 
-pub at_back : {X : Type 0} (xs ys : List X) (from to k i : ℕ) (d : X) → from ≤ length xs → to ≤ i → k + to ≡ from + length ys + i → get_or (splice xs from to ys) k d ≡ get_or xs i d
+pub at_back : {X : Type 0} (xs ys : List X) (from to k i : ℕ) (d : X) → from ≤ length xs → to ≤ i → k + to ≡ from + length ys + i
+    → get_or (splice xs from to ys) k d ≡ get_or xs i d
 at_back xs ys from to k i d within past is =
     let same : to + (k - from - length ys) ≡ i = omega (arith, past, is) in
     past_front xs ys from to k d within (omega (arith, past, is)) ∙ get_or-append_right ys (drop to xs) (length ys) (k - from) d refl (omega (arith, past, is))
@@ -57,8 +64,10 @@ map_spliced f xs ys from to =
     map-append f (take from xs) (ys ++ drop to xs)
     ∙ ap₂ (λ zs bs. zs ++ bs) (sym (take-map f from xs)) (map-append f ys (drop to xs) ∙ ap (λ bs. map f ys ++ bs) (sym (drop-map f to xs)))
 
-pub each_spliced : {X : Type 0} (P : X → Type 0) (xs ys : List X) (from to : ℕ) → AllByRecursion P xs → AllByRecursion P ys → AllByRecursion P (splice xs from to ys)
-each_spliced P xs ys from to h k = each_append P (take from xs) (ys ++ drop to xs) (take_each P from xs h) (each_append P ys (drop to xs) k (drop_each P to xs h))
+pub each_spliced : {X : Type 0} (P : X → Type 0) (xs ys : List X) (from to : ℕ) → AllByRecursion P xs → AllByRecursion P ys
+    → AllByRecursion P (splice xs from to ys)
+each_spliced P xs ys from to h k =
+    each_append P (take from xs) (ys ++ drop to xs) (take_each P from xs h) (each_append P ys (drop to xs) k (drop_each P to xs h))
 
 pub each_got : {X : Type 0} (P : X → Type 0) (xs : List X) (i : ℕ) (x : X) → AllByRecursion P xs → slice_get xs i ≡ Some x → P x
 each_got P [] i x h e = absurd (none-some x e)

@@ -1,5 +1,13 @@
 -- How destinations stand to one another, and that rules in order stay nested with a stretch put anew.
-use Rattle.fs_buckets.proofs.{Words.{◌≡◌, ℕ, zero, suc, ◌+◌, ◌-◌, ◌<◌, ◌≤◌, ◌⊎◌, inl, inr, refl, sym, ap, ap₂, subst, ◌∙◌, Bool, true, false, if◌then◌else◌, Option, Some, None, List, [], ◌∷◌, length, get_or, Less, Equal, Greater, nat_cmp, arith, AllByRecursion, splice, nat_cmp_is, ordering_then, cases_lt, cases_order, get_or_past, length-map, none-some, Family, Listed, Buckets, Node, numbers_in, nodes_in, node_at, AreHoused, span_at, IsLeft, IsPassed, Mends, Passes, bucket_span, AreSound, IsOfFamily, span_of, spans_of, AreTo, IsStretch, place_by, span_cmp, AreNesting}, Homes.{home_before, home_from}, Nesting.{Fits, Follows, follows_none, nesting_from, span_proper, spans_fit}, Subnets.{subnet_proper}, Splicing.{Part, at_back, at_front, at_middle, map_spliced, part_at}}
+use Rattle.fs_buckets.proofs.Words.{◌≡◌, ℕ, zero, suc, ◌+◌, ◌-◌, ◌<◌, ◌≤◌, ◌⊎◌, inl, inr, refl, sym, ap, ap₂, subst, ◌∙◌, Bool, true, false}
+use Rattle.fs_buckets.proofs.Words.{if◌then◌else◌, Option, Some, None, List, [], ◌∷◌, length, get_or, Less, Equal, Greater, nat_cmp, arith}
+use Rattle.fs_buckets.proofs.Words.{AllByRecursion, splice, nat_cmp_is, ordering_then, cases_lt, cases_order, get_or_past, length-map, none-some}
+use Rattle.fs_buckets.proofs.Words.{Family, Listed, Buckets, Node, numbers_in, nodes_in, node_at, AreHoused, span_at, IsLeft, IsPassed, Mends, Passes}
+use Rattle.fs_buckets.proofs.Words.{bucket_span, AreSound, IsOfFamily, span_of, spans_of, AreTo, IsStretch, place_by, span_cmp, AreNesting}
+use Rattle.fs_buckets.proofs.Homes.{home_before, home_from}
+use Rattle.fs_buckets.proofs.Nesting.{Fits, Follows, follows_none, nesting_from, span_proper, spans_fit}
+use Rattle.fs_buckets.proofs.Subnets.{subnet_proper}
+use Rattle.fs_buckets.proofs.Splicing.{Part, at_back, at_front, at_middle, map_spliced, part_at}
 
 -- one destination stands before another
 abbrev pub Before : ℕ × ℕ → ℕ × ℕ → Type 0
@@ -79,12 +87,15 @@ nesting_housed xs b count sound housed = nesting_from xs (λ i j less. at i j le
       let a : (node_at (nodes_in b.nodes) (home i)).start ≤ i = sound.begins i (omega (arith, less, below)) in
       let c : j < (node_at (nodes_in b.nodes) (home j + 1)).start = sound.ends j below in
       let last : home i < length (numbers_in b.lasts) = sound.home i (omega (arith, less, below)) in
-      let d : (node_at (nodes_in b.nodes) (home j + 1)).start ≤ (node_at (nodes_in b.nodes) (home i)).start = sound.starts (home j + 1) (home i) (omega (arith, more)) (omega (arith, last)) in
+      let d : (node_at (nodes_in b.nodes) (home j + 1)).start ≤ (node_at (nodes_in b.nodes) (home i)).start =
+      sound.starts (home j + 1) (home i) (omega (arith, more)) (omega (arith, last)) in
       omega (arith, less, a, c, d)
 
   fits : (i j : ℕ) → i < j → j < length b.homes.items → (home i ≡ home j) ⊎ ((home i < home j) ⊎ (home j < home i)) → Fits (span_at b i) (span_at b j)
-  fits i j less below (inl same) = subst (λ h. Fits (span_at b i) ((node_at (nodes_in b.nodes) h).first, get_or (numbers_in b.lasts) h 0)) same (omega arith, λ meets. omega arith)
-  fits i j less below (inr (inl earlier)) = (sound.rising (home i) (home j) earlier (sound.home j below), λ meets. sound.nested (home i) (home j) earlier (sound.home j below) meets)
+  fits i j less below (inl same) =
+      subst (λ h. Fits (span_at b i) ((node_at (nodes_in b.nodes) h).first, get_or (numbers_in b.lasts) h 0)) same (omega arith, λ meets. omega arith)
+  fits i j less below (inr (inl earlier)) =
+      (sound.rising (home i) (home j) earlier (sound.home j below), λ meets. sound.nested (home i) (home j) earlier (sound.home j below) meets)
   fits i j less below (inr (inr more)) = absurd (later i j less below more)
 
   at : (i j : ℕ) → i < j → (j < length b.homes.items) ⊎ (length b.homes.items ≤ j) → Follows (get_or xs i None) (get_or xs j None)
@@ -93,8 +104,10 @@ nesting_housed xs b count sound housed = nesting_from xs (λ i j less. at i j le
       subst (λ s. Follows s (get_or xs j None)) (sym (housed.homed i (omega (arith, less, below))))
       (subst (Follows (Some (span_at b i))) (sym (housed.homed j below)) (fits i j less below (cases_order (home i) (home j))))
 
-nesting_parts : (xs news : List (Option (ℕ × ℕ))) (target : Option (ℕ × ℕ)) (from to : ℕ) → AreNesting xs → from ≤ to → ((k : ℕ) → Part xs (splice xs from to news) target None from to (length news) k)
-    → ((k : ℕ) → k < from → 0 < length news → Follows (get_or xs k None) target) → ((k : ℕ) → to ≤ k → 0 < length news → Follows target (get_or xs k None)) → AreNesting (splice xs from to news)
+nesting_parts : (xs news : List (Option (ℕ × ℕ))) (target : Option (ℕ × ℕ)) (from to : ℕ) → AreNesting xs → from ≤ to
+    → ((k : ℕ) → Part xs (splice xs from to news) target None from to (length news) k)
+    → ((k : ℕ) → k < from → 0 < length news → Follows (get_or xs k None) target)
+    → ((k : ℕ) → to ≤ k → 0 < length news → Follows target (get_or xs k None)) → AreNesting (splice xs from to news)
 nesting_parts xs news target from to h le part front back = nesting_from (splice xs from to news) (λ i j less. at i j less (part i) (part j)) where
   place : ℕ → ℕ
   place k = to + (k - (from + length news))
@@ -125,9 +138,11 @@ record RuleAt (family : Family) (rules : List Listed) (k : ℕ) : Type 0 where
 rule_at : (family : Family) (rules : List Listed) (k : ℕ) → AllByRecursion (IsOfFamily family) rules → k < length rules → RuleAt family rules k
 rule_at family [] k each below = absurd (omega (arith, below))
 rule_at family (r ∷ rs) zero each below = record { r = r; own = each.0; span = refl }
-rule_at family (r ∷ rs) (suc k) each below = let a : RuleAt family rs k = rule_at family rs k each.1 (omega (arith, below)) in record { r = a.r; own = a.own; span = a.span }
+rule_at family (r ∷ rs) (suc k) each below = let a : RuleAt family rs k = rule_at family rs k each.1 (omega (arith, below)) in
+    record { r = a.r; own = a.own; span = a.span }
 
-pub proper_at : (family : Family) (rules : List Listed) (k : ℕ) (p : ℕ × ℕ) → AllByRecursion (IsOfFamily family) rules → get_or (spans_of rules) k None ≡ Some p → p.0 ≤ p.1
+pub proper_at : (family : Family) (rules : List Listed) (k : ℕ) (p : ℕ × ℕ) → AllByRecursion (IsOfFamily family) rules
+    → get_or (spans_of rules) k None ≡ Some p → p.0 ≤ p.1
 proper_at family [] k p each e = absurd (none-some p e)
 proper_at family (r ∷ rs) zero p each e = span_proper r.rule p each.0.rule e
 proper_at family (r ∷ rs) (suc k) p each e = proper_at family rs k p each.1 e
@@ -144,16 +159,21 @@ rules_follow family a b (Some p) (Some q) own other e f order = at (before order
   before (inr o) = behind_of q p o
 
   at : Before p q → Fits p q
-  at (inl less) = spans_fit a.rule b.rule p q own.rule other.rule (own.same ∙ sym other.same) e f (omega (arith, less)) (λ same. absurd (omega (arith, less, same)))
-  at (inr tied) = spans_fit a.rule b.rule p q own.rule other.rule (own.same ∙ sym other.same) e f (let same = tied.0 in omega (arith, same)) (λ same. let less = tied.1 in omega (arith, less))
+  at (inl less) = spans_fit a.rule b.rule p q own.rule other.rule (own.same
+      ∙ sym other.same) e f (omega (arith, less)) (λ same. absurd (omega (arith, less, same)))
+  at (inr tied) = spans_fit a.rule b.rule p q own.rule other.rule (own.same ∙ sym other.same) e f (let same = tied.0 in
+      omega (arith, same)) (λ same. let less = tied.1 in omega (arith, less))
 
 -- The rules with a stretch put anew nest.
-pub nesting_spliced : (family : Family) (rules news : List Listed) (target : Option (ℕ × ℕ)) (from to : ℕ) → AllByRecursion (IsOfFamily family) rules → AllByRecursion (IsOfFamily family) news
+pub nesting_spliced : (family : Family) (rules news : List Listed) (target : Option (ℕ × ℕ)) (from to : ℕ) → AllByRecursion (IsOfFamily family) rules
+    → AllByRecursion (IsOfFamily family) news
     → AreNesting (spans_of rules) → IsStretch (spans_of rules) target from to
     → ((i : ℕ) → i < length (spans_of news) → get_or (spans_of news) i None ≡ target) → AreNesting (spans_of (splice rules from to news))
 nesting_spliced family rules news target from to each own h s news_are =
     subst AreNesting (sym (map_spliced (λ r. span_of r.rule) rules news from to))
-    (nesting_parts (spans_of rules) (spans_of news) target from to h s.ordered (λ k. part_at (spans_of rules) (spans_of news) _ target None from to _ k (omega (arith, s.ordered, s.within)) refl refl news_are) front back) where
+    (nesting_parts (spans_of rules) (spans_of news) target from to h s.ordered
+    (λ k. part_at (spans_of rules) (spans_of news) _ target None from to _ k (omega (arith, s.ordered, s.within)) refl refl news_are) front
+    back) where
       size : length (spans_of rules) ≡ length rules
       size = length-map rules (λ r. span_of r.rule)
 
@@ -164,7 +184,8 @@ nesting_spliced family rules news target from to each own h s news_are =
       front k below some =
           let old : RuleAt family rules k = rule_at family rules k each (omega (arith, below, s.ordered, s.within, size)) in
           let new : RuleAt family news 0 = fresh some in
-          rules_follow family old.r new.r (get_or (spans_of rules) k None) target old.own new.own (sym old.span) (sym new.span ∙ news_are 0 some) (inl (s.before k below))
+          rules_follow family old.r new.r (get_or (spans_of rules) k None) target old.own new.own (sym old.span) (sym new.span
+          ∙ news_are 0 some) (inl (s.before k below))
 
       back : (k : ℕ) → to ≤ k → 0 < length (spans_of news) → Follows target (get_or (spans_of rules) k None)
       back k above some = at (cases_lt k (length (spans_of rules))) where
@@ -173,7 +194,8 @@ nesting_spliced family rules news target from to each own h s news_are =
         at (inl below) =
             let old : RuleAt family rules k = rule_at family rules k each (omega (arith, below, size)) in
             let new : RuleAt family news 0 = fresh some in
-            rules_follow family new.r old.r target (get_or (spans_of rules) k None) new.own old.own (sym new.span ∙ news_are 0 some) (sym old.span) (inr (s.behind k above below))
+            rules_follow family new.r old.r target (get_or (spans_of rules) k None) new.own old.own (sym new.span
+            ∙ news_are 0 some) (sym old.span) (inr (s.behind k above below))
 
 -- Where each rule has the destination that stood there its buckets stay.
 pub housed_same : (xs ys : List (Option (ℕ × ℕ))) (b : Buckets) → ((k : ℕ) → get_or ys k None ≡ get_or xs k None) → AreHoused xs b → AreHoused ys b
@@ -192,9 +214,11 @@ mends_spliced xs news b from to h le within whole = record {
   inside : from ≤ length xs
   inside = omega (arith, le, within, whole)
 
-pub rest_bare : (xs news : List (Option (ℕ × ℕ))) (b : Buckets) (from to n : ℕ) → AreHoused xs b → from ≤ to → to ≤ length b.homes.items → length b.homes.items ≤ length xs
+pub rest_bare : (xs news : List (Option (ℕ × ℕ))) (b : Buckets) (from to n : ℕ) → AreHoused xs b → from ≤ to → to ≤ length b.homes.items
+    → length b.homes.items ≤ length xs
     → n + to ≡ from + length news + length b.homes.items → get_or (splice xs from to news) n None ≡ None
-rest_bare xs news b from to n h le within whole is = at_back xs news from to n (length b.homes.items) None (omega (arith, le, within, whole)) within is ∙ h.bare (length b.homes.items) (omega arith)
+rest_bare xs news b from to n h le within whole is =
+    at_back xs news from to n (length b.homes.items) None (omega (arith, le, within, whole)) within is ∙ h.bare (length b.homes.items) (omega arith)
 
 -- Where the buckets before a number are passed, so are the rules before it, and the others aren't.
 abbrev pub start_of : Buckets → ℕ → ℕ
@@ -204,7 +228,9 @@ abbrev pub home_of : Buckets → ℕ → ℕ
 home_of b k = get_or b.homes.items k 0
 
 start_within : (b : Buckets) (count i : ℕ) → AreSound b count → i ≤ length (numbers_in b.lasts) → start_of b i ≤ length b.homes.items
-start_within b count i sound within = let a : start_of b i ≤ start_of b (length (numbers_in b.lasts)) = sound.starts i (length (numbers_in b.lasts)) within (omega arith) in let t : start_of b (length (numbers_in b.lasts)) ≡ length b.homes.items = sound.tail in omega (arith, a, t)
+start_within b count i sound within = let a : start_of b i ≤ start_of b (length (numbers_in b.lasts)) =
+    sound.starts i (length (numbers_in b.lasts)) within (omega arith) in let t : start_of b (length (numbers_in b.lasts)) ≡ length b.homes.items =
+    sound.tail in omega (arith, a, t)
 
 abbrev pub first_of : Buckets → ℕ → ℕ
 first_of b i = (node_at (nodes_in b.nodes) i).first
@@ -218,7 +244,8 @@ none = record { first = 0; start = 0; parent = 0 }
 pub home_under : (b : Buckets) (count i k : ℕ) → AreSound b count → i ≤ length (numbers_in b.lasts) → k < start_of b i → home_of b k < i
 home_under b count i k sound within less = (home_before (numbers_in b.lasts) (nodes_in b.nodes) b.homes.items count i k sound within less).1
 
-pub home_over : (b : Buckets) (count i k : ℕ) → AreSound b count → i ≤ length (numbers_in b.lasts) → k < length b.homes.items → start_of b i ≤ k → i ≤ home_of b k
+pub home_over : (b : Buckets) (count i k : ℕ) → AreSound b count → i ≤ length (numbers_in b.lasts) → k < length b.homes.items → start_of b i ≤ k
+    → i ≤ home_of b k
 home_over b count i k sound within below le = home_from (numbers_in b.lasts) (nodes_in b.nodes) b.homes.items count i k sound within below le
 
 -- what is passed and what is left
@@ -246,9 +273,11 @@ never_both p q passed left = at (passed_before p q passed) (left_behind p q left
 
 pub stretch_at : (b : Buckets) (count k n m : ℕ) (q : ℕ × ℕ) → AreSound b count → Passes b q false n → Passes b q true m
     → (node_at (nodes_in b.nodes) n).start ≤ k → k < (node_at (nodes_in b.nodes) m).start → span_cmp (span_at b k) q ≡ Equal
-stretch_at b count k n m q sound h g le less = between (span_at b k) q (h.behind (home_of b k) (home_over b count n k sound h.within below le) (sound.home k below)) (g.before (home_of b k) (home_under b count m k sound g.within less)) where
-  below : k < length b.homes.items
-  below = let a : start_of b m ≤ length b.homes.items = start_within b count m sound g.within in omega (arith, less, a)
+stretch_at b count k n m q sound h g le less =
+    between (span_at b k) q (h.behind (home_of b k) (home_over b count n k sound h.within below le) (sound.home k below))
+    (g.before (home_of b k) (home_under b count m k sound g.within less)) where
+      below : k < length b.homes.items
+      below = let a : start_of b m ≤ length b.homes.items = start_within b count m sound g.within in omega (arith, less, a)
 
 pub stretch_ordered : (b : Buckets) (count n m : ℕ) (q : ℕ × ℕ) → AreSound b count → Passes b q false n → Passes b q true m
     → (node_at (nodes_in b.nodes) n).start ≤ (node_at (nodes_in b.nodes) m).start
@@ -262,13 +291,18 @@ stretch_ordered b count n m q sound h g = at (cases_lt (start_of b m) (start_of 
       (g.behind (home_of b (start_of b m)) (home_over b count m (start_of b m) sound g.within below (omega arith)) (sound.home (start_of b m) below)))
 
 pub stretch_before : (b : Buckets) (count k n : ℕ) (q : ℕ × ℕ) → AreSound b count → Passes b q false n → k < start_of b n → span_cmp (span_at b k) q ≡ Less
-stretch_before b count k n q sound h less = of_before (span_at b k) q (passed_before (span_at b k) q (h.before (home_of b k) (home_under b count n k sound h.within less)))
+stretch_before b count k n q sound h less =
+    of_before (span_at b k) q (passed_before (span_at b k) q (h.before (home_of b k) (home_under b count n k sound h.within less)))
 
-pub stretch_behind : (b : Buckets) (count k m : ℕ) (q : ℕ × ℕ) → AreSound b count → Passes b q true m → k < length b.homes.items → start_of b m ≤ k → span_cmp (span_at b k) q ≡ Greater
-stretch_behind b count k m q sound g below le = of_behind (span_at b k) q (left_behind (span_at b k) q (g.behind (home_of b k) (home_over b count m k sound g.within below le) (sound.home k below)))
+pub stretch_behind : (b : Buckets) (count k m : ℕ) (q : ℕ × ℕ) → AreSound b count → Passes b q true m → k < length b.homes.items → start_of b m ≤ k
+    → span_cmp (span_at b k) q ≡ Greater
+stretch_behind b count k m q sound g below le =
+    of_behind (span_at b k) q (left_behind (span_at b k) q
+    (g.behind (home_of b k) (home_over b count m k sound g.within below le) (sound.home k below)))
 
 -- what is left stays so
-pub left_on : (b : Buckets) (count i j : ℕ) (q : ℕ × ℕ) (same : Bool) → AreSound b count → j < length (numbers_in b.lasts) → i ≤ j → IsLeft (bucket_span b i) q same → IsLeft (bucket_span b j) q same
+pub left_on : (b : Buckets) (count i j : ℕ) (q : ℕ × ℕ) (same : Bool) → AreSound b count → j < length (numbers_in b.lasts) → i ≤ j
+    → IsLeft (bucket_span b i) q same → IsLeft (bucket_span b j) q same
 left_on b count i j q same sound within le left = at (cases_lt i j) where
   at : (i < j) ⊎ (j ≤ i) → IsLeft (bucket_span b j) q same
   at (inr past) = let is : i ≡ j = omega (arith, le, past) in subst (λ n. IsLeft (bucket_span b n) q same) is left
@@ -282,7 +316,8 @@ left_on b count i j q same sound within le left = at (cases_lt i j) where
       last : q.1 ≡ get_or (numbers_in b.lasts) i 0
       last = tied.0
 
-      ends : (get_or (numbers_in b.lasts) i 0 < get_or (numbers_in b.lasts) j 0) ⊎ (get_or (numbers_in b.lasts) j 0 ≤ get_or (numbers_in b.lasts) i 0) → IsLeft (bucket_span b j) q same
+      ends : (get_or (numbers_in b.lasts) i 0 < get_or (numbers_in b.lasts) j 0) ⊎ (get_or (numbers_in b.lasts) j 0 ≤ get_or (numbers_in b.lasts) i 0)
+          → IsLeft (bucket_span b j) q same
       ends (inl later) = inl (omega (arith, last, later))
       ends (inr past) =
           let own = subnet_proper (node_at (nodes_in b.nodes) j).first (get_or (numbers_in b.lasts) j 0) (sound.subnets j within) in
@@ -291,7 +326,8 @@ left_on b count i j q same sound within le left = at (cases_lt i j) where
           inr (omega (arith, last, past, rises), omega (arith, inner, out))
 
 -- A stretch of the buckets is one of the rules.
-pub stretch_some : (xs : List (Option (ℕ × ℕ))) (b : Buckets) (q : ℕ × ℕ) (from to : ℕ) → AreHoused xs b → length b.homes.items ≤ length xs → from ≤ to → to ≤ length b.homes.items
+pub stretch_some : (xs : List (Option (ℕ × ℕ))) (b : Buckets) (q : ℕ × ℕ) (from to : ℕ) → AreHoused xs b → length b.homes.items ≤ length xs
+    → from ≤ to → to ≤ length b.homes.items
     → ((k : ℕ) → k < from → span_cmp (span_at b k) q ≡ Less) → ((k : ℕ) → from ≤ k → k < to → span_cmp (span_at b k) q ≡ Equal)
     → ((k : ℕ) → to ≤ k → k < length b.homes.items → span_cmp (span_at b k) q ≡ Greater) → IsStretch xs (Some q) from to
 stretch_some xs b q from to h whole le within before at behind = record {
@@ -305,7 +341,8 @@ stretch_some xs b q from to h whole le within before at behind = record {
   by k above (inl below) = ap (place_by (Some q)) (h.homed k below) ∙ behind k above below
   by k above (inr past) = ap (place_by (Some q)) (h.bare k past)
 
-pub stretch_none : (xs : List (Option (ℕ × ℕ))) (b : Buckets) (count : ℕ) → AreHoused xs b → length b.homes.items ≤ count → count ≡ length xs → IsStretch xs None (length b.homes.items) count
+pub stretch_none : (xs : List (Option (ℕ × ℕ))) (b : Buckets) (count : ℕ) → AreHoused xs b → length b.homes.items ≤ count → count ≡ length xs
+    → IsStretch xs None (length b.homes.items) count
 stretch_none xs b count h le whole = record {
   ordered = le;
   within = omega (arith, whole);
@@ -325,7 +362,8 @@ pub bare_behind : (s : Option (ℕ × ℕ)) → place_by None s ≡ Greater → 
 bare_behind None e = equal_greater e
 bare_behind (Some p) e = less_greater e
 
-pub same_count : (xs news : List (Option (ℕ × ℕ))) (target : Option (ℕ × ℕ)) (from to : ℕ) → IsStretch xs target from to → AreTo target news → length news ≡ to - from
+pub same_count : (xs news : List (Option (ℕ × ℕ))) (target : Option (ℕ × ℕ)) (from to : ℕ) → IsStretch xs target from to → AreTo target news
+    → length news ≡ to - from
     → (k : ℕ) → get_or (splice xs from to news) k None ≡ get_or xs k None
 same_count xs news target from to s each size k = at (part_at xs news _ target None from to _ k (omega (arith, s.ordered, s.within)) refl refl each) where
   at : Part xs (splice xs from to news) target None from to (length news) k → get_or (splice xs from to news) k None ≡ get_or xs k None
@@ -333,7 +371,8 @@ same_count xs news target from to s each size k = at (part_at xs news _ target N
   at (inr (inl a)) = a.2 ∙ sym (same_place target (get_or xs k None) (s.at k a.0 (omega (arith, a.1, size, s.ordered))))
   at (inr (inr a)) = let there : to + (k - (from + length news)) ≡ k = omega (arith, a.0, size, s.ordered) in a.1 ∙ ap (λ i. get_or xs i None) there
 
-pub none_count : (xs news : List (Option (ℕ × ℕ))) (from to : ℕ) → IsStretch xs None from to → AreTo None news → (k : ℕ) → get_or (splice xs from to news) k None ≡ get_or xs k None
+pub none_count : (xs news : List (Option (ℕ × ℕ))) (from to : ℕ) → IsStretch xs None from to → AreTo None news → (k : ℕ)
+    → get_or (splice xs from to news) k None ≡ get_or xs k None
 none_count xs news from to s each k = at (part_at xs news _ None None from to _ k (omega (arith, s.ordered, s.within)) refl refl each) where
   past : (i : ℕ) → from ≤ i → get_or xs i None ≡ None
   past i above = by (cases_lt i to) (cases_lt i (length xs)) where

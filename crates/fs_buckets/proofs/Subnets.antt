@@ -1,5 +1,6 @@
 -- Prefixes as intervals of addresses are nested or apart.
-use Rattle.fs_buckets.proofs.Words.{◌≡◌, ℕ, ◌+◌, ◌-◌, ◌*◌, ◌^◌, ◌<◌, ◌≤◌, ◌⊎◌, inl, inr, sym, ap, ◌∙◌, pow_pos, arith, add-mul, mul_assoc, mul-le-mul_right, cases_lt, IsSubnet}
+use Rattle.fs_buckets.proofs.Words.{◌≡◌, ℕ, ◌+◌, ◌-◌, ◌*◌, ◌^◌, ◌<◌, ◌≤◌, ◌⊎◌, inl, inr, sym, ap, ◌∙◌, pow_pos, arith, add-mul, mul_assoc}
+use Rattle.fs_buckets.proofs.Words.{mul-le-mul_right, cases_lt, IsSubnet}
 use Rattle.std.proofs.lemmas.Nat.{pow-add}
 use Rattle.fs_base.proofs.NumberTests.{next_row}
 
@@ -37,7 +38,8 @@ subnets_nest a b c d s t later meets = at (cases_lt s.host t.host) where
 
     by : (s.count < t.count * 2 ^ (t.host - s.host)) ⊎ (t.count * 2 ^ (t.host - s.host) ≤ s.count) → c ≤ a
     by (inl more) =
-        let past : s.count * 2 ^ s.host + 2 ^ s.host ≤ t.count * 2 ^ (t.host - s.host) * 2 ^ s.host = next_row s.count (t.count * 2 ^ (t.host - s.host)) (2 ^ s.host) more in
+        let past : s.count * 2 ^ s.host + 2 ^ s.host ≤ t.count * 2 ^ (t.host - s.host) * 2 ^ s.host =
+        next_row s.count (t.count * 2 ^ (t.host - s.host)) (2 ^ s.host) more in
         absurd (omega (arith, past, rows, begins, ends, other_begins, meets))
     by (inr few) =
         let under : t.count * 2 ^ (t.host - s.host) * 2 ^ s.host ≤ s.count * 2 ^ s.host = mul-le-mul_right (2 ^ s.host) few in
@@ -53,7 +55,8 @@ subnets_nest a b c d s t later meets = at (cases_lt s.host t.host) where
 
     by : (t.count < (s.count + 1) * 2 ^ (s.host - t.host)) ⊎ ((s.count + 1) * 2 ^ (s.host - t.host) ≤ t.count) → c ≤ a
     by (inl few) =
-        let under : t.count * 2 ^ t.host + 2 ^ t.host ≤ (s.count + 1) * 2 ^ (s.host - t.host) * 2 ^ t.host = next_row t.count ((s.count + 1) * 2 ^ (s.host - t.host)) (2 ^ t.host) few in
+        let under : t.count * 2 ^ t.host + 2 ^ t.host ≤ (s.count + 1) * 2 ^ (s.host - t.host) * 2 ^ t.host =
+        next_row t.count ((s.count + 1) * 2 ^ (s.host - t.host)) (2 ^ t.host) few in
         absurd (omega (arith, under, rows, whole, begins, ends, other_begins, other_ends, later))
     by (inr more) =
         let past : (s.count + 1) * 2 ^ (s.host - t.host) * 2 ^ t.host ≤ t.count * 2 ^ t.host = mul-le-mul_right (2 ^ t.host) more in

@@ -1,7 +1,8 @@
 -- What lists of addresses and nodes of either width hold.
 use Rattle.std.specs.Prelude.{ℕ, List}
 use Rattle.fs_base.specs.declared.config.Address.{Address, TheVariants.{V4, V6}}
-use Rattle.fs_buckets.specs.declared.{addresses.Addresses.{Addresses, TheVariants.{V4 as V4Addresses, V6 as V6Addresses}}, nodes.{Node.{Node}, Nodes.{Nodes, TheVariants.{V4 as V4Nodes, V6 as V6Nodes}}}}
+use Rattle.fs_buckets.specs.declared.addresses.Addresses.{Addresses, TheVariants.{V4 as V4Addresses, V6 as V6Addresses}}
+use Rattle.fs_buckets.specs.declared.nodes.{Node.{Node}, Nodes.{Nodes, TheVariants.{V4 as V4Nodes, V6 as V6Nodes}}}
 
 -- how many bits an address of a list has
 abbrev pub width_in : Addresses → ℕ

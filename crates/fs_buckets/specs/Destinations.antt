@@ -1,5 +1,6 @@
 -- The destinations of rules as first and last addresses, and where one stands among others.
-use Rattle.std.specs.{Prelude.{◌≡◌, ℕ, ◌<◌, ◌≤◌, Option, Some, None, option_map, List, length, get_or, map, ◌≢◌, ◌^◌}, Ordering.{nat_cmp, ordering_then}, declared.cmp.Ordering.{Ordering, TheVariants.{Less, Equal, Greater}}}
+use Rattle.std.specs.Prelude.{◌≡◌, ℕ, ◌<◌, ◌≤◌, Option, Some, None, option_map, List, length, get_or, map, ◌≢◌, ◌^◌}
+use Rattle.std.specs.{Ordering.{nat_cmp, ordering_then}, declared.cmp.Ordering.{Ordering, TheVariants.{Less, Equal, Greater}}}
 use Rattle.fs_base.specs.declared.prefix.{Family.{Family}, Prefix.{Prefix}}
 use Rattle.fs_nlri.specs.{Parts.{Ruled}, Rule.{IsRule, destination_of, shown}}
 use Rattle.fs_order.specs.Laws.{last_shown}

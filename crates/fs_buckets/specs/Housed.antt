@@ -1,7 +1,9 @@
 -- Buckets that house rules: which are in which, what is put in the place of others, and where that is.
-use Rattle.std.specs.{Prelude.{◌≡◌, ℕ, ◌+◌, ◌-◌, ◌<◌, ◌≤◌, Bool, false, Option, Some, None, List, length, get_or, ◌⊎◌, ◌^◌, if◌then◌else◌}, List.{AllByRecursion}}
+use Rattle.std.specs.Prelude.{◌≡◌, ℕ, ◌+◌, ◌-◌, ◌<◌, ◌≤◌, Bool, false, Option, Some, None, List, length, get_or, ◌⊎◌, ◌^◌, if◌then◌else◌}
+use Rattle.std.specs.List.{AllByRecursion}
 use Rattle.fs_base.specs.declared.prefix.Family.{Family}
-use Rattle.fs_buckets.specs.{declared.buckets.Buckets.{Buckets}, Addresses.{numbers_in, nodes_in, node_width, width_in}, Buckets.{AreBuckets, node_at}, Destinations.{IsOfFamily, spans_of, IsStretch}}
+use Rattle.fs_buckets.specs.{declared.buckets.Buckets.{Buckets}, Addresses.{numbers_in, nodes_in, node_width, width_in}}
+use Rattle.fs_buckets.specs.{Buckets.{AreBuckets, node_at}, Destinations.{IsOfFamily, spans_of, IsStretch}}
 use Rattle.fs_rules.specs.Lent.{Listed}
 
 -- these are buckets of so many rules

@@ -1,9 +1,14 @@
 //! The destinations of a family's rules, in order.
 
-ghost use Rattle.std.specs.{Prelude.{◌≡◌, ◌<◌, ◌≤◌, ◌+◌, ◌^◌, ℕ, IfOk, IfSome, IsFalse, IsTrue, List, None, OnOk, Option, Some, get_or, length}, declared.cmp.Ordering.TheVariants.{Less, Equal, Greater}, List.{AllByRecursion, splice}};
+ghost use Rattle.std.specs.Prelude.{◌≡◌, ◌<◌, ◌≤◌, ◌+◌, ◌^◌, ℕ, IfOk, IfSome, IsFalse, IsTrue, List, None, OnOk, Option, Some, get_or, length};
+ghost use Rattle.std.specs.{declared.cmp.Ordering.TheVariants.{Less, Equal, Greater}, List.{AllByRecursion, splice}};
 ghost use Rattle.fs_base.specs.Bits.{width_of};
 ghost use Rattle.fs_rules.specs.Lent.{all_admitted};
-ghost use Rattle.fs_buckets.specs.{Addresses.{nodes_in, numbers_in}, Buckets.{AreChanged, IsSubnet, node_at}, Housed.{AreBucketsOf, AreHoused, AreSound, HasEmpty, IsGap, IsHolder, IsLeft, IsPassed, Passes, bucket_span, span_at}, Destinations.{AreNarrow, AreTo, IsOfFamily, span_cmp, spans_of}, Runs.{AreNesting, RunsOf}};
+ghost use Rattle.fs_buckets.specs.{Addresses.{nodes_in, numbers_in}, Buckets.{AreChanged, IsSubnet, node_at}};
+ghost use Rattle.fs_buckets.specs.Housed.{AreBucketsOf, AreHoused, AreSound, HasEmpty, IsGap, IsHolder, IsLeft, IsPassed, Passes, bucket_span};
+ghost use Rattle.fs_buckets.specs.Housed.{span_at};
+ghost use Rattle.fs_buckets.specs.Destinations.{AreNarrow, AreTo, IsOfFamily, span_cmp, spans_of};
+ghost use Rattle.fs_buckets.specs.Runs.{AreNesting, RunsOf};
 
 use crate::addresses::Addresses;
 use crate::marks::Marks;

@@ -2,7 +2,9 @@
 
 ghost use Rattle.std.specs.Prelude.{◌≡◌, ◌<◌, ◌≤◌, ◌+◌, ◌-◌, ◌++◌, ◌∷◌, ◌^◌, [], ℕ, List, Option, Some, None, OnOk, IfOk, IsTrue, get_or, length};
 ghost use Rattle.fs_base.specs.Bits.{width_of};
-ghost use Rattle.fs_buckets.specs.{Addresses.{numbers_in, nodes_in, width_in}, Destinations.{spans_of, AreAll, AreNarrow}, Housed.{Adds, Keeps, Mends, AreSound}, Runs.{AreNodes, ArePlain, EndsWith, Joined, Opened, RunsOf}};
+ghost use Rattle.fs_buckets.specs.{Addresses.{numbers_in, nodes_in, width_in}, Destinations.{spans_of, AreAll, AreNarrow}};
+ghost use Rattle.fs_buckets.specs.Housed.{Adds, Keeps, Mends, AreSound};
+ghost use Rattle.fs_buckets.specs.Runs.{AreNodes, ArePlain, EndsWith, Joined, Opened, RunsOf};
 ghost use Rattle.fs_rules.specs.Lent.{all_admitted};
 
 use crate::addresses::Addresses;

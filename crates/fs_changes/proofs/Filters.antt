@@ -1,5 +1,6 @@
 -- Lists in the order of their keys, and those of one key put anew.
-use Rattle.fs_changes.proofs.Words.{Bool, List, Option, Some, None, [], ap, ap₂, cond, ◌&&◌, false, true, true≢false, refl, sym, ◌++◌, ◌∙◌, ◌∷◌, ◌≡◌, append_assoc, append-nil, filter-append, filter, is_eq, is_gt, is_le, is_lt, Ordering, Less, Equal, Greater}
+use Rattle.fs_changes.proofs.Words.{Bool, List, Option, Some, None, [], ap, ap₂, cond, ◌&&◌, false, true, true≢false, refl, sym, ◌++◌, ◌∙◌, ◌∷◌, ◌≡◌}
+use Rattle.fs_changes.proofs.Words.{append_assoc, append-nil, filter-append, filter, is_eq, is_gt, is_le, is_lt, Ordering, Less, Equal, Greater}
 
 -- how a key stands to one, as in an order
 pub record IsOrder {K : Type 0} (place : K → K → Ordering) : Type 0 where
@@ -145,12 +146,14 @@ module _ {X K : Type 0} (place : K → K → Ordering) (key : X → K) (order : 
   higher_in l t h x e = later_past l x (past_onward l t h (key x) (greater_is (place t (key x)) e))
 
   -- up to a key stands what is before it, and what has it
-  pub up_parted : (t : K) (xs : List X) → Parted place key t xs → filter (is_up place key (Some t)) xs ≡ filter (lower place key t) xs ++ filter (alike place key t) xs
+  pub up_parted : (t : K) (xs : List X) → Parted place key t xs
+      → filter (is_up place key (Some t)) xs ≡ filter (lower place key t) xs ++ filter (alike place key t) xs
   up_parted t xs h =
       ap (filter up) (sym h) ∙ filter-append up (filter (lower place key t) xs) (filter (alike place key t) xs ++ filter (higher place key t) xs)
       ∙ ap₂ (λ a b. a ++ b) (kept_all (lower place key t) up xs (λ x e. ap is_le (less_is (place t (key x)) e)))
       (filter-append up (filter (alike place key t) xs) (filter (higher place key t) xs)
-      ∙ ap₂ (λ a b. a ++ b) (kept_all (alike place key t) up xs (λ x e. ap is_le (equal_is (place t (key x)) e))) (kept_none (higher place key t) up xs (λ x e. ap is_le (greater_is (place t (key x)) e)))
+      ∙ ap₂ (λ a b. a ++ b) (kept_all (alike place key t) up xs (λ x e. ap is_le (equal_is (place t (key x)) e)))
+      (kept_none (higher place key t) up xs (λ x e. ap is_le (greater_is (place t (key x)) e)))
       ∙ append-nil (filter (alike place key t) xs)) where
         up : X → Bool
         up = is_up place key (Some t)
@@ -166,51 +169,69 @@ module _ {X K : Type 0} (place : K → K → Ordering) (key : X → K) (order : 
     all_test [] = refl
     all_test (y ∷ ys) = ap (λ zs. y ∷ zs) (all_test ys)
   up_and_past (Some l) xs h =
-      ap (λ a. a ++ filter (higher place key l) xs) (up_parted l xs (h l)) ∙ append_assoc (filter (lower place key l) xs) (filter (alike place key l) xs) (filter (higher place key l) xs) ∙ h l
+      ap (λ a. a ++ filter (higher place key l) xs) (up_parted l xs (h l))
+      ∙ append_assoc (filter (lower place key l) xs) (filter (alike place key l) xs) (filter (higher place key l) xs) ∙ h l
 
   -- before the next key stands what is up to the last one, and what is between place key them
-  pub before_next : (l : Option K) (t : K) (xs : List X) → IsLater place key l t → ((s : K) → Parted place key s xs) → filter (lower place key t) xs ≡ filter (is_up place key l) xs ++ between place key l t xs
+  pub before_next : (l : Option K) (t : K) (xs : List X) → IsLater place key l t → ((s : K) → Parted place key s xs)
+      → filter (lower place key t) xs ≡ filter (is_up place key l) xs ++ between place key l t xs
   before_next l t xs h p =
-      ap (filter (lower place key t)) (sym (up_and_past l xs p)) ∙ filter-append (lower place key t) (filter (is_up place key l) xs) (filter (is_past place key l) xs)
+      ap (filter (lower place key t)) (sym (up_and_past l xs p))
+      ∙ filter-append (lower place key t) (filter (is_up place key l) xs) (filter (is_past place key l) xs)
       ∙ ap (λ a. a ++ between place key l t xs) (kept_all (is_up place key l) (lower place key t) xs (up_in l t h))
 
   -- past the last key stands what is between place key it and the next, what has that, and what is past that
-  past_parted : (l : Option K) (t : K) (xs : List X) → IsLater place key l t → Parted place key t xs → filter (is_past place key l) xs ≡ between place key l t xs ++ (filter (alike place key t) xs ++ filter (higher place key t) xs)
+  past_parted : (l : Option K) (t : K) (xs : List X) → IsLater place key l t → Parted place key t xs
+      → filter (is_past place key l) xs ≡ between place key l t xs ++ (filter (alike place key t) xs ++ filter (higher place key t) xs)
   past_parted l t xs h p =
-      ap (filter (is_past place key l)) (sym p) ∙ filter-append (is_past place key l) (filter (lower place key t) xs) (filter (alike place key t) xs ++ filter (higher place key t) xs)
+      ap (filter (is_past place key l)) (sym p)
+      ∙ filter-append (is_past place key l) (filter (lower place key t) xs) (filter (alike place key t) xs ++ filter (higher place key t) xs)
       ∙ ap₂ (λ a b. a ++ b) (kept_turned (lower place key t) (is_past place key l) xs)
       (filter-append (is_past place key l) (filter (alike place key t) xs) (filter (higher place key t) xs)
-      ∙ ap₂ (λ a b. a ++ b) (kept_all (alike place key t) (is_past place key l) xs (alike_in l t h)) (kept_all (higher place key t) (is_past place key l) xs (higher_in l t h)))
+      ∙ ap₂ (λ a b. a ++ b) (kept_all (alike place key t) (is_past place key l) xs (alike_in l t h))
+      (kept_all (higher place key t) (is_past place key l) xs (higher_in l t h)))
 
   -- Where both lists are the same between place key the last key and the next, what has been reached place key stands in the parts of both.
-  pub lower_reached : (l : Option K) (t : K) (old new : List X) → IsLater place key l t → ((s : K) → Parted place key s new) → between place key l t old ≡ between place key l t new
+  pub lower_reached : (l : Option K) (t : K) (old new : List X) → IsLater place key l t → ((s : K) → Parted place key s new)
+      → between place key l t old ≡ between place key l t new
       → filter (lower place key t) (reached place key l old new) ≡ filter (lower place key t) new
   lower_reached l t old new h p same =
       filter-append (lower place key t) (filter (is_up place key l) new) (filter (is_past place key l) old)
       ∙ ap₂ (λ a b. a ++ b) (kept_all (is_up place key l) (lower place key t) new (up_in l t h)) same ∙ sym (before_next l t new h p)
 
-  pub alike_reached : (l : Option K) (t : K) (old new : List X) → IsLater place key l t → filter (alike place key t) (reached place key l old new) ≡ filter (alike place key t) old
+  pub alike_reached : (l : Option K) (t : K) (old new : List X) → IsLater place key l t
+      → filter (alike place key t) (reached place key l old new) ≡ filter (alike place key t) old
   alike_reached l t old new h =
       filter-append (alike place key t) (filter (is_up place key l) new) (filter (is_past place key l) old)
-      ∙ ap₂ (λ a b. a ++ b) (kept_none (is_up place key l) (alike place key t) new (up_not l t h)) (kept_turned (is_past place key l) (alike place key t) old ∙ kept_all (alike place key t) (is_past place key l) old (alike_in l t h))
+      ∙ ap₂ (λ a b. a ++ b) (kept_none (is_up place key l) (alike place key t) new (up_not l t h))
+      (kept_turned (is_past place key l) (alike place key t) old ∙ kept_all (alike place key t) (is_past place key l) old (alike_in l t h))
 
-  pub higher_reached : (l : Option K) (t : K) (old new : List X) → IsLater place key l t → filter (higher place key t) (reached place key l old new) ≡ filter (higher place key t) old
+  pub higher_reached : (l : Option K) (t : K) (old new : List X) → IsLater place key l t
+      → filter (higher place key t) (reached place key l old new) ≡ filter (higher place key t) old
   higher_reached l t old new h =
       filter-append (higher place key t) (filter (is_up place key l) new) (filter (is_past place key l) old)
-      ∙ ap₂ (λ a b. a ++ b) (kept_none (is_up place key l) (higher place key t) new (up_never l t h)) (kept_turned (is_past place key l) (higher place key t) old ∙ kept_all (higher place key t) (is_past place key l) old (higher_in l t h))
+      ∙ ap₂ (λ a b. a ++ b) (kept_none (is_up place key l) (higher place key t) new (up_never l t h))
+      (kept_turned (is_past place key l) (higher place key t) old ∙ kept_all (higher place key t) (is_past place key l) old (higher_in l t h))
 
-  pub parted_reached : (l : Option K) (t : K) (old new : List X) → IsLater place key l t → Parted place key t old → ((s : K) → Parted place key s new) → between place key l t old ≡ between place key l t new → Parted place key t (reached place key l old new)
+  pub parted_reached : (l : Option K) (t : K) (old new : List X) → IsLater place key l t → Parted place key t old → ((s : K) → Parted place key s new)
+      → between place key l t old ≡ between place key l t new → Parted place key t (reached place key l old new)
   parted_reached l t old new h q p same =
-      ap₂ (λ a b. a ++ b) (lower_reached l t old new h p same ∙ before_next l t new h p) (ap₂ (λ a b. a ++ b) (alike_reached l t old new h) (higher_reached l t old new h))
+      ap₂ (λ a b. a ++ b) (lower_reached l t old new h p same
+      ∙ before_next l t new h p) (ap₂ (λ a b. a ++ b) (alike_reached l t old new h) (higher_reached l t old new h))
       ∙ append_assoc (filter (is_up place key l) new) (between place key l t new) (filter (alike place key t) old ++ filter (higher place key t) old)
-      ∙ ap (λ a. filter (is_up place key l) new ++ a) (ap (λ b. b ++ (filter (alike place key t) old ++ filter (higher place key t) old)) (sym same) ∙ sym (past_parted l t old h q))
+      ∙ ap (λ a. filter (is_up place key l) new ++ a) (ap (λ b. b ++ (filter (alike place key t) old ++ filter (higher place key t) old)) (sym same)
+      ∙ sym (past_parted l t old h q))
 
   -- With those of the next key anew, that key has been reached place key.
-  pub reached_next : (l : Option K) (t : K) (old new : List X) → IsLater place key l t → ((s : K) → Parted place key s new) → between place key l t old ≡ between place key l t new
-      → filter (lower place key t) (reached place key l old new) ++ (filter (alike place key t) new ++ filter (higher place key t) (reached place key l old new)) ≡ reached place key (Some t) old new
+  pub reached_next : (l : Option K) (t : K) (old new : List X) → IsLater place key l t → ((s : K) → Parted place key s new)
+      → between place key l t old ≡ between place key l t new
+      → filter (lower place key t) (reached place key l old new)
+      ++ (filter (alike place key t) new ++ filter (higher place key t) (reached place key l old new)) ≡ reached place key (Some t) old new
   reached_next l t old new h p same =
       ap₂ (λ a b. a ++ b) (lower_reached l t old new h p same) (ap (λ b. filter (alike place key t) new ++ b) (higher_reached l t old new h))
-      ∙ sym (append_assoc (filter (lower place key t) new) (filter (alike place key t) new) (filter (higher place key t) old)) ∙ ap (λ a. a ++ filter (higher place key t) old) (sym (up_parted t new (p t)))
+      ∙ sym (append_assoc (filter (lower place key t) new) (filter (alike place key t) new) (filter (higher place key t) old))
+      ∙ ap (λ a. a ++ filter (higher place key t) old) (sym (up_parted t new (p t)))
 
-  pub reached_last : (l : Option K) (old new : List X) → ((s : K) → Parted place key s new) → filter (is_past place key l) old ≡ filter (is_past place key l) new → reached place key l old new ≡ new
+  pub reached_last : (l : Option K) (old new : List X) → ((s : K) → Parted place key s new)
+      → filter (is_past place key l) old ≡ filter (is_past place key l) new → reached place key l old new ≡ new
   reached_last l old new p same = ap (λ a. filter (is_up place key l) new ++ a) same ∙ up_and_past l new p

@@ -1,5 +1,7 @@
 -- The lines from one list to another make the one out of the other.
-use Rattle.fs_changes.proofs.Words.{Bool, List, Some, [], ap, ap₂, arith, false, true, true≢false, if◌then◌else◌, length, refl, subst, sym, ℕ, ◌++◌, ◌+◌, ◌≤◌, ◌∙◌, ◌∷◌, ◌≡◌, take-append_seam, drop-append_seam, drop-append-add, append_assoc, length-append, AllByRecursion, slice_get, Line, gone, come, apply, Make, come_while, go_unless, difference}
+use Rattle.fs_changes.proofs.Words.{Bool, List, Some, [], ap, ap₂, arith, false, true, true≢false, if◌then◌else◌, length, refl, subst, sym, ℕ, ◌++◌}
+use Rattle.fs_changes.proofs.Words.{◌+◌, ◌≤◌, ◌∙◌, ◌∷◌, ◌≡◌, take-append_seam, drop-append_seam, drop-append-add, append_assoc, length-append}
+use Rattle.fs_changes.proofs.Words.{AllByRecursion, slice_get, Line, gone, come, apply, Make, come_while, go_unless, difference}
 
 one_more : {T : Type 0} (xs : List T) (x : T) → length (xs ++ (x ∷ [])) ≡ length xs + 1
 one_more xs x = length-append xs (x ∷ [])
@@ -59,7 +61,8 @@ goes : {T : Type 0} (lines : ℕ → List T → List (Line T)) (front : List T) 
     → Make (gone (length front) o ∷ lines (length front) new) (front ++ (o ∷ os)) (front ++ new)
 goes lines front o os new h = (there front o os, subst (λ xs. Make (lines (length front) new) xs (front ++ new)) (sym (going front o os)) h)
 
-go_leads : {T : Type 0} (P : T → Type 0) (same : T → T → Bool) (o : T) (lines : ℕ → List T → List (Line T)) (os : List T) → IsSound P same → P o → LeadWhere (AllByRecursion P) lines os
+go_leads : {T : Type 0} (P : T → Type 0) (same : T → T → Bool) (o : T) (lines : ℕ → List T → List (Line T)) (os : List T) → IsSound P same → P o
+    → LeadWhere (AllByRecursion P) lines os
     → LeadWhere (AllByRecursion P) (go_unless same o lines) (o ∷ os)
 go_leads P same o lines os sound own h front [] each = goes lines front o os [] (h front [] tt)
 go_leads {T} P same o lines os sound own h front (n ∷ ns) each = at (same o n) refl where
@@ -76,7 +79,8 @@ leads {T} P before same [] sound own front new each = come_leads P (λ _. true) 
   ends : LeadWhere (λ xs. Stops (λ (_ : T). true) xs × AllByRecursion P xs) (λ _ _. []) []
   ends front [] h = refl
   ends front (x ∷ xs) h = absurd (true≢false h.0)
-leads P before same (o ∷ os) sound own front new each = come_leads P (λ n. before n o) (go_unless same o (λ j rest. difference before same j os rest)) (o ∷ os) front new each
+leads P before same (o ∷ os) sound own front new each =
+    come_leads P (λ n. before n o) (go_unless same o (λ j rest. difference before same j os rest)) (o ∷ os) front new each
     (λ f xs h. go_leads P same o (λ j rest. difference before same j os rest) os sound own.0 (leads P before same os sound own.1) f xs h.1)
 
 -- One part of the lines after the other.

@@ -1,5 +1,8 @@
 -- The soonest of some goals.
-use Rattle.fs_changes.proofs.{Words.{Bool, List, Option, Some, None, [], ap, arith, cond, ◌&&◌, if◌then◌else◌, false, length, true, true≢false, refl, sym, subst, ◌<◌, ◌≤◌, ◌∙◌, ◌∷◌, ◌≡◌, ◌⊎◌, inl, inr, AllByRecursion, filter, is_lt, Ordering, Less, Equal, Greater, is_sooner, soonest}, Filters.{IsOrder, Within, less_is}}
+use Rattle.fs_changes.proofs.Words.{Bool, List, Option, Some, None, [], ap, arith, cond, ◌&&◌, if◌then◌else◌, false, length, true, true≢false, refl}
+use Rattle.fs_changes.proofs.Words.{sym, subst, ◌<◌, ◌≤◌, ◌∙◌, ◌∷◌, ◌≡◌, ◌⊎◌, inl, inr, AllByRecursion, filter, is_lt, Ordering, Less, Equal, Greater}
+use Rattle.fs_changes.proofs.Words.{is_sooner, soonest}
+use Rattle.fs_changes.proofs.Filters.{IsOrder, Within, less_is}
 
 -- fewer pass a narrower test, where some pass the other alone
 abbrev pub HasSuch : {P : Type 0} → (P → Type 0) → List P → Type 0
@@ -9,13 +12,15 @@ HasSuch S (p ∷ ps) = S p ⊎ HasSuch S ps
 no_more : {P : Type 0} (p q : P → Bool) (xs : List P) → Within q p → length (filter q xs) ≤ length (filter p xs)
 no_more p q [] h = omega arith
 no_more {P} p q (x ∷ xs) h = at (q x) (p x) refl refl (no_more p q xs h) where
-  at : (b c : Bool) → q x ≡ b → p x ≡ c → length (filter q xs) ≤ length (filter p xs) → length (cond b (x ∷ filter q xs) (filter q xs)) ≤ length (cond c (x ∷ filter p xs) (filter p xs))
+  at : (b c : Bool) → q x ≡ b → p x ≡ c → length (filter q xs) ≤ length (filter p xs)
+      → length (cond b (x ∷ filter q xs) (filter q xs)) ≤ length (cond c (x ∷ filter p xs) (filter p xs))
   at true true e f ih = omega (arith, ih)
   at true false e f ih = absurd (true≢false (sym (h x e) ∙ f))
   at false true e f ih = omega (arith, ih)
   at false false e f ih = ih
 
-pub fewer : {P : Type 0} (p q : P → Bool) (xs : List P) → Within q p → HasSuch (λ x. (p x ≡ true) × (q x ≡ false)) xs → length (filter q xs) < length (filter p xs)
+pub fewer : {P : Type 0} (p q : P → Bool) (xs : List P) → Within q p → HasSuch (λ x. (p x ≡ true) × (q x ≡ false)) xs
+    → length (filter q xs) < length (filter p xs)
 fewer p q [] h s = absurd s
 fewer {P} p q (x ∷ xs) h s = at (q x) (p x) refl refl s (λ k. fewer p q xs h k) where
   at : (b c : Bool) → q x ≡ b → p x ≡ c → ((p x ≡ true) × (q x ≡ false)) ⊎ HasSuch (λ y. (p y ≡ true) × (q y ≡ false)) xs
@@ -60,7 +65,9 @@ module _ {P D K : Type 0} (place : K → K → Ordering) (target : D → K) (ord
   before_not : (d e f : D) → NotSooner d f → is_lt (place (target e) (target f)) ≡ true → NotSooner d e
   before_not d e f h g = at (is_lt (place (target d) (target e))) refl where
     at : (b : Bool) → is_lt (place (target d) (target e)) ≡ b → b ≡ false
-    at true i = absurd (true≢false (sym (ap is_lt (order.onward (target e) (target f) (target d) (less_is (place (target e) (target f)) g) (less_is (place (target d) (target e)) i))) ∙ h))
+    at true i = absurd (true≢false
+        (sym (ap is_lt (order.onward (target e) (target f) (target d) (less_is (place (target e) (target f)) g)
+        (less_is (place (target d) (target e)) i))) ∙ h))
     at false i = refl
 
   abbrev found_in : Option D → List P → Option D
@@ -70,7 +77,8 @@ module _ {P D K : Type 0} (place : K → K → Ordering) (target : D → K) (ord
   pub none_due : (found : Option D) (ps : List P) → found_in found ps ≡ None → (found ≡ None) × AllByRecursion (λ p. due p ≡ false) ps
   none_due found [] h = (h, tt)
   none_due found (p ∷ ps) h = at found (due p) refl (none_due (if due p && is_sooner place target (goal p) found then Some (goal p) else found) ps h) where
-    at : (f : Option D) (b : Bool) → due p ≡ b → ((if b && is_sooner place target (goal p) f then Some (goal p) else f) ≡ None) × AllByRecursion (λ q. due q ≡ false) ps → (f ≡ None) × ((due p ≡ false) × AllByRecursion (λ q. due q ≡ false) ps)
+    at : (f : Option D) (b : Bool) → due p ≡ b → ((if b && is_sooner place target (goal p) f then Some (goal p) else f) ≡ None)
+        × AllByRecursion (λ q. due q ≡ false) ps → (f ≡ None) × ((due p ≡ false) × AllByRecursion (λ q. due q ≡ false) ps)
     at f false e k = (k.0, (e, k.1))
     at None true e k = absurd (some_none k.0) where
       some_none : Some (goal p) ≡ None → ⊥
@@ -98,29 +106,32 @@ module _ {P D K : Type 0} (place : K → K → Ordering) (target : D → K) (ord
   } where
     some_same : {e : D} → Some d ≡ Some e → d ≡ e
     some_same i = cc
-  soonest_is found (p ∷ ps) d h = at found (due p) refl (soonest_is (if due p && is_sooner place target (goal p) found then Some (goal p) else found) ps d h) where
-    some_same : {e f : D} → Some e ≡ Some f → e ≡ f
-    some_same i = cc
+  soonest_is found (p ∷ ps) d h =
+      at found (due p) refl (soonest_is (if due p && is_sooner place target (goal p) found then Some (goal p) else found) ps d h) where
+        some_same : {e f : D} → Some e ≡ Some f → e ≡ f
+        some_same i = cc
 
-    none_some : {e : D} → None ≡ Some e → ⊥
-    none_some i = cc
+        none_some : {e : D} → None ≡ Some e → ⊥
+        none_some i = cc
 
-    kept : (f : Option D) → (due p ≡ true → NotSooner d (goal p)) → IsSoonest f ps d → IsSoonest f (p ∷ ps) d
-    kept f here k = record { from = later k.from; least = (here, k.least); before = k.before } where
-      later : (f ≡ Some d) ⊎ HasSuch (IsDueGoal d) ps → (f ≡ Some d) ⊎ (IsDueGoal d p ⊎ HasSuch (IsDueGoal d) ps)
-      later (inl a) = inl a
-      later (inr b) = inr (inr b)
+        kept : (f : Option D) → (due p ≡ true → NotSooner d (goal p)) → IsSoonest f ps d → IsSoonest f (p ∷ ps) d
+        kept f here k = record { from = later k.from; least = (here, k.least); before = k.before } where
+          later : (f ≡ Some d) ⊎ HasSuch (IsDueGoal d) ps → (f ≡ Some d) ⊎ (IsDueGoal d p ⊎ HasSuch (IsDueGoal d) ps)
+          later (inl a) = inl a
+          later (inr b) = inr (inr b)
 
-    taken : (f : Option D) → due p ≡ true → ((e : D) → f ≡ Some e → NotSooner d e) → IsSoonest (Some (goal p)) ps d → IsSoonest f (p ∷ ps) d
-    taken f e before k = record { from = later k.from; least = ((λ _. k.before (goal p) refl), k.least); before = before } where
-      later : (Some (goal p) ≡ Some d) ⊎ HasSuch (IsDueGoal d) ps → (f ≡ Some d) ⊎ (IsDueGoal d p ⊎ HasSuch (IsDueGoal d) ps)
-      later (inl a) = inr (inl (e, some_same a))
-      later (inr b) = inr (inr b)
+        taken : (f : Option D) → due p ≡ true → ((e : D) → f ≡ Some e → NotSooner d e) → IsSoonest (Some (goal p)) ps d → IsSoonest f (p ∷ ps) d
+        taken f e before k = record { from = later k.from; least = ((λ _. k.before (goal p) refl), k.least); before = before } where
+          later : (Some (goal p) ≡ Some d) ⊎ HasSuch (IsDueGoal d) ps → (f ≡ Some d) ⊎ (IsDueGoal d p ⊎ HasSuch (IsDueGoal d) ps)
+          later (inl a) = inr (inl (e, some_same a))
+          later (inr b) = inr (inr b)
 
-    at : (f : Option D) (b : Bool) → due p ≡ b → IsSoonest (if b && is_sooner place target (goal p) f then Some (goal p) else f) ps d → IsSoonest f (p ∷ ps) d
-    at f false e k = kept f (λ i. absurd (true≢false (sym i ∙ e))) k
-    at None true e k = taken None e (λ g i. absurd (none_some i)) k
-    at (Some f) true e k = either (is_lt (place (target f) (target (goal p)))) refl k where
-      either : (c : Bool) → is_lt (place (target f) (target (goal p))) ≡ c → IsSoonest (if c then Some (goal p) else Some f) ps d → IsSoonest (Some f) (p ∷ ps) d
-      either true g k = taken (Some f) e (λ x i. subst (NotSooner d) (some_same i) (before_not d f (goal p) (k.before (goal p) refl) g)) k
-      either false g k = kept (Some f) (λ _. not_before d f (goal p) (k.before f refl) g) k
+        at : (f : Option D) (b : Bool) → due p ≡ b → IsSoonest (if b && is_sooner place target (goal p) f then Some (goal p) else f) ps d
+            → IsSoonest f (p ∷ ps) d
+        at f false e k = kept f (λ i. absurd (true≢false (sym i ∙ e))) k
+        at None true e k = taken None e (λ g i. absurd (none_some i)) k
+        at (Some f) true e k = either (is_lt (place (target f) (target (goal p)))) refl k where
+          either : (c : Bool) → is_lt (place (target f) (target (goal p))) ≡ c → IsSoonest (if c then Some (goal p) else Some f) ps d
+              → IsSoonest (Some f) (p ∷ ps) d
+          either true g k = taken (Some f) e (λ x i. subst (NotSooner d) (some_same i) (before_not d f (goal p) (k.before (goal p) refl) g)) k
+          either false g k = kept (Some f) (λ _. not_before d f (goal p) (k.before f refl) g) k

@@ -1,5 +1,6 @@
 -- The lines of lists in parts: where the parts stand apart, those of the first parts and then those of the others.
-use Rattle.fs_changes.proofs.Words.{Bool, List, [], ap, arith, false, true, if◌then◌else◌, length, refl, suc, sym, ℕ, ◌++◌, ◌+◌, ◌∙◌, ◌∷◌, ◌≡◌, AllByRecursion, Line, gone, come, come_while, go_unless, difference}
+use Rattle.fs_changes.proofs.Words.{Bool, List, [], ap, arith, false, true, if◌then◌else◌, length, refl, suc, sym, ℕ, ◌++◌, ◌+◌, ◌∙◌, ◌∷◌, ◌≡◌}
+use Rattle.fs_changes.proofs.Words.{AllByRecursion, Line, gone, come, come_while, go_unless, difference}
 
 -- none is left, or the first is neither before an element nor the same
 abbrev pub IsBehind : {T : Type 0} → (T → T → Bool) → (T → T → Bool) → List T → T → Type 0
@@ -35,7 +36,8 @@ at_seam : {T : Type 0} (before same : T → T → Bool) (k : ℕ) (more ns news 
 at_seam before same k [] ns news front = come_through (λ _. true) k ns news (λ _ _. []) (each_true ns)
 at_seam before same k (t ∷ ts) ns news front = come_through (λ n. before n t) k ns news (go_unless same t (λ j rest. difference before same j ts rest)) front
 
-pub parts : {T : Type 0} (before same : T → T → Bool) (k : ℕ) (os more ns news : List T) → AllByRecursion (IsBehind before same news) os → AllByRecursion (IsFront before more) ns
+pub parts : {T : Type 0} (before same : T → T → Bool) (k : ℕ) (os more ns news : List T) → AllByRecursion (IsBehind before same news) os
+    → AllByRecursion (IsFront before more) ns
     → difference before same k (os ++ more) (ns ++ news) ≡ difference before same k os ns ++ difference before same (k + length ns) more news
 parts before same k [] more ns news behind front = at_seam before same k more ns news front
 parts {T} before same k (o ∷ os) more ns news behind front = along (λ j ms f. parts before same j os more ms news behind.1 f) k ns front where
@@ -62,10 +64,13 @@ parts {T} before same k (o ∷ os) more ns news behind front = along (λ j ms f.
     later = next_place j (length ns)
 
     at : (b c : Bool)
-        → come_while (λ m. before m o) (j + 1) (ns ++ news) (go_unless same o all) ≡ come_while (λ m. before m o) (j + 1) ns (go_unless same o own) ++ difference before same ((j + 1) + length ns) more news
-        → (if b then come j n ∷ come_while (λ m. before m o) (j + 1) (ns ++ news) (go_unless same o all) else (if c then all (j + 1) (ns ++ news) else gone j o ∷ all j (n ∷ (ns ++ news))))
+        → come_while (λ m. before m o) (j + 1) (ns ++ news) (go_unless same o all) ≡ come_while (λ m. before m o) (j + 1) ns (go_unless same o own)
+        ++ difference before same ((j + 1) + length ns) more news
+        → (if b then come j n ∷ come_while (λ m. before m o) (j + 1) (ns ++ news) (go_unless same o all)
+        else (if c then all (j + 1) (ns ++ news) else gone j o ∷ all j (n ∷ (ns ++ news))))
         ≡ (if b then come j n ∷ come_while (λ m. before m o) (j + 1) ns (go_unless same o own) else (if c then own (j + 1) ns else gone j o ∷ own j (n ∷ ns)))
         ++ difference before same (j + length (n ∷ ns)) more news
-    at true c ih = ap (λ ls. come j n ∷ ls) (ih ∙ ap (λ i. come_while (λ m. before m o) (j + 1) ns (go_unless same o own) ++ difference before same i more news) later)
+    at true c ih = ap (λ ls. come j n ∷ ls) (ih
+        ∙ ap (λ i. come_while (λ m. before m o) (j + 1) ns (go_unless same o own) ++ difference before same i more news) later)
     at false true ih = again (j + 1) ns front.1 ∙ ap (λ i. own (j + 1) ns ++ difference before same i more news) later
     at false false ih = ap (λ ls. gone j o ∷ ls) (again j (n ∷ ns) front)

@@ -1,5 +1,8 @@
 -- Routes in order stand in parts, before a destination, at it and after it.
-use Rattle.fs_changes.proofs.{Words.{Bool, List, Option, [], ap, ap₂, cond, false, true, true≢false, refl, sym, ℕ, ◌++◌, ◌∙◌, ◌∷◌, ◌≡◌, AllByRecursion, filter, is_eq, is_gt, is_le, is_lt, Ordering, Less, Equal, Greater, Family, FlowRoute, IsRuleOf, AreOrdered, rule_cmp, place_by, AreInOrder}, Apart.{key, last_of}, Filters.{Parted, alike, higher, lower}, Spans.{in_order}}
+use Rattle.fs_changes.proofs.Words.{Bool, List, Option, [], ap, ap₂, cond, false, true, true≢false, refl, sym, ℕ, ◌++◌, ◌∙◌, ◌∷◌, ◌≡◌, AllByRecursion}
+use Rattle.fs_changes.proofs.Words.{filter, is_eq, is_gt, is_le, is_lt, Ordering, Less, Equal, Greater, Family, FlowRoute, IsRuleOf, AreOrdered}
+use Rattle.fs_changes.proofs.Words.{rule_cmp, place_by, AreInOrder}
+use Rattle.fs_changes.proofs.{Apart.{key, last_of}, Filters.{Parted, alike, higher, lower}, Spans.{in_order}}
 
 -- each key is at or before those after it
 abbrev AreRising : List FlowRoute → Type 0
@@ -9,14 +12,16 @@ AreRising (r ∷ rs) = AllByRecursion (λ s. is_le (place_by (key s) (key r)) �
 less_greater_false : Less ≡ Greater → ⊥
 less_greater_false e = absurd (true≢false (ap is_lt e))
 
-not_behind : (family : Family) (r s : FlowRoute) → IsRuleOf family r → IsRuleOf family s → rule_cmp r.rule s.rule ≡ Less → is_le (place_by (key s) (key r)) ≡ true
+not_behind : (family : Family) (r s : FlowRoute) → IsRuleOf family r → IsRuleOf family s → rule_cmp r.rule s.rule ≡ Less
+    → is_le (place_by (key s) (key r)) ≡ true
 not_behind family r s own other less = at (place_by (key s) (key r)) refl where
   at : (o : Ordering) → place_by (key s) (key r) ≡ o → is_le o ≡ true
   at Less e = refl
   at Equal e = refl
   at Greater e = absurd (less_greater_false (sym less ∙ last_of family r s own other e))
 
-each_behind : (family : Family) (r : FlowRoute) (rs : List FlowRoute) → IsRuleOf family r → AllByRecursion (IsRuleOf family) rs → AllByRecursion (λ s. rule_cmp r.rule s.rule ≡ Less) rs
+each_behind : (family : Family) (r : FlowRoute) (rs : List FlowRoute) → IsRuleOf family r → AllByRecursion (IsRuleOf family) rs
+    → AllByRecursion (λ s. rule_cmp r.rule s.rule ≡ Less) rs
     → AllByRecursion (λ s. is_le (place_by (key s) (key r)) ≡ true) rs
 each_behind family r [] own each less = tt
 each_behind family r (s ∷ rs) own each less = (not_behind family r s own each.0 less.0, each_behind family r rs own each.1 less.1)
@@ -66,13 +71,17 @@ parted_rising t (r ∷ rs) h = at (place_by t (key r)) refl (parted_rising t rs 
   at Less e ih = ap (λ xs. r ∷ xs) ih
   at Equal e ih = ap (λ xs. xs ++ (r ∷ (sames ++ highs))) none ∙ ap (λ xs. r ∷ xs) (sym (ap (λ xs. xs ++ (sames ++ highs)) none) ∙ ih) where
     none : lows ≡ []
-    none = none_of (lower place_by key t) rs (weaker (λ s. is_le (place_by (key s) (key r)) ≡ true) (λ s. lower place_by key t s ≡ false) rs (λ s le. at_key t r s e le) h.0)
-  at Greater e ih = ap₂ (λ xs ys. xs ++ (ys ++ (r ∷ highs))) none_low none_same ∙ ap (λ xs. r ∷ xs) (sym (ap₂ (λ xs ys. xs ++ (ys ++ highs)) none_low none_same) ∙ ih) where
-    none_low : lows ≡ []
-    none_low = none_of (lower place_by key t) rs (weaker (λ s. is_le (place_by (key s) (key r)) ≡ true) (λ s. lower place_by key t s ≡ false) rs (λ s le. ap is_lt (past_key t r s e le)) h.0)
+    none = none_of (lower place_by key t) rs
+        (weaker (λ s. is_le (place_by (key s) (key r)) ≡ true) (λ s. lower place_by key t s ≡ false) rs (λ s le. at_key t r s e le) h.0)
+  at Greater e ih = ap₂ (λ xs ys. xs ++ (ys ++ (r ∷ highs))) none_low none_same
+      ∙ ap (λ xs. r ∷ xs) (sym (ap₂ (λ xs ys. xs ++ (ys ++ highs)) none_low none_same) ∙ ih) where
+        none_low : lows ≡ []
+        none_low = none_of (lower place_by key t) rs
+            (weaker (λ s. is_le (place_by (key s) (key r)) ≡ true) (λ s. lower place_by key t s ≡ false) rs (λ s le. ap is_lt (past_key t r s e le)) h.0)
 
-    none_same : sames ≡ []
-    none_same = none_of (alike place_by key t) rs (weaker (λ s. is_le (place_by (key s) (key r)) ≡ true) (λ s. alike place_by key t s ≡ false) rs (λ s le. ap is_eq (past_key t r s e le)) h.0)
+        none_same : sames ≡ []
+        none_same = none_of (alike place_by key t) rs
+            (weaker (λ s. is_le (place_by (key s) (key r)) ≡ true) (λ s. alike place_by key t s ≡ false) rs (λ s le. ap is_eq (past_key t r s e le)) h.0)
 
 pub parted : (family : Family) (rs : List FlowRoute) → AreInOrder family rs → (t : Option (ℕ × ℕ)) → Parted place_by key t rs
 parted family rs h t = parted_rising t rs (rising family rs h.own h.ordered)

@@ -1,5 +1,7 @@
 -- Acts that are the same.
-use Rattle.fs_changes.proofs.{Words.{Bool, List, ap, ap₂, false, true, true≢false, refl, sym, ℕ, ◌&&◌, ◌∙◌, ◌≡◌, is_eq, is_gt, tied_itself, IsRule, rule_cmp, rule_total, same_rules, Equal, Act, Gone, Stays, Tells, is_same, same_actions, same_actions_decides}, Filters.{equal_is}, Leading.{IsSound}}
+use Rattle.fs_changes.proofs.Words.{Bool, List, ap, ap₂, false, true, true≢false, refl, sym, ℕ, ◌&&◌, ◌∙◌, ◌≡◌, is_eq, is_gt, tied_itself, IsRule}
+use Rattle.fs_changes.proofs.Words.{rule_cmp, rule_total, same_rules, Equal, Act, Gone, Stays, Tells, is_same, same_actions, same_actions_decides}
+use Rattle.fs_changes.proofs.{Filters.{equal_is}, Leading.{IsSound}}
 
 pub same_itself : (act : Act) → is_same act act ≡ true
 same_itself act = ap₂ (λ o b. is_eq o && b) (tied_itself rule_total act.rule) ((same_actions_decides act.actions act.actions).1 refl)
@@ -11,8 +13,10 @@ both_true false c e = absurd (true≢false (sym e))
 
 pub sound : IsSound (λ (act : Act). IsRule act.rule) is_same
 sound x y own other e =
-    let b : (is_eq (rule_cmp x.rule y.rule) ≡ true) × (same_actions x.actions y.actions ≡ true) = both_true (is_eq (rule_cmp x.rule y.rule)) (same_actions x.actions y.actions) e in
-    ap₂ (λ rule actions. record { rule = rule; actions = actions }) (same_rules x.rule y.rule own other (equal_is (rule_cmp x.rule y.rule) b.0)) ((same_actions_decides x.actions y.actions).0 b.1)
+    let b : (is_eq (rule_cmp x.rule y.rule) ≡ true) × (same_actions x.actions y.actions ≡ true) =
+    both_true (is_eq (rule_cmp x.rule y.rule)) (same_actions x.actions y.actions) e in
+    ap₂ (λ rule actions. record { rule = rule; actions = actions }) (same_rules x.rule y.rule own other (equal_is (rule_cmp x.rule y.rule) b.0))
+    ((same_actions_decides x.actions y.actions).0 b.1)
 
 -- a test decides whether actions are the same
 pub told_same : (b : Bool) (xs ys : List (List ℕ)) → (b ≡ true → xs ≡ ys) → (xs ≡ ys → b ≡ true) → b ≡ same_actions xs ys

@@ -1,5 +1,7 @@
 -- Destinations in their order, by first and last addresses.
-use Rattle.fs_changes.proofs.{Words.{Option, Some, None, arith, inl, inr, refl, sym, ℕ, ◌<◌, ◌∙◌, ◌≡◌, Less, Greater, Before, before_of, behind_of, equal_greater, less_equal, less_greater, of_before, of_behind, same_place, place_by}, Filters.{IsOrder}}
+use Rattle.fs_changes.proofs.Words.{Option, Some, None, arith, inl, inr, refl, sym, ℕ, ◌<◌, ◌∙◌, ◌≡◌, Less, Greater, Before, before_of, behind_of}
+use Rattle.fs_changes.proofs.Words.{equal_greater, less_equal, less_greater, of_before, of_behind, same_place, place_by}
+use Rattle.fs_changes.proofs.Filters.{IsOrder}
 
 before_onward : (p q r : ℕ × ℕ) → Before p q → Before q r → Before p r
 before_onward p q r (inl a) (inl b) = inl (omega (arith, a, b))

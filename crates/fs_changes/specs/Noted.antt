@@ -1,5 +1,6 @@
 -- The noted places of a family, one after the other.
-use Rattle.std.specs.{Prelude.{ℕ, ◌==◌, ◌&&◌, Bool, true, List, [], ◌∷◌, Option, Some, None, option_map, if◌then◌else◌}, Ordering.{is_gt, is_lt}, declared.cmp.Ordering.{Ordering}}
+use Rattle.std.specs.Prelude.{ℕ, ◌==◌, ◌&&◌, Bool, true, List, [], ◌∷◌, Option, Some, None, option_map, if◌then◌else◌}
+use Rattle.std.specs.{Ordering.{is_gt, is_lt}, declared.cmp.Ordering.{Ordering}}
 use Rattle.fs_base.specs.{Bits.{afi_of}, declared.prefix.{Family.{Family}, Prefix.{Prefix}}}
 use Rattle.fs_rules.specs.declared.Change.{Change}
 use Rattle.fs_buckets.specs.Destinations.{place_by, target_of}

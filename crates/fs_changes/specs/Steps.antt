@@ -1,6 +1,7 @@
 -- What is said next, where two lists have rules left.
 use Rattle.std.specs.Prelude.{◌≡◌, ℕ, ◌+◌, true, false, Option, Some, None, List, [], ◌∷◌}
-use Rattle.fs_changes.specs.{Difference.{gone, come}, Changes.{Act, changes, is_before, is_same}, declared.difference.Step.{Step, TheVariants.{Gone, Come, Stays}}}
+use Rattle.fs_changes.specs.{Difference.{gone, come}, Changes.{Act, changes, is_before, is_same}}
+use Rattle.fs_changes.specs.declared.difference.Step.{Step, TheVariants.{Gone, Come, Stays}}
 
 -- what becomes of the first of an old and of a new list
 abbrev pub Tells : Step → Act → Act → Type 0

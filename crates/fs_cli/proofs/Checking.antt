@@ -1,24 +1,30 @@
 -- How the answer of `check` of a file follows from what is said of it.
-use Rattle.fs_cli.proofs.Words.{◌≡◌, ◌≢◌, ◌≤◌, ◌⊎◌, ◌∙◌, ◌∷◌, inl, inr, ℕ, List, [], Option, Result, Ok, Err, refl, sym, subst, arith, rules, Grew, Opened, Openings, OpensFront, IsOneOf, answered, Outside, Rejected, Tape, Capture, Dump, Memory, Limit, Session, ap, Grew-refl, Names, Answers, verdict_with, status_of, Refusal, Verdict, said_whole}
+use Rattle.fs_cli.proofs.Words.{◌≡◌, ◌≢◌, ◌≤◌, ◌⊎◌, ◌∙◌, ◌∷◌, inl, inr, ℕ, List, [], Option, Result, Ok, Err, refl, sym, subst, arith, rules, Grew}
+use Rattle.fs_cli.proofs.Words.{Opened, Openings, OpensFront, IsOneOf, answered, Outside, Rejected, Tape, Capture, Dump, Memory, Limit, Session, ap}
+use Rattle.fs_cli.proofs.Words.{Grew-refl, Names, Answers, verdict_with, status_of, Refusal, Verdict, said_whole}
 use Rattle.cmd_stages.proofs.Stages.{answers_for}
 use Rattle.std.specs.Prelude.{IfOk, MatchResult}
 use Rattle.fs_base.specs.Files.{one_opening}
 use Rattle.cmd_stages.specs.Refusal.{IsOfFile}
 use Rattle.cmd_convert.specs.{Command.{IsOfDump}, Survey.{dump_verdict, IsUnsaid as IsDumpUnsaid}, declared.survey.DumpSaid.{DumpSaid}}
 use Rattle.cmd_enforce.specs.{Judge.{IsOfCapture}, Stamps.{IsUnsaid}, Survey.{capture_verdict}, declared.survey.CaptureSaid.{CaptureSaid}}
-use Rattle.fs_cli.specs.{Survey.{IsOfSurvey}, FileCheck.{ChecksFileSo, FileForm, IsDue, OfCapture, OfConfig, OfDump, OfRules, OfTape, Unsaid, file_openings, file_statuses}, declared.file_check.Said.{Said}}
+use Rattle.fs_cli.specs.Survey.{IsOfSurvey}
+use Rattle.fs_cli.specs.FileCheck.{ChecksFileSo, FileForm, IsDue, OfCapture, OfConfig, OfDump, OfRules, OfTape, Unsaid, file_openings, file_statuses}
+use Rattle.fs_cli.specs.declared.file_check.Said.{Said}
 
 -- nothing was said
 pub file_unsaid : (limit : ℕ) (holds : Names) (form : FileForm) (failed other : Type 0) (a : Option (List ℕ)) (refusal : Refusal)
     → Unsaid (IsDue limit holds form) failed refusal → (failed → other) → ChecksFileSo limit holds form other a a (status_of refusal)
-file_unsaid limit holds form failed other a refusal (inl h) f = inr (verdict_with (status_of refusal) [], h, said_whole (status_of refusal) [] other a a (Grew-refl a))
+file_unsaid limit holds form failed other a refusal (inl h) f =
+    inr (verdict_with (status_of refusal) [], h, said_whole (status_of refusal) [] other a a (Grew-refl a))
 file_unsaid limit holds form failed other a refusal (inr (inl h)) f = inl (inl (ap status_of h), Grew-refl a)
 file_unsaid limit holds form failed other a refusal (inr (inr h)) f = inl (inr (ap status_of h.0, f h.1), Grew-refl a)
 
 -- what is due was said
 pub file_said : (limit : ℕ) (holds : Names) (form : FileForm) (failed other : Type 0) (before now : Option (List ℕ)) (verdict : Verdict) (answer : ℕ)
     → IsDue limit holds form verdict → Answers verdict failed before now answer → (failed → other) → ChecksFileSo limit holds form other before now answer
-file_said limit holds form failed other before now verdict answer due answers f = inr (verdict, due, answers_for verdict failed other before now answer answers f)
+file_said limit holds form failed other before now verdict answer due answers f =
+    inr (verdict, due, answers_for verdict failed other before now answer answers f)
 
 -- the statuses that a form of `check` of a file may answer
 
@@ -101,7 +107,8 @@ outside_possible (OfCapture capture) answer h = inr (inl h)
 outside_possible (OfDump config dump) answer h = inr (inl h)
 
 -- what is said is written, or a call on the outside failed
-pub said_possible : (form : FileForm) (status answer : ℕ) → IsOneOf (file_statuses form) status → (answer ≡ status) ⊎ (answer ≡ 1) → IsOneOf (file_statuses form) answer
+pub said_possible : (form : FileForm) (status answer : ℕ) → IsOneOf (file_statuses form) status → (answer ≡ status) ⊎ (answer ≡ 1)
+    → IsOneOf (file_statuses form) answer
 said_possible form status answer p (inl h) = subst (IsOneOf (file_statuses form)) (sym h) p
 said_possible form status answer p (inr h) = outside_possible form answer h
 

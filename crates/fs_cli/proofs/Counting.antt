@@ -1,5 +1,6 @@
 -- The number that the second word of `gen` writes.
-use Rattle.fs_cli.proofs.Words.{◌≡◌, ◌∙◌, ◌≤◌, ℕ, List, Bool, true, false, ◌&&◌, nat_le, Some, None, Result, Ok, Err, decimal, refl, ap, sym, arith, if◌then◌else◌, bytes_eq, bytes_eq-Decides, count_of}
+use Rattle.fs_cli.proofs.Words.{◌≡◌, ◌∙◌, ◌≤◌, ℕ, List, Bool, true, false, ◌&&◌, nat_le, Some, None, Result, Ok, Err, decimal, refl, ap, sym, arith}
+use Rattle.fs_cli.proofs.Words.{if◌then◌else◌, bytes_eq, bytes_eq-Decides, count_of}
 use Rattle.std.{specs.Str.Parse.{ParsesUnsigned, digits_value}, proofs.lemmas.{Bool.{and_parts, le-leb, leb-true}, Fmt.{decimal_is_IsNumeral, parse-decimal}}}
 use Rattle.fs_base.proofs.Bools.{and_both}
 

@@ -1,13 +1,18 @@
 -- A tape that is followed item by item.
-use Rattle.std.proofs.{Common.{◌≡◌, ◌⊎◌, inl, inr, ◌≤◌, ◌<◌, ◌==◌, ◌∙◌, ◌+◌, ◌-◌, ℕ, List, [], ◌∷◌, ◌++◌, Bool, true, false, Option, Result, Ok, Err, length, map, take, refl, ap, sym, subst, arith, append-nil, append_assoc, if◌then◌else◌}, lemmas.{Bool.{Decides.{nat_tests}, eq-eqb, eqb-true}, List.{length-append, length-map, take-append-le, take_all}}}
+use Rattle.std.proofs.Common.{◌≡◌, ◌⊎◌, inl, inr, ◌≤◌, ◌<◌, ◌==◌, ◌∙◌, ◌+◌, ◌-◌, ℕ, List, [], ◌∷◌, ◌++◌, Bool, true, false, Option, Result, Ok, Err}
+use Rattle.std.proofs.Common.{length, map, take, refl, ap, sym, subst, arith, append-nil, append_assoc, if◌then◌else◌}
+use Rattle.std.proofs.lemmas.{Bool.{Decides.{nat_tests}, eq-eqb, eqb-true}, List.{length-append, length-map, take-append-le, take_all}}
 use Rattle.std.specs.{Prelude.{⊤}, Result.{IsErrAnd}}
-use Rattle.fs_base.{proofs.{Grew.{Grew-refl, Grew-trans, part_then, part_whole}, Drawing.{rose_earlier}}, specs.{Outside.{Rose}, Parts.{with_part}, Sink.{Grew, GrewPart}, declared.{config.Config.{Config}, prefix.Family.TheVariants.{V4, V6}}}}
+use Rattle.fs_base.proofs.{Grew.{Grew-refl, Grew-trans, part_then, part_whole}, Drawing.{rose_earlier}}
+use Rattle.fs_base.specs.{Outside.{Rose}, Parts.{with_part}, Sink.{Grew, GrewPart}}
+use Rattle.fs_base.specs.declared.{config.Config.{Config}, prefix.Family.TheVariants.{V4, V6}}
 use Rattle.fs_changes.specs.{Changes.{ActingRules, acting_in, none_act, told}, Tape.{HoldAfter, changes_from, changes_of}}
 use Rattle.fs_desk.{specs.{Desk.{Desked, Played, Plays}, Laws.{LeaveSame}, Leaves.{Leaves, nobody}}, proofs.Leaves.{played_leaves}}
 use Rattle.fs_input.specs.Records.{End, done, limited, bad}
 use Rattle.fs_rules.specs.Table.{Held, admitted}
 use Rattle.fs_tape.specs.{Tape.{Item, Timed}, declared.fault.TapeReason.{TapeReason}}
-use Rattle.cmd_stages.{proofs.Playing.{untimed_more}, specs.{Items.{Ceases}, Play.{played_to, untimed}, Refusal.{Found, Stopped}, Writing.{Fails}, declared.refusal.Refusal.{Refusal}}}
+use Rattle.cmd_stages.proofs.Playing.{untimed_more}
+use Rattle.cmd_stages.specs.{Items.{Ceases}, Play.{played_to, untimed}, Refusal.{Found, Stopped}, Writing.{Fails}, declared.refusal.Refusal.{Refusal}}
 use Rattle.fs_cli.specs.Changes.{CameTo, FollowsItems, LeaveSameAfter, StopsTo}
 
 -- the rules that act after these items
@@ -19,7 +24,8 @@ acting_after held k old (t ∷ ts) = acting_after held (k + 1) (acting_in (held 
 abbrev Agree : (held kept : ℕ → Held) → (from count : ℕ) → Type 0
 Agree held kept from count = (n : ℕ) → from < n → n ≤ from + count → held n ≡ kept n
 
-changes_agree : (held kept : ℕ → Held) (k : ℕ) (old : ActingRules) (items other : List Timed) → map (λ (t : Timed). t.moment) items ≡ map (λ (t : Timed). t.moment) other → Agree held kept k (length items)
+changes_agree : (held kept : ℕ → Held) (k : ℕ) (old : ActingRules) (items other : List Timed)
+    → map (λ (t : Timed). t.moment) items ≡ map (λ (t : Timed). t.moment) other → Agree held kept k (length items)
     → changes_from held k old items ≡ changes_from kept k old other
 changes_agree held kept k old [] [] e same = refl
 changes_agree held kept k old [] (u ∷ us) e same = absurd cc
@@ -33,8 +39,10 @@ changes_agree held kept k old (t ∷ ts) (u ∷ us) e same =
     ∙ ap (λ (m : ℕ). told m old (acting_in (kept (k + 1))) ++ changes_from kept (k + 1) (acting_in (kept (k + 1))) us) moment
 
 -- tapes that leave the same routes after each item have one text
-pub changes_same : ((config : Config) (items other : List Item) (held kept : Held) → LeaveSame config items other → Leaves config items held → Leaves config other kept → held ≡ kept)
-    → (config : Config) (items other : List Timed) (held kept : ℕ → Held) → LeaveSameAfter config items other → HoldAfter config items held → HoldAfter config other kept
+pub changes_same : ((config : Config) (items other : List Item) (held kept : Held) → LeaveSame config items other → Leaves config items held
+    → Leaves config other kept → held ≡ kept)
+    → (config : Config) (items other : List Timed) (held kept : ℕ → Held) → LeaveSameAfter config items other → HoldAfter config items held
+    → HoldAfter config other kept
     → changes_of held items ≡ changes_of kept other
 changes_same one config items other held kept same a b =
     changes_agree held kept 0 none_act items other same.moments (λ n some few.
@@ -124,8 +132,10 @@ extend config held gone t last all l =
       acts = acting_more kept 0 none_act gone t ∙ ap acting_in here;
       lines =
           changes_more kept 0 none_act gone t
-          ∙ ap (λ (z : List ℕ). z ++ told t.moment (acting_after kept 0 none_act gone) (acting_in (kept (0 + length gone + 1)))) (changes_agree kept held 0 none_act gone gone refl same)
-          ∙ ap (λ (rules : ActingRules). changes_of held gone ++ told t.moment rules (acting_in (kept (0 + length gone + 1)))) (acting_agree kept held 0 none_act gone same)
+          ∙ ap (λ (z : List ℕ). z ++ told t.moment (acting_after kept 0 none_act gone) (acting_in (kept (0 + length gone + 1))))
+          (changes_agree kept held 0 none_act gone gone refl same)
+          ∙ ap (λ (rules : ActingRules). changes_of held gone ++ told t.moment rules (acting_in (kept (0 + length gone + 1))))
+          (acting_agree kept held 0 none_act gone same)
           ∙ ap (λ (h : Held). changes_of held gone ++ told t.moment (acting_after held 0 none_act gone) (acting_in h)) here;
     }
 
@@ -134,7 +144,8 @@ pub acting_none : (held : Held) → admitted V4 held ≡ [] → admitted V6 held
 acting_none held v4 v6 = λ i. record { v4 = v4 i; v6 = v6 i }
 
 -- Of all items some were come to, what each of them changes was written, and the rest is to come.
-pub record Following (config : Config) (all rest : List Timed × End TapeReason) (before now : Option (List ℕ)) (desk : Desked) (acting : ActingRules) : Type 0 where
+pub record Following (config : Config) (all rest : List Timed × End TapeReason) (before now : Option (List ℕ)) (desk : Desked)
+    (acting : ActingRules) : Type 0 where
   pub held : ℕ → Held
   pub gone : List Timed
   pub parts : all.0 ≡ gone ++ rest.0
@@ -162,7 +173,8 @@ following_first config all before desk acting p e = record {
 played_more : (config : Config) (gone : List Timed) (moment : ℕ) (item : Item) (old new : Desked) → Played config (untimed gone) old → Plays item old new
     → Played config (untimed (gone ++ record { moment = moment; item = item } ∷ [])) new
 played_more config gone moment item old new p plays =
-    subst (λ (z : List Item). Played config z new) (sym (untimed_more gone (record { moment = moment; item = item } ∷ []))) (plays nobody config (untimed gone) p)
+    subst (λ (z : List Item). Played config z new) (sym (untimed_more gone (record { moment = moment; item = item } ∷ [])))
+    (plays nobody config (untimed gone) p)
 
 abbrev timed_at : ℕ → Item → Timed
 timed_at moment item = record { moment = moment; item = item }
@@ -184,7 +196,8 @@ reached {config} {old = old} rest moment item new f e plays =
       parts = f.parts ∙ ap (λ (r : List Timed × End TapeReason). f.gone ++ r.0) e ∙ sym (append_assoc f.gone (timed_at moment item ∷ []) rest.0);
       end_is = f.end_is ∙ ap (λ (r : List Timed × End TapeReason). r.1) e;
       played = played;
-      more = extend config f.held f.gone (timed_at moment item) new.held f.holds (played_leaves config (untimed (f.gone ++ timed_at moment item ∷ [])) new played);
+      more = extend config f.held f.gone (timed_at moment item) new.held f.holds
+          (played_leaves config (untimed (f.gone ++ timed_at moment item ∷ [])) new played);
     }
 
 -- what it changes, with the lines of those before
@@ -222,7 +235,8 @@ followed_done f e =
     (came_of f, (ap (λ (r : List Timed × End TapeReason). r.0) e, f.end_is ∙ ap (λ (r : List Timed × End TapeReason). r.1) e, f.grew))
 
 -- a tape that ends so stops whatever items it gave
-stopped_as : (items others : List Timed) (end other : End TapeReason) (refusal : Refusal) → end ≡ other → played_to (items, other) ≡ Stopped refusal → played_to (others, end) ≡ Stopped refusal
+stopped_as : (items others : List Timed) (end other : End TapeReason) (refusal : Refusal) → end ≡ other → played_to (items, other) ≡ Stopped refusal
+    → played_to (others, end) ≡ Stopped refusal
 stopped_as items others end other refusal same h = by end (subst (λ (x : End TapeReason). played_to (items, x) ≡ Stopped refusal) (sym same) h)
   where
     by : (x : End TapeReason) → played_to (items, x) ≡ Stopped refusal → played_to (others, x) ≡ Stopped refusal
@@ -231,7 +245,8 @@ stopped_as items others end other refusal same h = by end (subst (λ (x : End Ta
     by (bad reason place) h = h
 
 -- no further item was come to
-pub followed_ceased : {config : Config} {all rest : List Timed × End TapeReason} {before now : Option (List ℕ)} {desk : Desked} {acting : ActingRules} {T : Type 0}
+pub followed_ceased : {config : Config} {all rest : List Timed
+    × End TapeReason} {before now : Option (List ℕ)} {desk : Desked} {acting : ActingRules} {T : Type 0}
     (early mid after : ℕ) (other : Type 0) (refusal : Refusal) (result : Result T Refusal)
     → Following config all rest before now desk acting → early ≤ mid → Ceases (Found rest) (Rose mid after) refusal → IsErrAnd result (λ e. e ≡ refusal)
     → FollowsItems config all (Rose early after ⊎ other) before now result
@@ -245,21 +260,32 @@ followed_ceased {config} {all} {rest} {before} {now} early mid after other refus
     stops (inr (inr h)) = inr (inr (h.0, inl (rose_earlier early mid after l h.1), part_whole before now (changes_of f.held f.gone) f.grew))
 
 -- what one more item changes couldn't be written
-pub followed_unwritten : {config : Config} {all now : List Timed × End TapeReason} {before written : Option (List ℕ)} {old : Desked} {acting : ActingRules} {T : Type 0}
-    (rest : List Timed × End TapeReason) (moment : ℕ) (item : Item) (new : Desked) (after : Option (List ℕ)) (files : Type 0) (early mid last : ℕ) (refusal : Refusal) (result : Result T Refusal)
+pub followed_unwritten : {config : Config} {all now : List Timed
+    × End TapeReason} {before written : Option (List ℕ)} {old : Desked} {acting : ActingRules} {T : Type 0}
+    (rest : List Timed × End TapeReason) (moment : ℕ) (item : Item) (new : Desked) (after : Option (List ℕ)) (files : Type 0) (early mid last : ℕ)
+    (refusal : Refusal) (result : Result T Refusal)
     → Following config all now before written old acting → now ≡ with_part (timed_at moment item) rest → Plays item old new → early ≤ mid
     → Fails (told moment acting (acting_in new.held)) (Rose mid last) written after refusal → IsErrAnd result (λ e. e ≡ refusal)
     → FollowsItems config all (files ⊎ Rose early last) before after result
 followed_unwritten rest moment item new after files early mid last refusal (Ok value) f e plays l h is = absurd is
-followed_unwritten {config} {all} {now} {before} {written} {old} {acting} {T} rest moment item new after files early mid last refusal (Err cause) f e plays l h is =
+followed_unwritten {config} {all} {now} {before} {written} {old} {acting} {T} rest moment item new after files early mid last refusal
+    (Err cause) f e plays l h is =
     subst (λ (r : Refusal). FollowsItems {T = T} config all (files ⊎ Rose early last) before after (Err r)) (sym is) (by h)
   where
-    by : Fails (told moment acting (acting_in new.held)) (Rose mid last) written after refusal → FollowsItems {T = T} config all (files ⊎ Rose early last) before after (Err refusal)
-    by (inl h) =
-        (came_of f, inr (inl (h.0, subst (λ (text : List ℕ). Grew before after text) (append-nil (changes_of f.held f.gone)) (Grew-trans before written after _ _ f.grew h.1))))
+    by : Fails (told moment acting (acting_in new.held)) (Rose mid last) written after refusal
+        → FollowsItems {T = T} config all (files ⊎ Rose early last) before after (Err refusal)
+    by (inl h) = (
+      came_of f,
+      inr (inl (
+        h.0,
+        subst (λ (text : List ℕ). Grew before after text) (append-nil (changes_of f.held f.gone))
+            (Grew-trans before written after _ _ f.grew h.1),
+      )),
+    )
     by (inr h) =
         let r : Reached config all rest f.held f.gone (timed_at moment item) new = reached rest moment item new f e plays in
-        let came : CameTo config all.0 = record { held = r.more.kept; played = f.gone ++ timed_at moment item ∷ []; rest = rest.0; parts = r.parts; holds = r.more.holds } in (
+        let came : CameTo config all.0 =
+        record { held = r.more.kept; played = f.gone ++ timed_at moment item ∷ []; rest = rest.0; parts = r.parts; holds = r.more.holds } in (
           came,
           inr (inr (
             h.0,

@@ -2,7 +2,9 @@
 use Rattle.fs_cli.proofs.Words.{◌≡◌, ◌∙◌, ℕ, List, Some, None, sym, subst}
 use Rattle.cmd_stages.specs.{Load.{OpensFront, config_alone, config_stage}, Refusal.{Stopped}, declared.refusal.Refusal.{Refusal}}
 use Rattle.cmd_wire.specs.{Keeping.{EndsKeeping, IsOfKeeping, KeepsSo}, Recording.{EndsRecording, IsOfRecording, RecordsSo}}
-use Rattle.fs_cli.specs.{Live.{GateKept, Keep, KeepPromises, LiveForm, LiveObjects, LivePromises, Record, RecordPromises, StayPromises, gate_in, live_form_of}, Program.{AreTold, ClockKept, Promises, SinkKept, WireKept, happened_in, names_in}}
+use Rattle.fs_cli.specs.Live.{GateKept, Keep, KeepPromises, LiveForm, LiveObjects, LivePromises, Record, RecordPromises, StayPromises, gate_in}
+use Rattle.fs_cli.specs.Live.{live_form_of}
+use Rattle.fs_cli.specs.Program.{AreTold, ClockKept, Promises, SinkKept, WireKept, happened_in, names_in}
 
 never_both : (form : LiveForm) → Some form ≡ None → ⊥
 never_both form e = absurd cc

@@ -1,23 +1,28 @@
 -- How what is said of a rules file follows from its stages.
-use Rattle.fs_cli.proofs.Words.{◌≡◌, inl, inr, ℕ, List, [], refl, sym, subst, Config, Names, HasReason, Stage, Found, config_stage, fetch, verdict_with, status_of, Refusal, Verdict}
+use Rattle.fs_cli.proofs.Words.{◌≡◌, inl, inr, ℕ, List, [], refl, sym, subst, Config, Names, HasReason, Stage, Found, config_stage, fetch}
+use Rattle.fs_cli.proofs.Words.{verdict_with, status_of, Refusal, Verdict}
 use Rattle.fs_cli.specs.{FileCheck.{Due, IsDue, OfRules, Unsaid}, RulesCheck.{JudgesRules}}
 
 -- the configuration ended it
 pub config_unsaid : (limit : ℕ) (holds : Names) (config rules : List ℕ) (failed other : Type 0) (cause refusal : Refusal) → refusal ≡ cause
     → HasReason (config_stage limit holds config) failed cause → (failed → other) → Unsaid (IsDue limit holds (OfRules config rules)) other refusal
-config_unsaid limit holds config rules failed other cause refusal same h f = subst (λ (r : Refusal). Unsaid (IsDue limit holds (OfRules config rules)) other r) (sym same) (by h)
+config_unsaid limit holds config rules failed other cause refusal same h f =
+    subst (λ (r : Refusal). Unsaid (IsDue limit holds (OfRules config rules)) other r) (sym same) (by h)
   where
     by : HasReason (config_stage limit holds config) failed cause → Unsaid (IsDue limit holds (OfRules config rules)) other cause
-    by (inl e) = inl (subst (λ (s : Stage Config). Due (λ given. Due (JudgesRules given) (fetch limit holds rules)) s (verdict_with (status_of cause) [])) (sym e) refl)
+    by (inl e) = inl (subst (λ (s : Stage Config). Due (λ given. Due (JudgesRules given) (fetch limit holds rules)) s
+        (verdict_with (status_of cause) [])) (sym e) refl)
     by (inr (inl e)) = inr (inl e)
     by (inr (inr e)) = inr (inr (e.0, f e.1))
 
 -- the rules file ended it
-pub rules_unsaid : (limit : ℕ) (holds holds' : Names) (config rules : List ℕ) (accepted : Config) (failed other : Type 0) (cause refusal : Refusal) → refusal ≡ cause
+pub rules_unsaid : (limit : ℕ) (holds holds' : Names) (config rules : List ℕ) (accepted : Config) (failed other : Type 0) (cause refusal : Refusal)
+    → refusal ≡ cause
     → config_stage limit holds config ≡ Found accepted → holds' ≡ holds → HasReason (fetch limit holds' rules) failed cause → (failed → other)
     → Unsaid (IsDue limit holds (OfRules config rules)) other refusal
 rules_unsaid limit holds holds' config rules accepted failed other cause refusal same e names h f =
-    subst (λ (r : Refusal). Unsaid (IsDue limit holds (OfRules config rules)) other r) (sym same) (by (subst (λ (n : Names). HasReason (fetch limit n rules) failed cause) names h))
+    subst (λ (r : Refusal). Unsaid (IsDue limit holds (OfRules config rules)) other r) (sym same)
+    (by (subst (λ (n : Names). HasReason (fetch limit n rules) failed cause) names h))
   where
     by : HasReason (fetch limit holds rules) failed cause → Unsaid (IsDue limit holds (OfRules config rules)) other cause
     by (inl g) =
@@ -27,7 +32,8 @@ rules_unsaid limit holds holds' config rules accepted failed other cause refusal
     by (inr (inr g)) = inr (inr (g.0, f g.1))
 
 -- the rules file was judged
-pub rules_said : (limit : ℕ) (holds holds' : Names) (config rules octets : List ℕ) (accepted : Config) (verdict : Verdict) → config_stage limit holds config ≡ Found accepted → holds' ≡ holds
+pub rules_said : (limit : ℕ) (holds holds' : Names) (config rules octets : List ℕ) (accepted : Config) (verdict : Verdict)
+    → config_stage limit holds config ≡ Found accepted → holds' ≡ holds
     → fetch limit holds' rules ≡ Found octets → JudgesRules accepted octets verdict → IsDue limit holds (OfRules config rules) verdict
 rules_said limit holds holds' config rules octets accepted verdict e names found judges =
     subst (λ (s : Stage Config). Due (λ given. Due (JudgesRules given) (fetch limit holds rules)) s verdict) (sym e)

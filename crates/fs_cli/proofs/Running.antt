@@ -1,5 +1,16 @@
 -- What the clauses of a run say follows from what it does.
-use Rattle.fs_cli.proofs.Words.{◌≡◌, ◌≢◌, ◌⊎◌, ◌++◌, append-nil, inl, inr, ◌<◌, ◌∙◌, ◌==◌, ℕ, List, [], ◌∷◌, Option, Some, None, Result, Ok, Err, IsTrue, refl, ap, sym, subst, arith, true, false, Bool, not, if◌then◌else◌, filter, length, nat_le, Happened, happened, with_wire, FilesStood, SinkStood, WireStood, Grew, Grew-refl, Config, Timed, tape_of, Conversation, conversation, ChecksSo, Does, IsOneOf, Runs, HasNoMoments, HasStatus, HasCauses, Completes, Promises, objects, FailedOver, OutsideFailed, WireServed, Objects, AreTold, FilesKept, SinkKept, WireKept, ClockKept, names_in, happened_in, shown_in, talk_in, speaks, statuses, StopsSo, EnforcesSo, Enforced, Unopened, Wants, Inputs, inputs, inputs_stage, status_for, HoldsConfig, Names, fetch, config_stage, Form, Enforce, Surveys, Changes, Converts, Check, Gen, form_of, Announce, Listen, Pair, Text, ListsSo, Surveyed, TellsSo, Changed, tells_changes, listed_status, text_for, HasVersion, HoldsTape, accepted_stage, tape_stage, Answers, answered, Stage, Found, Stopped, Verdict, and_then, or_stop, status_of, Refusal, Outside, Rejected, Tape, Capture, Dump, Memory, Limit, Session, Caused, due_status, early_status, late_status, never_early, never_zero, not_rose, same_found, sending_stage, Opened, OpensFront, Openings, openings, CheckFile}
+use Rattle.fs_cli.proofs.Words.{◌≡◌, ◌≢◌, ◌⊎◌, ◌++◌, append-nil, inl, inr, ◌<◌, ◌∙◌, ◌==◌, ℕ, List, [], ◌∷◌, Option, Some, None, Result, Ok, Err}
+use Rattle.fs_cli.proofs.Words.{IsTrue, refl, ap, sym, subst, arith, true, false, Bool, not, if◌then◌else◌, filter, length, nat_le, Happened}
+use Rattle.fs_cli.proofs.Words.{happened, with_wire, FilesStood, SinkStood, WireStood, Grew, Grew-refl, Config, Timed, tape_of, Conversation}
+use Rattle.fs_cli.proofs.Words.{conversation, ChecksSo, Does, IsOneOf, Runs, HasNoMoments, HasStatus, HasCauses, Completes, Promises, objects}
+use Rattle.fs_cli.proofs.Words.{FailedOver, OutsideFailed, WireServed, Objects, AreTold, FilesKept, SinkKept, WireKept, ClockKept, names_in}
+use Rattle.fs_cli.proofs.Words.{happened_in, shown_in, talk_in, speaks, statuses, StopsSo, EnforcesSo, Enforced, Unopened, Wants, Inputs, inputs}
+use Rattle.fs_cli.proofs.Words.{inputs_stage, status_for, HoldsConfig, Names, fetch, config_stage, Form, Enforce, Surveys, Changes, Converts, Check}
+use Rattle.fs_cli.proofs.Words.{Gen, form_of, Announce, Listen, Pair, Text, ListsSo, Surveyed, TellsSo, Changed, tells_changes, listed_status}
+use Rattle.fs_cli.proofs.Words.{text_for, HasVersion, HoldsTape, accepted_stage, tape_stage, Answers, answered, Stage, Found, Stopped, Verdict}
+use Rattle.fs_cli.proofs.Words.{and_then, or_stop, status_of, Refusal, Outside, Rejected, Tape, Capture, Dump, Memory, Limit, Session, Caused}
+use Rattle.fs_cli.proofs.Words.{due_status, early_status, late_status, never_early, never_zero, not_rose, same_found, sending_stage, Opened}
+use Rattle.fs_cli.proofs.Words.{OpensFront, Openings, openings, CheckFile}
 use Rattle.std.{specs.{List.{AllByRecursion}, Prelude.{⊤}}, proofs.lemmas.Bool.Decides.{nat_tests}}
 use Rattle.fs_base.specs.declared.Files as files
 use Rattle.fs_base.specs.declared.Sink as sink
@@ -7,12 +18,18 @@ use Rattle.fs_base.specs.declared.Wire as wire
 use Rattle.fs_base.specs.declared.Clock as clock
 use Rattle.fs_input.specs.Records.{End, done, limited, bad}
 use Rattle.fs_conf.specs.Config.{config_of}
-use Rattle.cmd_enforce.specs.{Capture.{Captured, Recorded, capture_of}, declared.fault.CaptureReason.{CaptureReason}, Judge.{capture_stage, lines_from, rules_by, status_at}, Moments.{AnswersAt, HoldAt, verdict_at}}
+use Rattle.cmd_enforce.specs.{Capture.{Captured, Recorded, capture_of}, declared.fault.CaptureReason.{CaptureReason}}
+use Rattle.cmd_enforce.specs.{Judge.{capture_stage, lines_from, rules_by, status_at}, Moments.{AnswersAt, HoldAt, verdict_at}}
 use Rattle.fs_rules.specs.Table.{Held}
-use Rattle.cmd_wire.{specs.{Announcing.{Announced, IsOfSession}, Listening.{Heard, hearing_stage}, Pairing.{Carries}}, proofs.{Concluding.{session_status}, Statuses.{none_failed as none_of_three}, Promising.{announce_promises, pair_promises}, PromisingHearing.{listen_promises}, Accepted.{some_found, then_found}}}
+use Rattle.cmd_wire.specs.{Announcing.{Announced, IsOfSession}, Listening.{Heard, hearing_stage}, Pairing.{Carries}}
+use Rattle.cmd_wire.proofs.{Concluding.{session_status}, Statuses.{none_failed as none_of_three}, Promising.{announce_promises, pair_promises}}
+use Rattle.cmd_wire.proofs.{PromisingHearing.{listen_promises}, Accepted.{some_found, then_found}}
 use Rattle.cmd_gen.specs.Command.{GeneratesSo, Generated}
 use Rattle.fs_mrt.specs.declared.fault.DumpReason.{DumpReason}
-use Rattle.cmd_convert.{specs.{Command.{Converted, ConvertsSo, convert_status, dump_stage, status_for as status_by, status_at as dump_status, verdict_of}, Making.{remade}}, proofs.Fitting.{reads_back_converted}}
+use Rattle.cmd_convert.specs.Command.{Converted, ConvertsSo, convert_status, dump_stage, status_for as status_by, status_at as dump_status}
+use Rattle.cmd_convert.specs.Command.{verdict_of}
+use Rattle.cmd_convert.specs.Making.{remade}
+use Rattle.cmd_convert.proofs.Fitting.{reads_back_converted}
 use Rattle.fs_cli.specs.declared.{command.Subject.{Subject}, survey.Survey.{Survey}}
 use Rattle.fs_tape.specs.declared.magic.Version.TheVariants.{Two}
 use Rattle.cmd_stages.proofs.LookingAhead.{found_items}
@@ -48,23 +65,28 @@ enforce_status limit holds config tape capture failed before now answer (inr jud
     late_status failed due.status answer (answer ≡ status_for (inputs_stage limit holds config tape capture))
     (λ h. h
     ∙ capture_status came.held came.judged (capture_stage limit holds capture) (judged.accepted, judged.items)
-    ∙ sym (ap (λ (s : Stage (Config × List Timed)). status_for (and_then s (λ accepted. and_then (capture_stage limit holds capture) (with_capture accepted)))) judged.found))
+    ∙ sym (ap (λ (s : Stage (Config × List Timed)).
+    status_for (and_then s (λ accepted. and_then (capture_stage limit holds capture) (with_capture accepted)))) judged.found))
     judged.judged.answers.status_is
 
-check_status : (limit : ℕ) (holds : Names) (subject : Subject) (word : List ℕ) (files sink : Type 0) (before now : Option (List ℕ)) (talk : Conversation) (answer : ℕ)
+check_status : (limit : ℕ) (holds : Names) (subject : Subject) (word : List ℕ) (files sink : Type 0) (before now : Option (List ℕ))
+    (talk : Conversation) (answer : ℕ)
     → ChecksSo subject word sink before now answer
     → HasStatus limit holds (Check subject word) talk answer ⊎ (answer ≡ 6) ⊎ ((answer ≡ 1) × (files ⊎ sink))
 check_status limit holds subject word files sink before now talk answer (inl none) = inr (inl none.0)
 check_status limit holds subject word files sink before now talk answer (inr says) =
-    caused_in {By = HasStatus limit holds (Check subject word) talk answer} (λ h. (says.accepted, says.text, says.reports, h)) (λ f. inr f) says.answers.status_is
+    caused_in {By = HasStatus limit holds (Check subject word) talk answer} (λ h. (says.accepted, says.text, says.reports, h))
+    (λ f. inr f) says.answers.status_is
 
 survey_status : (survey : Text) (limit : ℕ) (holds : Names) (config tape : List ℕ) (failed : Type 0) (before now : Option (List ℕ)) (answer : ℕ)
     → ListsSo survey limit holds config tape failed before now answer → Caused failed (listed_status (accepted_stage limit holds config tape)) answer
 survey_status survey limit holds config tape failed before now answer (inl ends) =
-    late_status failed (status_of ends.0) answer (answer ≡ listed_status (accepted_stage limit holds config tape)) (λ h. h ∙ sym (ap listed_status ends.1)) ends.2.status_is
+    late_status failed (status_of ends.0) answer (answer ≡ listed_status (accepted_stage limit holds config tape)) (λ h. h
+    ∙ sym (ap listed_status ends.1)) ends.2.status_is
 survey_status survey limit holds config tape failed before now answer (inr (inl early)) = inr early.0
 survey_status survey limit holds config tape failed before now answer (inr (inr shows)) =
-    late_status failed 0 answer (answer ≡ listed_status (accepted_stage limit holds config tape)) (λ h. h ∙ sym (ap listed_status shows.found)) shows.answers.status_is
+    late_status failed 0 answer (answer ≡ listed_status (accepted_stage limit holds config tape)) (λ h. h
+    ∙ sym (ap listed_status shows.found)) shows.answers.status_is
 
 dump_caused : (limit : ℕ) (holds : Names) (config dump : List ℕ) (failed : Type 0) (before now : Option (List ℕ)) (answer : ℕ)
     → ConvertsSo limit holds config dump failed before now answer → Caused failed (convert_status limit holds config dump) answer
@@ -86,7 +108,8 @@ gen_status count files sink before now answer (inl none) = inr (inl none.0)
 gen_status count files sink before now answer (inr counts) = caused_in (λ h. h) (λ f. inr f) counts.answers.status_is
 
 causes_of : (tells : Bool) (limit : ℕ) (holds : Names) (form : Form) (call : Happened) (talk : Conversation) (answer : ℕ)
-    → IsTrue tells → Does tells limit holds form call talk answer → HasStatus limit holds form talk answer ⊎ (answer ≡ 6) ⊎ ((answer ≡ 1) × OutsideFailed form call)
+    → IsTrue tells → Does tells limit holds form call talk answer → HasStatus limit holds form talk answer ⊎ (answer ≡ 6)
+    ⊎ ((answer ≡ 1) × OutsideFailed form call)
 causes_of tells limit holds (Enforce config tape capture) call talk answer told d = enforce_status limit holds config tape capture _ _ _ answer (d told)
 causes_of tells limit holds (Surveys survey config tape) call talk answer told d = survey_status (text_for survey) limit holds config tape _ _ _ answer (d told)
 causes_of tells limit holds (Changes config tape) call talk answer told d = change_status limit holds config tape _ _ _ answer (d told)
@@ -94,9 +117,12 @@ causes_of tells limit holds (Converts config dump) call talk answer told d = dum
 causes_of tells limit holds (Check subject word) call talk answer told d = check_status limit holds subject word _ _ _ _ talk answer d
 causes_of tells limit holds (CheckFile file) call talk answer told d = file_status limit holds file _ _ _ talk answer (d told)
 causes_of tells limit holds (Gen count) call talk answer told d = gen_status count _ _ _ _ answer d
-causes_of tells limit holds (Announce config rules address) call talk answer told d = session_status (sending_stage limit holds config rules) (Announced limit talk) call answer (d told)
-causes_of tells limit holds (Listen config address) call talk answer told d = session_status (hearing_stage limit holds config) (Heard limit talk) call answer (d told)
-causes_of tells limit holds (Pair config rules) call talk answer told d = session_status (sending_stage limit holds config rules) (Carries limit talk) call answer (d told)
+causes_of tells limit holds (Announce config rules address) call talk answer told d =
+    session_status (sending_stage limit holds config rules) (Announced limit talk) call answer (d told)
+causes_of tells limit holds (Listen config address) call talk answer told d =
+    session_status (hearing_stage limit holds config) (Heard limit talk) call answer (d told)
+causes_of tells limit holds (Pair config rules) call talk answer told d =
+    session_status (sending_stage limit holds config rules) (Carries limit talk) call answer (d told)
 
 -- completeness
 
@@ -122,7 +148,8 @@ due_zero : (failed : Type 0) (status answer : ℕ) → answer ≡ 0 → Caused f
 due_zero failed status answer zero caused = sym (due_status failed status answer 0 zero (λ e. absurd cc) (λ e. absurd cc) caused) ∙ zero
 
 -- and the whole text was written
-whole_zero : (verdict : Verdict) (failed : Type 0) (before now : Option (List ℕ)) (answer : ℕ) → answer ≡ 0 → Answers verdict failed before now answer → Grew before now verdict.text
+whole_zero : (verdict : Verdict) (failed : Type 0) (before now : Option (List ℕ)) (answer : ℕ) → answer ≡ 0 → Answers verdict failed before now answer
+    → Grew before now verdict.text
 whole_zero verdict failed before now answer zero a = a.whole (λ e. absurd cc) (λ e. absurd cc)
 
 -- where stages are passed, each gave its value
@@ -145,7 +172,8 @@ config_held limit holds name config found =
       accepted = some_found Rejected (config_of read.0) config read.1.1;
     }
 
-tape_held : (limit : ℕ) (holds : Names) (name : List ℕ) (config : Config) (items : List Timed) → tape_stage config limit holds name ≡ Found items → HoldsTape limit holds name config items
+tape_held : (limit : ℕ) (holds : Names) (name : List ℕ) (config : Config) (items : List Timed) → tape_stage config limit holds name ≡ Found items
+    → HoldsTape limit holds name config items
 tape_held limit holds name config items found =
     let opened = then_found (or_stop Outside (holds name)) _ items found in
     record {
@@ -154,7 +182,8 @@ tape_held limit holds name config items found =
       read = found_items (tape_of config limit opened.0) items opened.1.1;
     }
 
-both_found : (limit : ℕ) (holds : Names) (config tape : List ℕ) (accepted : Config) (items : List Timed) → accepted_stage limit holds config tape ≡ Found (accepted, items)
+both_found : (limit : ℕ) (holds : Names) (config tape : List ℕ) (accepted : Config) (items : List Timed)
+    → accepted_stage limit holds config tape ≡ Found (accepted, items)
     → HoldsConfig limit holds config accepted × HoldsTape limit holds tape accepted items
 both_found limit holds config tape accepted items found =
     let whole = then_found (config_stage limit holds config) _ (accepted, items) found in
@@ -172,11 +201,13 @@ ended_well (bad reason place) e = absurd cc
 enforced_well : (limit : ℕ) (holds : Names) (config tape capture : List ℕ) (failed : Type 0) (call : Happened) (answer : ℕ)
     → EnforcesSo limit holds config tape capture failed call.before.written call.now.written answer → answer ≡ 0 → Enforced limit holds config tape capture call
 enforced_well limit holds config tape capture failed call answer (inl early) zero =
-    absurd (never_early (accepted_stage limit holds config tape) failed answer 0 zero (λ e. absurd cc) (λ e. absurd cc) (λ refusal h e. never_zero refusal e) early.reason)
+    absurd (never_early (accepted_stage limit holds config tape) failed answer 0 zero (λ e. absurd cc) (λ e. absurd cc)
+    (λ refusal h e. never_zero refusal e) early.reason)
 enforced_well limit holds config tape capture failed call answer (inr judged) zero = by (holds capture) refl judged.judged
   where
     by : (content : Option (List ℕ)) → holds capture ≡ content
-        → AnswersAt judged.accepted judged.items (and_then (or_stop Outside content) (λ o. Found (capture_of limit o))) failed call.before.written call.now.written answer
+        → AnswersAt judged.accepted judged.items (and_then (or_stop Outside content) (λ o. Found (capture_of limit o))) failed call.before.written
+        call.now.written answer
         → Enforced limit holds config tape capture call
     by None e a = absurd (never_zero Outside (due_zero failed (status_of Outside) answer zero a.answers.status_is))
     by (Some octets) e a =
@@ -199,8 +230,10 @@ enforced_well limit holds config tape capture failed call answer (inr judged) ze
 
 listed_well : (survey : Text) (limit : ℕ) (holds : Names) (config tape : List ℕ) (failed : Type 0) (call : Happened) (answer : ℕ)
     → ListsSo survey limit holds config tape failed call.before.written call.now.written answer → answer ≡ 0 → Surveyed survey limit holds config tape call
-listed_well survey limit holds config tape failed call answer (inl ends) zero = absurd (never_zero ends.0 (due_zero failed (status_of ends.0) answer zero ends.2.status_is))
-listed_well survey limit holds config tape failed call answer (inr (inl early)) zero = absurd (never_zero Memory (due_zero failed (status_of Memory) answer zero (inr early.0)))
+listed_well survey limit holds config tape failed call answer (inl ends) zero =
+    absurd (never_zero ends.0 (due_zero failed (status_of ends.0) answer zero ends.2.status_is))
+listed_well survey limit holds config tape failed call answer (inr (inl early)) zero =
+    absurd (never_zero Memory (due_zero failed (status_of Memory) answer zero (inr early.0)))
 listed_well survey limit holds config tape failed call answer (inr (inr shows)) zero =
     let files = both_found limit holds config tape shows.accepted shows.items shows.found in
     record {
@@ -218,7 +251,16 @@ changes_well : (limit : ℕ) (holds : Names) (config tape : List ℕ) (failed : 
 changes_well limit holds config tape failed call answer tells zero =
     let told = changed_well limit holds config tape failed call.before.written call.now.written answer tells zero in
     let files = both_found limit holds config tape told.accepted told.items told.found in
-    record { accepted = told.accepted; items = told.items; config_is = files.0; tape_is = files.1; held = told.held; holds_after = told.holds_after; wrote = told.wrote }
+    record {
+      accepted = told.accepted;
+      items = told.items;
+      config_is = files.0;
+      tape_is = files.1;
+      held = told.held;
+      holds_after =
+          told.holds_after;
+      wrote = told.wrote;
+    }
 
 dump_done : (end : End DumpReason) → dump_status end ≡ 0 → end ≡ done
 dump_done done e = refl
@@ -228,11 +270,13 @@ dump_done (bad reason place) e = absurd cc
 converted_well : (limit : ℕ) (holds : Names) (config dump : List ℕ) (failed : Type 0) (call : Happened) (answer : ℕ)
     → ConvertsSo limit holds config dump failed call.before.written call.now.written answer → answer ≡ 0 → Converted limit holds config dump call
 converted_well limit holds config dump failed call answer (inl early) zero =
-    absurd (never_early (config_stage limit holds config) failed answer 0 zero (λ e. absurd cc) (λ e. absurd cc) (λ refusal h e. never_zero refusal e) early.reason)
+    absurd (never_early (config_stage limit holds config) failed answer 0 zero (λ e. absurd cc) (λ e. absurd cc)
+    (λ refusal h e. never_zero refusal e) early.reason)
 converted_well limit holds config dump failed call answer (inr makes) zero = by (holds dump) refl makes.answers
   where
     by : (content : Option (List ℕ)) → holds dump ≡ content
-        → Answers (verdict_of makes.accepted limit (or_stop Outside content)) failed call.before.written call.now.written answer → Converted limit holds config dump call
+        → Answers (verdict_of makes.accepted limit (or_stop Outside content)) failed call.before.written call.now.written answer
+        → Converted limit holds config dump call
     by None e a = absurd (never_zero Outside (due_zero failed (status_of Outside) answer zero a.status_is))
     by (Some octets) e a =
         let file = config_held limit holds config makes.accepted makes.found in
@@ -269,7 +313,8 @@ file_checked limit holds file failed call answer (inr due) one_not six_not = rec
 generated_well : (count : ℕ) (failed : Type 0) (call : Happened) (answer : ℕ)
     → GeneratesSo count failed call.before.written call.now.written answer → answer ≡ 0 → Generated count call
 generated_well count failed call answer (inl none) zero = let six : answer ≡ 6 = none.0 in absurd cc
-generated_well count failed call answer (inr counts) zero = record { held = counts.held; leaves = counts.leaves; wrote = whole_zero _ failed _ _ answer zero counts.answers }
+generated_well count failed call answer (inr counts) zero =
+    record { held = counts.held; leaves = counts.leaves; wrote = whole_zero _ failed _ _ answer zero counts.answers }
 
 -- what a command did, as what is answered
 pub runs_as : (tells : Bool) (limit : ℕ) (holds : Names) {form other : Form} (call : Happened) (talk : Conversation) {status answer : ℕ}
@@ -317,7 +362,8 @@ pub one_of_session : {T : Type 0} (r : Result T Refusal) → IsOfSession (answer
 one_of_session r p = one_but r (4 ∷ 5 ∷ 10 ∷ []) (p.0, (p.1, (p.2, tt)))
 
 -- at want of memory nothing is written, over a tape that isn't of the second version
-pub wants_enforce : {S T : Type 0} {tells : Bool} (limit : ℕ) (holds : Names) (result : Result T Refusal) {form : Form} {config tape capture : List ℕ} {old new : S} {answer : ℕ}
+pub wants_enforce : {S T : Type 0} {tells : Bool} (limit : ℕ) (holds : Names)
+    (result : Result T Refusal) {form : Form} {config tape capture : List ℕ} {old new : S} {answer : ℕ}
     → form ≡ Enforce config tape capture → answer ≡ answered result
     → (IsTrue tells → answered result ≡ 6 → (HasVersion limit holds tape Two → ⊥) → new ≡ old)
     → answer ≡ 6 → tells_changes form ≡ false → HasNoMoments tells limit holds form → new ≡ old
@@ -353,7 +399,8 @@ opens_none before answer shown none =
 
 -- the promises of a run, whose words ask for no command
 
-pub promises_none : {F S W C : Type 0} (limit : ℕ) (of_files : files.Ghosts F) (of_sink : sink.Ghosts S) (of_wire : wire.Ghosts W) (of_clock : clock.Ghosts C) (files : F) (sink : S) (wire : W) (clock : C)
+pub promises_none : {F S W C : Type 0} (limit : ℕ) (of_files : files.Ghosts F) (of_sink : sink.Ghosts S) (of_wire : wire.Ghosts W)
+    (of_clock : clock.Ghosts C) (files : F) (sink : S) (wire : W) (clock : C)
     (words : List (List ℕ)) → None ≡ form_of words
     → Promises limit (objects of_files of_sink of_wire of_clock files files sink sink wire wire clock clock) words 2
 promises_none limit of_files of_sink of_wire of_clock files sink wire clock words e =
@@ -435,24 +482,28 @@ promises_some limit w words form answer e run known quiet wanting bounded still 
       nothing_done = λ none. no_form form (form_of words) e none;
       check_opens_nothing = λ subject word asked. unopened subject word (the (Check subject word) asked);
       gen_opens_nothing = λ count asked. generates count (the (Gen count) asked);
-      opens = λ asked is. subst (λ (f : Form). OpensFront (openings f) (w.of_files.opened w.files_before) (w.of_files.opened w.files_behind) answer) (the asked is) opens;
+      opens = λ asked is. subst (λ (f : Form). OpensFront (openings f) (w.of_files.opened w.files_before) (w.of_files.opened w.files_behind) answer)
+          (the asked is) opens;
       wire_unused = λ asked is unspoken. silent (ap speaks (the asked is) ∙ unspoken);
       config_writes_nothing = quiet;
       limit_writes_nothing = λ seven survey config tape asked. bounded seven survey config tape (the (Surveys survey config tape) asked);
       tape_writes_nothing = λ told four config tape capture asked. still told four config tape capture (the (Enforce config tape capture) asked);
       stopped_unspoken = λ told asked is refusal stops. stopped told refusal (subst (λ (f : Form). StopsSo limit holds f refusal) (sym (the asked is)) stops);
       tape_opens_nothing = λ told four config tape capture asked. early told four config tape capture (the (Enforce config tape capture) asked);
-      memory_writes_nothing = λ six asked is untold none. wanting six (ap tells_changes (the asked is) ∙ untold) (subst (HasNoMoments tells limit holds) (sym (the asked is)) none);
+      memory_writes_nothing = λ six asked is untold none. wanting six (ap tells_changes (the asked is)
+          ∙ untold) (subst (HasNoMoments tells limit holds) (sym (the asked is)) none);
       memory_keeps_judged = λ told six config tape capture asked. unfinished told six config tape capture (the (Enforce config tape capture) asked);
       causes = causes;
       complete = λ told stood sink_stood served. causes_complete limit holds (form_of words) call talk answer stood sink_stood served (causes told);
       headline = λ told zero config tape capture asked.
           enforced_well limit holds config tape capture _ call answer (does (Enforce config tape capture) asked told) zero;
-      listed = λ told zero survey config tape asked. listed_well (text_for survey) limit holds config tape _ call answer (does (Surveys survey config tape) asked told) zero;
+      listed = λ told zero survey config tape asked. listed_well (text_for survey) limit holds config tape _ call answer
+          (does (Surveys survey config tape) asked told) zero;
       checked_file = λ told one_not six_not file asked. file_checked limit holds file _ call answer (does (CheckFile file) asked told) one_not six_not;
       changed = λ told zero config tape asked. changes_well limit holds config tape _ call answer (does (Changes config tape) asked told) zero;
       converted = λ told zero config dump asked. converted_well limit holds config dump _ call answer (does (Converts config dump) asked told) zero;
-      announced = λ told config rules address asked. announce_promises limit holds config rules call talk answer (does (Announce config rules address) asked told);
+      announced = λ told config rules address asked. announce_promises limit holds config rules call talk answer
+          (does (Announce config rules address) asked told);
       listened = λ told config address asked. listen_promises limit holds config call talk answer (does (Listen config address) asked told);
       paired = λ told config rules asked. pair_promises limit holds config rules call talk answer (does (Pair config rules) asked told);
       generator = λ zero count asked. generated_well count _ call answer (does (Gen count) asked) zero;

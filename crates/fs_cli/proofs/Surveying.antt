@@ -1,5 +1,9 @@
 -- How the answer of a survey follows from those of its stages.
-use Rattle.fs_cli.proofs.Words.{◌≡◌, ◌≢◌, ◌⊎◌, inl, inr, ◌∙◌, ℕ, List, [], Option, Result, Ok, Err, refl, ap, sym, subst, Grew, GrewPart, Config, Grew-refl, Timed, Names, config_stage, tape_stage, IsPlayed, untimed, answered, Answers, verdict_with, Stage, Found, and_then, status_of, HasReason, Fails, Writes, Refusal, Outside, Rejected, Tape, Capture, Dump, Memory, Limit, Session, take_nothing, accepted_with, fails_for, said_by, said_partly, said_so, said_whole, Text, stopped_text, ListsSo, SaysOf}
+use Rattle.fs_cli.proofs.Words.{◌≡◌, ◌≢◌, ◌⊎◌, inl, inr, ◌∙◌, ℕ, List, [], Option, Result, Ok, Err, refl, ap, sym, subst, Grew, GrewPart, Config}
+use Rattle.fs_cli.proofs.Words.{Grew-refl, Timed, Names, config_stage, tape_stage, IsPlayed, untimed, answered, Answers, verdict_with, Stage, Found}
+use Rattle.fs_cli.proofs.Words.{and_then, status_of, HasReason, Fails, Writes, Refusal, Outside, Rejected, Tape, Capture, Dump, Memory, Limit}
+use Rattle.fs_cli.proofs.Words.{Session, take_nothing, accepted_with, fails_for, said_by, said_partly, said_so, said_whole, Text, stopped_text}
+use Rattle.fs_cli.proofs.Words.{ListsSo, SaysOf}
 use Rattle.std.specs.Result.{IsErrAnd}
 use Rattle.fs_desk.{specs.Desk.{Desked}, proofs.Leaves.{played_leaves}}
 
@@ -16,7 +20,8 @@ nothing_said Session n = refl
 
 -- the configuration ended the run
 pub config_unlisted : (survey : Text) (limit : ℕ) (holds : Names) (config tape : List ℕ) (failed failed' : Type 0) (a : Option (List ℕ)) (refusal : Refusal)
-    → HasReason (config_stage limit holds config) failed refusal → status_of refusal ≢ 4 → (failed → failed') → ListsSo survey limit holds config tape failed' a a (status_of refusal)
+    → HasReason (config_stage limit holds config) failed refusal → status_of refusal ≢ 4 → (failed → failed')
+    → ListsSo survey limit holds config tape failed' a a (status_of refusal)
 config_unlisted survey limit holds config tape failed failed' a refusal (inl h) n f =
     inl (
       refusal,
@@ -33,10 +38,12 @@ says_failing refusal failed before now (Ok value) cause h f = absurd h
 says_failing refusal failed before now (Err other) cause h f = inr (subst (λ (x : Refusal). Fails (stopped_text refusal) failed before now x) (sym h) f)
 
 -- what is said of a refusal, as the answer of the run
-said_of : {T : Type 0} (refusal : Refusal) (sink failed : Type 0) (before now : Option (List ℕ)) (result : Result T Refusal) → SaysOf refusal sink before now result → (sink → failed)
+said_of : {T : Type 0} (refusal : Refusal) (sink failed : Type 0) (before now : Option (List ℕ)) (result : Result T Refusal)
+    → SaysOf refusal sink before now result → (sink → failed)
     → Answers (verdict_with (status_of refusal) (stopped_text refusal)) failed before now (answered result)
 said_of refusal sink failed before now (Ok value) said g = absurd said
-said_of refusal sink failed before now (Err other) (inl s) g = said_by (status_of refusal) (stopped_text refusal) failed before now (status_of other) (inl (ap status_of s.0)) s.1
+said_of refusal sink failed before now (Err other) (inl s) g =
+    said_by (status_of refusal) (stopped_text refusal) failed before now (status_of other) (inl (ap status_of s.0)) s.1
 said_of refusal sink failed before now (Err other) (inr s) g =
     said_partly (status_of refusal) (stopped_text refusal) failed before now other (fails_for (stopped_text refusal) sink failed before now other g s)
 
@@ -51,14 +58,17 @@ unsaid refusal failed before now answer why a =
     none (inl e) = ap stopped_text e
     none (inr e) = ap stopped_text e.0
 
-    status : (refusal ≡ Memory) ⊎ ((refusal ≡ Outside) × failed) → (answer ≡ status_of refusal) ⊎ (answer ≡ 6) ⊎ ((answer ≡ 1) × failed) → (answer ≡ 6) ⊎ ((answer ≡ 1) × failed)
+    status : (refusal ≡ Memory) ⊎ ((refusal ≡ Outside) × failed) → (answer ≡ status_of refusal) ⊎ (answer ≡ 6) ⊎ ((answer ≡ 1) × failed)
+        → (answer ≡ 6) ⊎ ((answer ≡ 1) × failed)
     status (inl e) (inl h) = inl (h ∙ ap status_of e)
     status (inr e) (inl h) = inr (h ∙ ap status_of e.0, e.1)
     status why (inr h) = h
 
 -- the tape ended the run
-pub tape_unlisted : {T : Type 0} (survey : Text) (limit : ℕ) (holds holds' : Names) (config tape : List ℕ) (accepted : Config) (rose sink failed : Type 0) (before now : Option (List ℕ)) (refusal : Refusal) (result : Result T Refusal)
-    → config_stage limit holds config ≡ Found accepted → holds' ≡ holds → HasReason (tape_stage accepted limit holds' tape) rose refusal → (rose → failed) → (sink → failed)
+pub tape_unlisted : {T : Type 0} (survey : Text) (limit : ℕ) (holds holds' : Names) (config tape : List ℕ) (accepted : Config)
+    (rose sink failed : Type 0) (before now : Option (List ℕ)) (refusal : Refusal) (result : Result T Refusal)
+    → config_stage limit holds config ≡ Found accepted → holds' ≡ holds → HasReason (tape_stage accepted limit holds' tape) rose refusal
+    → (rose → failed) → (sink → failed)
     → SaysOf refusal sink before now result → ListsSo survey limit holds config tape failed before now (answered result)
 tape_unlisted survey limit holds holds' config tape accepted rose sink failed before now refusal result e same h f g said =
     by (subst (λ (names : Names). HasReason (tape_stage accepted limit names tape) rose refusal) same h)
@@ -67,16 +77,25 @@ tape_unlisted survey limit holds holds' config tape accepted rose sink failed be
     answers = said_of refusal sink failed before now result said g
 
     by : HasReason (tape_stage accepted limit holds tape) rose refusal → ListsSo survey limit holds config tape failed before now (answered result)
-    by (inl h) = inl (refusal, accepted_with limit holds config tape accepted e ∙ ap (λ (s : Stage (List Timed)). and_then s (λ items. Found (accepted, items))) h, answers)
+    by (inl h) = inl (
+      refusal,
+      accepted_with limit holds config tape accepted e
+          ∙ ap (λ (s : Stage (List Timed)). and_then s (λ items. Found (accepted, items))) h,
+      answers,
+    )
     by (inr (inl h)) = inr (inl (unsaid refusal failed before now (answered result) (inl h) answers))
     by (inr (inr h)) = inr (inl (unsaid refusal failed before now (answered result) (inr (h.0, f h.1)) answers))
 
 -- the desk was listed
-pub desk_listed : {T : Type 0} (survey : Text) (limit : ℕ) (holds holds' : Names) (config tape : List ℕ) (accepted : Config) (desk : Desked) (sink failed : Type 0) (before now : Option (List ℕ)) (result : Result T Refusal)
-    → config_stage limit holds config ≡ Found accepted → holds' ≡ holds → (played : IsPlayed accepted (tape_stage accepted limit holds' tape) desk) → (sink → failed)
-    → Writes (survey accepted (untimed played.items) desk.held) sink before now result → ListsSo survey limit holds config tape failed before now (answered result)
+pub desk_listed : {T : Type 0} (survey : Text) (limit : ℕ) (holds holds' : Names) (config tape : List ℕ) (accepted : Config) (desk : Desked)
+    (sink failed : Type 0) (before now : Option (List ℕ)) (result : Result T Refusal)
+    → config_stage limit holds config ≡ Found accepted → holds' ≡ holds → (played : IsPlayed accepted (tape_stage accepted limit holds' tape) desk)
+    → (sink → failed)
+    → Writes (survey accepted (untimed played.items) desk.held) sink before now result
+    → ListsSo survey limit holds config tape failed before now (answered result)
 desk_listed survey limit holds holds' config tape accepted desk sink failed before now result e same p f w =
-    let found : tape_stage accepted limit holds tape ≡ Found p.items = subst (λ (names : Names). tape_stage accepted limit names tape ≡ Found p.items) same p.found in
+    let found : tape_stage accepted limit holds tape ≡ Found p.items =
+    subst (λ (names : Names). tape_stage accepted limit names tape ≡ Found p.items) same p.found in
     inr (inr (record {
       accepted = accepted;
       items = p.items;

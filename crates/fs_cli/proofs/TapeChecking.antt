@@ -1,11 +1,18 @@
 -- How what is said of a tape follows from what is counted of it.
-use Rattle.fs_cli.proofs.{Words.{◌≡◌, inl, inr, ℕ, ◌==◌, Bool, true, false, if◌then◌else◌, List, [], ◌∷◌, ◌++◌, Option, refl, ap, sym, subst, ◌∙◌, append-nil, length, arith, Config, Timed, Names, HasReason, Stage, Found, config_stage, tape_stage, untimed, verdict_with, status_of, Refusal, Verdict}}
-use Rattle.std.{specs.Prelude.{None}, proofs.{Common.{◌+◌, append_assoc, get_or, replicate}, lemmas.{Bool.{cases_lt, Decides.{nat_tests}}, List.{get_or-replicate, get_or_past, length-append, length-replicate}}}}
+use Rattle.fs_cli.proofs.Words.{◌≡◌, inl, inr, ℕ, ◌==◌, Bool, true, false, if◌then◌else◌, List, [], ◌∷◌, ◌++◌, Option, refl, ap, sym, subst, ◌∙◌}
+use Rattle.fs_cli.proofs.Words.{append-nil, length, arith, Config, Timed, Names, HasReason, Stage, Found, config_stage, tape_stage, untimed}
+use Rattle.fs_cli.proofs.Words.{verdict_with, status_of, Refusal, Verdict}
+use Rattle.std.specs.Prelude.{None}
+use Rattle.std.proofs.Common.{◌+◌, append_assoc, get_or, replicate}
+use Rattle.std.proofs.lemmas.{Bool.{cases_lt, Decides.{nat_tests}}, List.{get_or-replicate, get_or_past, length-append, length-replicate}}
 use Rattle.fs_base.specs.Parts.{with_part}
 use Rattle.fs_input.specs.Records.{End, done}
 use Rattle.fs_tape.specs.{Tape.{Item, TapeState, coming, timed}, Magic.{version_number}, declared.{fault.TapeReason.{TapeReason}}}
 use Rattle.cmd_stages.{specs.Play.{IsOpened, played_to}, proofs.Playing.{untimed_more}}
-use Rattle.fs_cli.specs.{FileCheck.{Due, IsDue, OfTape, Unsaid}, TapeCheck.{CountsOf, CountsOn, CountsState, IsWithin, JudgesTape, TapeCounted, counted_text, no_tally, peer_of_item, span_behind, span_of, span_with, tally_at, tally_behind, tally_lines, tally_of, tally_with, tape_line, tape_text}, declared.tallies.Tally.{Tally}}
+use Rattle.fs_cli.specs.FileCheck.{Due, IsDue, OfTape, Unsaid}
+use Rattle.fs_cli.specs.TapeCheck.{CountsOf, CountsOn, CountsState, IsWithin, JudgesTape, TapeCounted, counted_text, no_tally, peer_of_item}
+use Rattle.fs_cli.specs.TapeCheck.{span_behind, span_of, span_with, tally_at, tally_behind, tally_lines, tally_of, tally_with, tape_line, tape_text}
+use Rattle.fs_cli.specs.declared.tallies.Tally.{Tally}
 
 -- one item more
 
@@ -23,7 +30,8 @@ span_more span (first ∷ items) last = span_more (span_with span first.moment) 
 abbrev pub AddsTo : CountsState → CountsState → (moment : ℕ) → Item → Type 0
 AddsTo old new moment item =
     (new.items ≡ old.items + 1) × (new.span ≡ span_with old.span moment)
-    × ((number : ℕ) → tally_at new.by_number number ≡ (if number == peer_of_item item then tally_with item (tally_at old.by_number (peer_of_item item)) else tally_at old.by_number number))
+    × ((number : ℕ) → tally_at new.by_number number
+    ≡ (if number == peer_of_item item then tally_with item (tally_at old.by_number (peer_of_item item)) else tally_at old.by_number number))
 
 pub counts_more : (old new : CountsState) (moment : ℕ) (item : Item) (gone : List Timed) → AddsTo old new moment item → CountsOf old gone
     → CountsOf new (gone ++ timed moment item ∷ [])
@@ -73,7 +81,8 @@ pub record Counting (all rest : List Timed × End TapeReason) (old now : CountsS
   pub end_is : all.1 ≡ rest.1
   pub counted : (before : List Timed) → CountsOf old before → CountsOf now (before ++ gone)
 
-pub counting_more : (all rest rest' : List Timed × End TapeReason) (old now now' : CountsState) (next : Timed) → Counting all rest old now → rest ≡ with_part next rest'
+pub counting_more : (all rest rest' : List Timed × End TapeReason) (old now now' : CountsState) (next : Timed) → Counting all rest old now
+    → rest ≡ with_part next rest'
     → ((gone : List Timed) → CountsOf now gone → CountsOf now' (gone ++ next ∷ [])) → Counting all rest' old now'
 counting_more all rest rest' old now now' next p e f = record {
   gone = p.gone ++ next ∷ [];
@@ -85,7 +94,8 @@ counting_more all rest rest' old now now' next p e f = record {
 pub counting_done : (all rest : List Timed × End TapeReason) (old now : CountsState) → Counting all rest old now → rest ≡ ([], done) → CountsOn all old now
 counting_done all rest old now p e = record {
   done_is = p.end_is ∙ ap (λ (r : List Timed × End TapeReason). r.1) e;
-  counts = λ before of. subst (λ (z : List Timed). CountsOf now (before ++ z)) (sym (p.parts ∙ ap (λ (r : List Timed × End TapeReason). p.gone ++ r.0) e ∙ append-nil p.gone)) (p.counted before of);
+  counts = λ before of. subst (λ (z : List Timed). CountsOf now (before ++ z))
+      (sym (p.parts ∙ ap (λ (r : List Timed × End TapeReason). p.gone ++ r.0) e ∙ append-nil p.gone)) (p.counted before of);
 }
 
 pub tape_counted : (config : Config) (limit : ℕ) (holds : Names) (name left : List ℕ) (tape : TapeState) (version : ℕ) (nothing counts : CountsState)
@@ -106,10 +116,13 @@ lines_same : (numbers : List ℕ) (f g : ℕ → Tally) → ((number : ℕ) → 
 lines_same [] f g h = refl
 lines_same (number ∷ numbers) f g h = rw (h number, lines_same numbers f g h) refl
 
-text_is : (config : Config) (limit : ℕ) (holds : Names) (name : List ℕ) (version : ℕ) (counts : CountsState) (c : TapeCounted config limit holds name version counts)
+text_is : (config : Config) (limit : ℕ) (holds : Names) (name : List ℕ) (version : ℕ) (counts : CountsState)
+    (c : TapeCounted config limit holds name version counts)
     → counted_text config version counts ≡ tape_text config c.own c.items
 text_is config limit holds name version counts c =
-    rw (c.version_is, c.counts_are.items_are, c.counts_are.span_is) (ap (λ (lines : List ℕ). tape_line (version_number c.own) (length c.items) (span_of c.items) ++ lines) (lines_same _ _ _ c.counts_are.tallies_are))
+    rw (c.version_is, c.counts_are.items_are, c.counts_are.span_is)
+    (ap (λ (lines : List ℕ). tape_line (version_number c.own) (length c.items) (span_of c.items) ++ lines)
+    (lines_same _ _ _ c.counts_are.tallies_are))
 
 -- what is due
 
@@ -125,7 +138,8 @@ due_by limit holds config tape accepted stage verdict e found judges =
 
 pub config_untold : (limit : ℕ) (holds : Names) (config tape : List ℕ) (failed other : Type 0) (cause refusal : Refusal) → refusal ≡ cause
     → HasReason (config_stage limit holds config) failed cause → (failed → other) → Unsaid (IsDue limit holds (OfTape config tape)) other refusal
-config_untold limit holds config tape failed other cause refusal same h f = subst (λ (r : Refusal). Unsaid (IsDue limit holds (OfTape config tape)) other r) (sym same) (by h)
+config_untold limit holds config tape failed other cause refusal same h f =
+    subst (λ (r : Refusal). Unsaid (IsDue limit holds (OfTape config tape)) other r) (sym same) (by h)
   where
     by : HasReason (config_stage limit holds config) failed cause → Unsaid (IsDue limit holds (OfTape config tape)) other cause
     by (inl e) = inl (subst (λ (s : Stage Config). DueOf limit holds tape s (verdict_with (status_of cause) [])) (sym e) refl)
@@ -139,4 +153,9 @@ tape_told limit holds holds' config tape accepted version counts verdict e names
     by (subst (λ (n : Names). TapeCounted accepted limit n tape version counts) names counted)
   where
     by : TapeCounted accepted limit holds tape version counts → IsDue limit holds (OfTape config tape) verdict
-    by c = due_by limit holds config tape accepted (Found c.items) verdict e c.found (c.own, c.has_version, is ∙ ap (λ (text : List ℕ). verdict_with 0 text) (text_is accepted limit holds tape version counts c))
+    by c = due_by limit holds config tape accepted (Found c.items) verdict e c.found (
+      c.own,
+      c.has_version,
+      is
+          ∙ ap (λ (text : List ℕ). verdict_with 0 text) (text_is accepted limit holds tape version counts c),
+    )

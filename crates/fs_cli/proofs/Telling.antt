@@ -1,5 +1,9 @@
 -- How the answer of the command follows that tells what changes along a tape.
-use Rattle.fs_cli.proofs.Words.{◌≡◌, ◌≢◌, ◌⊎◌, inl, inr, ◌∙◌, ◌++◌, ◌≤◌, Rose, rose_earlier, ℕ, List, [], ◌∷◌, Option, Some, None, Result, Ok, Err, refl, ap, sym, subst, arith, append-nil, Grew, GrewPart, Config, Grew-refl, Grew-trans, Timed, Names, config_stage, tape_stage, accepted_stage, answered, Stage, Found, Stopped, and_then, or_stop, status_of, HasReason, Fails, Refusal, Outside, Rejected, Tape, Capture, Dump, Memory, Limit, Session, Caused, never_early, never_zero, listed_status, stopped_text, SaysOf, tape_of}
+use Rattle.fs_cli.proofs.Words.{◌≡◌, ◌≢◌, ◌⊎◌, inl, inr, ◌∙◌, ◌++◌, ◌≤◌, Rose, rose_earlier, ℕ, List, [], ◌∷◌, Option, Some, None, Result, Ok, Err}
+use Rattle.fs_cli.proofs.Words.{refl, ap, sym, subst, arith, append-nil, Grew, GrewPart, Config, Grew-refl, Grew-trans, Timed, Names, config_stage}
+use Rattle.fs_cli.proofs.Words.{tape_stage, accepted_stage, answered, Stage, Found, Stopped, and_then, or_stop, status_of, HasReason, Fails, Refusal}
+use Rattle.fs_cli.proofs.Words.{Outside, Rejected, Tape, Capture, Dump, Memory, Limit, Session, Caused, never_early, never_zero, listed_status}
+use Rattle.fs_cli.proofs.Words.{stopped_text, SaysOf, tape_of}
 use Rattle.std.specs.{Prelude.{⊤}, Result.{IsErrAnd}}
 use Rattle.fs_base.proofs.Grew.{part_more, part_then}
 use Rattle.fs_changes.specs.Tape.{HoldAfter, changes_of}
@@ -7,7 +11,9 @@ use Rattle.fs_rules.specs.Table.{Held}
 use Rattle.fs_input.specs.Records.{End, done, limited, bad}
 use Rattle.fs_tape.specs.declared.fault.TapeReason.{TapeReason}
 use Rattle.cmd_stages.{proofs.Stages.{either_rose, reason_then, rose_later}, specs.{Items.{Ceases, read_stage}, Play.{played_to}}}
-use Rattle.fs_cli.{proofs.Surveying.{nothing_said}, specs.Changes.{CameTo, FollowsItems, FollowsTape, StopsTo, TellsSo, WritesTo, came_lines, end_text, opened_stage, status_at, text_to}}
+use Rattle.fs_cli.proofs.Surveying.{nothing_said}
+use Rattle.fs_cli.specs.Changes.{CameTo, FollowsItems, FollowsTape, StopsTo, TellsSo, WritesTo, came_lines, end_text, opened_stage, status_at}
+use Rattle.fs_cli.specs.Changes.{text_to}
 
 -- what goes beside the configuration
 abbrev with_items : Config → List Timed → Stage (Config × List Timed)
@@ -17,13 +23,15 @@ abbrev with_all : Config → List Timed × End TapeReason → Stage (Config × (
 with_all config all = Found (config, all)
 
 -- a tape that ends so stops whatever items it gave
-stopped_on : (items others : List Timed) (end : End TapeReason) (refusal : Refusal) → played_to (items, end) ≡ Stopped refusal → played_to (others, end) ≡ Stopped refusal
+stopped_on : (items others : List Timed) (end : End TapeReason) (refusal : Refusal) → played_to (items, end) ≡ Stopped refusal
+    → played_to (others, end) ≡ Stopped refusal
 stopped_on items others done refusal h = absurd cc
 stopped_on items others limited refusal h = h
 stopped_on items others (bad reason place) refusal h = h
 
 -- what failed in a part failed in the whole
-items_wider : {T : Type 0} (config : Config) (all : List Timed × End TapeReason) (failed other : Type 0) (before now : Option (List ℕ)) (result : Result T Refusal)
+items_wider : {T : Type 0} (config : Config) (all : List Timed × End TapeReason) (failed other : Type 0) (before now : Option (List ℕ))
+    (result : Result T Refusal)
     → (failed → other) → FollowsItems config all failed before now result → FollowsItems config all other before now result
 items_wider config all failed other before now (Ok value) f h = h
 items_wider config all failed other before now (Err refusal) f (came, inl h) = (came, inl h)
@@ -36,7 +44,8 @@ opened_with : (limit : ℕ) (holds : Names) (config tape : List ℕ) (accepted :
 opened_with limit holds config tape accepted e =
     ap (λ (s : Stage Config). and_then s (λ accepted. and_then (read_stage accepted limit holds tape) (with_all accepted))) e
 
-opened_found : (limit : ℕ) (holds : Names) (config tape : List ℕ) (accepted : Config) (all : List Timed × End TapeReason) → config_stage limit holds config ≡ Found accepted
+opened_found : (limit : ℕ) (holds : Names) (config tape : List ℕ) (accepted : Config) (all : List Timed × End TapeReason)
+    → config_stage limit holds config ≡ Found accepted
     → read_stage accepted limit holds tape ≡ Found all → opened_stage limit holds config tape ≡ Found (accepted, all)
 opened_found limit holds config tape accepted all e h =
     opened_with limit holds config tape accepted e ∙ ap (λ (s : Stage (List Timed × End TapeReason)). and_then s (with_all accepted)) h
@@ -59,14 +68,23 @@ pub config_untold : (limit : ℕ) (holds : Names) (config tape : List ℕ) (fail
     → HasReason (config_stage limit holds config) failed refusal → (failed → other) → TellsSo limit holds config tape other a a (status_of refusal)
 config_untold limit holds config tape failed other a refusal h f =
     early_so limit holds config tape failed other a a refusal
-    (reason_then (config_stage limit holds config) (λ accepted. and_then (read_stage accepted limit holds tape) (with_all accepted)) failed refusal h) f (Grew-refl a)
+    (reason_then (config_stage limit holds config) (λ accepted. and_then (read_stage accepted limit holds tape) (with_all accepted)) failed refusal h)
+    f (Grew-refl a)
 
 -- no item was come to
 abbrev none_came : (config : Config) → CameTo config []
-none_came config = record { held = λ n. record { config = config; unicast = []; flows = [] }; played = []; rest = []; parts = refl; holds = λ k below. absurd (omega (arith, below)) }
+none_came config = record {
+  held = λ n. record { config = config; unicast = []; flows = [] };
+  played = [];
+  rest = [];
+  parts = refl;
+  holds =
+      λ k below. absurd (omega (arith, below));
+}
 
 -- the tape gave no item
-pub untold : {T : Type 0} (config : Config) (stage : Stage (List Timed × End TapeReason)) (failed other : Type 0) (a : Option (List ℕ)) (refusal : Refusal) (result : Result T Refusal)
+pub untold : {T : Type 0} (config : Config) (stage : Stage (List Timed × End TapeReason)) (failed other : Type 0) (a : Option (List ℕ))
+    (refusal : Refusal) (result : Result T Refusal)
     → Ceases stage failed refusal → IsErrAnd result (λ e. e ≡ refusal) → FollowsTape config stage (failed ⊎ other) a a result
 unfolding none_came
 untold config stage failed other a refusal (Ok value) h is = absurd is
@@ -97,7 +115,8 @@ begun_follows config stage config' all early mid after sink sink_after before no
 
 -- all of it was told
 pub all_told : (limit : ℕ) (holds holds' : Names) (config tape : List ℕ) (accepted : Config) (other : Type 0) (before now : Option (List ℕ))
-    → config_stage limit holds config ≡ Found accepted → holds' ≡ holds → FollowsTape {T = ⊤} accepted (read_stage accepted limit holds' tape) ⊤ before now (Ok tt)
+    → config_stage limit holds config ≡ Found accepted → holds' ≡ holds
+    → FollowsTape {T = ⊤} accepted (read_stage accepted limit holds' tape) ⊤ before now (Ok tt)
     → TellsSo limit holds config tape other before now 0
 all_told limit holds holds' config tape accepted other before now e same (inl h) = absurd h
 all_told limit holds holds' config tape accepted other before now e same (inr (all, found, (came, (rest, end_is, grew)))) =
@@ -110,7 +129,8 @@ all_told limit holds holds' config tape accepted other before now e same (inr (a
         inl (
           rest,
           sym (ap status_at end_is),
-          subst (λ (text : List ℕ). Grew before now text) (sym (append-nil (came_lines came)) ∙ ap (λ (end : End TapeReason). came_lines came ++ end_text end) (sym end_is)) grew,
+          subst (λ (text : List ℕ). Grew before now text) (sym (append-nil (came_lines came))
+              ∙ ap (λ (end : End TapeReason). came_lines came ++ end_text end) (sym end_is)) grew,
         ),
       ),
     )
@@ -123,7 +143,8 @@ ended_by items limited refusal h = let same : Limit ≡ refusal = cc in (ap stat
 ended_by items (bad reason place) refusal h = let same : Tape reason place ≡ refusal = cc in (ap status_of (sym same), ap stopped_text (sym same))
 
 -- a front of the lines is one of the whole text
-part_to : (before now : Option (List ℕ)) (lines : List ℕ) (rest : List Timed) (end : End TapeReason) → GrewPart before now lines → GrewPart before now (text_to lines rest end)
+part_to : (before now : Option (List ℕ)) (lines : List ℕ) (rest : List Timed) (end : End TapeReason) → GrewPart before now lines
+    → GrewPart before now (text_to lines rest end)
 part_to before now lines [] end part = part_more before now lines (end_text end) part
 part_to before now lines (t ∷ ts) end part = part
 
@@ -144,12 +165,18 @@ other_told limit holds config tape accepted failed other before now refusal e fo
     by (inl (rest, stopped, grew)) =
         let ended = ended_by all.0 all.1 refusal stopped in
         let none : [] ≡ end_text all.1 = sym (nothing_said refusal four) ∙ ended.1 in
-        inl (rest, ended.0, subst (λ (text : List ℕ). Grew before now text) (sym (append-nil (came_lines came)) ∙ ap (λ (text : List ℕ). came_lines came ++ text) none) grew)
+        inl (
+          rest,
+          ended.0,
+          subst (λ (text : List ℕ). Grew before now text) (sym (append-nil (came_lines came))
+              ∙ ap (λ (text : List ℕ). came_lines came ++ text) none) grew,
+        )
     by (inr (inl (memory, grew))) = inr (inl (ap status_of memory, grew))
     by (inr (inr (outside, failing, part))) = inr (inr (ap status_of outside, f failing, part_to before now (came_lines came) came.rest all.1 part))
 
 -- a tape that isn't there is no fault of it
-absent : (config : Config) (limit : ℕ) (holds : Names) (tape : List ℕ) (refusal : Refusal) → read_stage config limit holds tape ≡ Stopped refusal → refusal ≡ Outside
+absent : (config : Config) (limit : ℕ) (holds : Names) (tape : List ℕ) (refusal : Refusal) → read_stage config limit holds tape ≡ Stopped refusal
+    → refusal ≡ Outside
 absent config limit holds tape refusal h = by (holds tape) h
   where
     by : (content : Option (List ℕ)) → and_then (or_stop Outside content) (λ octets. Found (tape_of config limit octets)) ≡ Stopped refusal → refusal ≡ Outside
@@ -157,7 +184,8 @@ absent config limit holds tape refusal h = by (holds tape) h
     by (Some octets) h = absurd cc
 
 -- the fault of the tape that ended it was said
-fault_told : {U : Type 0} (limit : ℕ) (holds : Names) (config tape : List ℕ) (accepted : Config) (failed sink other : Type 0) (before mid now : Option (List ℕ)) (reason : TapeReason) (place : ℕ) (result : Result U Refusal)
+fault_told : {U : Type 0} (limit : ℕ) (holds : Names) (config tape : List ℕ) (accepted : Config) (failed sink other : Type 0)
+    (before mid now : Option (List ℕ)) (reason : TapeReason) (place : ℕ) (result : Result U Refusal)
     → config_stage limit holds config ≡ Found accepted → (sink → other)
     → FollowsTape {T = ⊤} accepted (read_stage accepted limit holds tape) failed before mid (Err (Tape reason place))
     → SaysOf (Tape reason place) sink mid now result → TellsSo limit holds config tape other before now (answered result)
@@ -171,7 +199,8 @@ fault_told limit holds config tape accepted failed sink other before mid now rea
     let wrong : Tape reason place ≡ Memory = h.0 in absurd cc
 fault_told limit holds config tape accepted failed sink other before mid now reason place (Err cause) e f (inr (all, found, (came, inr (inr h)))) said =
     let wrong : Tape reason place ≡ Outside = h.0 in absurd cc
-fault_told limit holds config tape accepted failed sink other before mid now reason place (Err cause) e f (inr (all, found, (came, inl (rest, stopped, grew)))) said =
+fault_told limit holds config tape accepted failed sink other before mid now reason place (Err cause) e f
+    (inr (all, found, (came, inl (rest, stopped, grew)))) said =
     inr (accepted, all, opened_found limit holds config tape accepted all e found, (came, by said))
   where
     text : stopped_text (Tape reason place) ≡ end_text all.1
@@ -199,12 +228,14 @@ fault_told limit holds config tape accepted failed sink other before mid now rea
         ))
 
 -- what failed in a part failed in the whole
-pub either_on : (before mid after sink sink_mid sink_after : ℕ) → before ≤ mid → sink_mid ≤ sink_after → Rose mid after ⊎ Rose sink sink_mid → Rose before after ⊎ Rose sink sink_after
+pub either_on : (before mid after sink sink_mid sink_after : ℕ) → before ≤ mid → sink_mid ≤ sink_after → Rose mid after ⊎ Rose sink sink_mid
+    → Rose before after ⊎ Rose sink sink_after
 either_on before mid after sink sink_mid sink_after l m (inl r) = inl (rose_earlier before mid after l r)
 either_on before mid after sink sink_mid sink_after l m (inr r) = inr (rose_later sink sink_mid sink_after r m)
 
 -- it ended, and what is said of that was
-pub end_told : {U : Type 0} (limit : ℕ) (holds holds' : Names) (config tape : List ℕ) (accepted : Config) (failed sink other : Type 0) (before mid now : Option (List ℕ)) (refusal : Refusal) (result : Result U Refusal)
+pub end_told : {U : Type 0} (limit : ℕ) (holds holds' : Names) (config tape : List ℕ) (accepted : Config) (failed sink other : Type 0)
+    (before mid now : Option (List ℕ)) (refusal : Refusal) (result : Result U Refusal)
     → config_stage limit holds config ≡ Found accepted → holds' ≡ holds → (failed → other) → (sink → other)
     → FollowsTape {T = ⊤} accepted (read_stage accepted limit holds' tape) failed before mid (Err refusal)
     → SaysOf refusal sink mid now result → (status_of refusal ≢ 4 → (answered result ≡ status_of refusal) × (now ≡ mid))
@@ -251,11 +282,13 @@ due_so limit holds config tape accepted all found = by_config (config_stage limi
 
     by_tape : (config : Config) (content : Option (List ℕ))
         → and_then (and_then (or_stop Outside content) (λ octets. Found (tape_of config limit octets))) (with_all config) ≡ Found (accepted, all)
-        → status_at all.1 ≡ listed_status (and_then (and_then (or_stop Outside content) (λ octets. played_to (tape_of config limit octets))) (with_items config))
+        → status_at all.1 ≡ listed_status
+        (and_then (and_then (or_stop Outside content) (λ octets. played_to (tape_of config limit octets))) (with_items config))
     by_tape config None h = absurd cc
     by_tape config (Some octets) h =
         let same : ◌≡◌ {A = Config × (List Timed × End TapeReason)} (config, tape_of config limit octets) (accepted, all) = cc in
-        subst (λ (p : Config × (List Timed × End TapeReason)). status_at p.1.1 ≡ listed_status (and_then (played_to (tape_of config limit octets)) (with_items config))) same
+        subst (λ (p : Config × (List Timed × End TapeReason)). status_at p.1.1
+        ≡ listed_status (and_then (played_to (tape_of config limit octets)) (with_items config))) same
         (one (tape_of config limit octets).1 config (tape_of config limit octets).0)
 
     by_config : (stage : Stage Config) → config_stage limit holds config ≡ stage
@@ -271,7 +304,8 @@ early_due limit holds config tape refusal h = by_config (config_stage limit hold
   where
     by_tape : (config : Config) (content : Option (List ℕ))
         → and_then (and_then (or_stop Outside content) (λ octets. Found (tape_of config limit octets))) (with_all config) ≡ Stopped refusal
-        → status_of refusal ≡ listed_status (and_then (and_then (or_stop Outside content) (λ octets. played_to (tape_of config limit octets))) (with_items config))
+        → status_of refusal ≡ listed_status
+        (and_then (and_then (or_stop Outside content) (λ octets. played_to (tape_of config limit octets))) (with_items config))
     by_tape config None h = let same : Outside ≡ refusal = cc in ap status_of (sym same)
     by_tape config (Some octets) h = absurd cc
 
@@ -285,11 +319,13 @@ pub change_status : (limit : ℕ) (holds : Names) (config tape : List ℕ) (fail
     → TellsSo limit holds config tape failed before now answer → Caused failed (listed_status (accepted_stage limit holds config tape)) answer
 change_status limit holds config tape failed before now answer (inl early) = by early.reason
   where
-    by : ((refusal : Refusal) × (opened_stage limit holds config tape ≡ Stopped refusal) × (answer ≡ status_of refusal)) ⊎ (answer ≡ 6) ⊎ ((answer ≡ 1) × failed)
+    by : ((refusal : Refusal) × (opened_stage limit holds config tape ≡ Stopped refusal) × (answer ≡ status_of refusal)) ⊎ (answer ≡ 6)
+        ⊎ ((answer ≡ 1) × failed)
         → Caused failed (listed_status (accepted_stage limit holds config tape)) answer
     by (inl (refusal, stopped, is)) = inl (is ∙ early_due limit holds config tape refusal stopped)
     by (inr h) = inr h
-change_status limit holds config tape failed before now answer (inr (accepted, all, found, (came, inl h))) = inl (h.1 ∙ due_so limit holds config tape accepted all found)
+change_status limit holds config tape failed before now answer (inr (accepted, all, found, (came, inl h))) =
+    inl (h.1 ∙ due_so limit holds config tape accepted all found)
 change_status limit holds config tape failed before now answer (inr (accepted, all, found, (came, inr (inl h)))) = inr (inl h.0)
 change_status limit holds config tape failed before now answer (inr (accepted, all, found, (came, inr (inr h)))) = inr (inr (h.0, h.1))
 
@@ -307,7 +343,8 @@ done_is done e = refl
 done_is limited e = absurd cc
 done_is (bad reason place) e = absurd cc
 
-found_done : (limit : ℕ) (holds : Names) (config tape : List ℕ) (accepted : Config) (all : List Timed × End TapeReason) → opened_stage limit holds config tape ≡ Found (accepted, all) → all.1 ≡ done
+found_done : (limit : ℕ) (holds : Names) (config tape : List ℕ) (accepted : Config) (all : List Timed × End TapeReason)
+    → opened_stage limit holds config tape ≡ Found (accepted, all) → all.1 ≡ done
     → accepted_stage limit holds config tape ≡ Found (accepted, all.0)
 found_done limit holds config tape accepted all found e = by_config (config_stage limit holds config) found
   where
@@ -329,7 +366,8 @@ found_done limit holds config tape accepted all found e = by_config (config_stag
 pub changed_well : (limit : ℕ) (holds : Names) (config tape : List ℕ) (failed : Type 0) (before now : Option (List ℕ)) (answer : ℕ)
     → TellsSo limit holds config tape failed before now answer → answer ≡ 0 → ChangedSo limit holds config tape before now
 changed_well limit holds config tape failed before now answer (inl early) zero =
-    absurd (never_early (opened_stage limit holds config tape) failed answer 0 zero (λ e. absurd cc) (λ e. absurd cc) (λ refusal h e. never_zero refusal e) early.reason)
+    absurd (never_early (opened_stage limit holds config tape) failed answer 0 zero (λ e. absurd cc) (λ e. absurd cc)
+    (λ refusal h e. never_zero refusal e) early.reason)
 changed_well limit holds config tape failed before now answer (inr (accepted, all, found, (came, inl (rest, is, grew)))) zero =
     let end : all.1 ≡ done = done_is all.1 (sym is ∙ zero) in
     let items : came.played ≡ all.0 = sym (came.parts ∙ ap (λ (z : List Timed). came.played ++ z) rest ∙ append-nil came.played) in
@@ -340,7 +378,8 @@ changed_well limit holds config tape failed before now answer (inr (accepted, al
       held = came.held;
       holds_after = subst (λ (z : List Timed). HoldAfter accepted z came.held) items came.holds;
       wrote = subst (λ (z : List Timed). Grew before now (changes_of came.held z)) items
-          (subst (λ (text : List ℕ). Grew before now text) (ap (λ (x : End TapeReason). came_lines came ++ end_text x) end ∙ append-nil (came_lines came)) grew);
+          (subst (λ (text : List ℕ). Grew before now text) (ap (λ (x : End TapeReason). came_lines came ++ end_text x) end
+          ∙ append-nil (came_lines came)) grew);
     }
 changed_well limit holds config tape failed before now answer (inr (accepted, all, found, (came, inr (inl h)))) zero = let six : answer ≡ 6 = h.0 in absurd cc
 changed_well limit holds config tape failed before now answer (inr (accepted, all, found, (came, inr (inr h)))) zero = let one : answer ≡ 1 = h.0 in absurd cc

@@ -7,7 +7,9 @@ use Rattle.fs_input.specs.Records.{End, done, limited, bad}
 use Rattle.fs_reports.specs.TapeFault.{tape_fault_line}
 use Rattle.fs_rules.specs.Table.{Held}
 use Rattle.fs_tape.specs.{Tape.{Timed}, declared.fault.TapeReason.{TapeReason}}
-use Rattle.cmd_stages.specs.{Items.{read_stage}, Load.{HoldsConfig, Names, config_stage}, Play.{HoldsTape, played_to, untimed}, Refusal.{EndsEarly, HasReason, Stage, Found, Stopped, and_then}, declared.refusal.Refusal.{Refusal, TheVariants.{Outside, Memory}}}
+use Rattle.cmd_stages.specs.{Items.{read_stage}, Load.{HoldsConfig, Names, config_stage}, Play.{HoldsTape, played_to, untimed}}
+use Rattle.cmd_stages.specs.Refusal.{EndsEarly, HasReason, Stage, Found, Stopped, and_then}
+use Rattle.cmd_stages.specs.declared.refusal.Refusal.{Refusal, TheVariants.{Outside, Memory}}
 
 -- the status at the end of a tape
 abbrev pub status_at : End TapeReason → ℕ

@@ -1,7 +1,14 @@
 -- What the command line may say.
-use Rattle.std.specs.{Prelude.{◌==◌, ◌&&◌, ℕ, List, [], ◌∷◌, Bool, false, not, nat_le, Option, Some, None, if◌then◌else◌, codes, decimal, option_map}, Str.{bytes_eq, Parse.{digits_value}}}
+use Rattle.std.specs.Prelude.{◌==◌, ◌&&◌, ℕ, List, [], ◌∷◌, Bool, false, not, nat_le, Option, Some, None, if◌then◌else◌, codes, decimal, option_map}
+use Rattle.std.specs.Str.{bytes_eq, Parse.{digits_value}}
 use Rattle.fs_base.specs.declared.prefix.Family.TheVariants.{V4, V6}
-use Rattle.fs_cli.specs.declared.{command.{Command.{Command, TheVariants.{Enforce as EnforceCommand, Survey as SurveyCommand, Changes as ChangesCommand, Convert as ConvertCommand, Check as CheckCommand, CheckFile as CheckFileCommand, Gen as GenCommand, Announce as AnnounceCommand, Listen as ListenCommand, Pair as PairCommand}}, Subject.{Subject, TheVariants.{Nlri, Text}}}, survey.Survey.{Survey, TheVariants.{Rules, Shadow, Words}}}
+use Rattle.fs_cli.specs.declared.command.Command.{Command}
+use Rattle.fs_cli.specs.declared.command.Command.TheVariants.{Enforce as EnforceCommand, Survey as SurveyCommand, Changes as ChangesCommand}
+use Rattle.fs_cli.specs.declared.command.Command.TheVariants.{Convert as ConvertCommand, Check as CheckCommand, CheckFile as CheckFileCommand}
+use Rattle.fs_cli.specs.declared.command.Command.TheVariants.{Gen as GenCommand, Announce as AnnounceCommand, Listen as ListenCommand}
+use Rattle.fs_cli.specs.declared.command.Command.TheVariants.{Pair as PairCommand}
+use Rattle.fs_cli.specs.declared.command.Subject.{Subject, TheVariants.{Nlri, Text}}
+use Rattle.fs_cli.specs.declared.survey.Survey.{Survey, TheVariants.{Rules, Shadow, Words}}
 use Rattle.fs_cli.specs.FileCheck.{FileForm, OfCapture, OfConfig, OfDump, OfRules, OfTape, file_shown}
 
 -- a command, with the names of the files that it is to read, or the word or the file that it is to say of and what as, or how

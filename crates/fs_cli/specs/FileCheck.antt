@@ -4,9 +4,15 @@ use Rattle.fs_base.specs.{Happened.{Happened, FilesFailed, SinkFailed, Wrote}, S
 use Rattle.fs_conf.specs.{Config.{config_of}, Fault.{IsFirstFault, fault_text}, declared.fault.ConfigFault.{ConfigFault, TheVariants.{Memory as NoMemory}}}
 use Rattle.cmd_convert.specs.Survey.{dump_verdict}
 use Rattle.cmd_enforce.specs.Survey.{capture_verdict}
-use Rattle.fs_cli.specs.declared.file_check.{CheckedFile.{CheckedFile, TheVariants.{Config as ConfigFile, Rules as RulesFile, Tape as TapeFile, Capture as CaptureFile, Dump as DumpFile}}, Said.{Said}}
+use Rattle.fs_cli.specs.declared.file_check.CheckedFile.{CheckedFile}
+use Rattle.fs_cli.specs.declared.file_check.CheckedFile.TheVariants.{Config as ConfigFile, Rules as RulesFile, Tape as TapeFile}
+use Rattle.fs_cli.specs.declared.file_check.CheckedFile.TheVariants.{Capture as CaptureFile, Dump as DumpFile}
+use Rattle.fs_cli.specs.declared.file_check.Said.{Said}
 use Rattle.fs_cli.specs.{RulesCheck.{JudgesRules}, TapeCheck.{JudgesTape}}
-use Rattle.cmd_stages.specs.{Load.{Names, Openings, config_alone, config_stage, config_then, fetch}, Play.{tape_stage}, Refusal.{Answers, Verdict, verdict_with, Stage, Found, Stopped, status_of}, declared.refusal.Refusal.{Refusal, TheVariants.{Memory, Outside}}}
+use Rattle.cmd_stages.specs.Load.{Names, Openings, config_alone, config_stage, config_then, fetch}
+use Rattle.cmd_stages.specs.Play.{tape_stage}
+use Rattle.cmd_stages.specs.Refusal.{Answers, Verdict, verdict_with, Stage, Found, Stopped, status_of}
+use Rattle.cmd_stages.specs.declared.refusal.Refusal.{Refusal, TheVariants.{Memory, Outside}}
 
 -- a file that is checked
 pub data FileForm : Type 0 where

@@ -3,7 +3,9 @@ use Rattle.std.specs.{Prelude.{◌≡◌, ◌&&◌, ℕ, List, [], ◌∷◌, Op
 use Rattle.fs_base.specs.declared.Gate as gate
 use Rattle.cmd_stages.specs.{Load.{OpensFront, config_alone, config_stage}, Refusal.{Stopped}, declared.refusal.Refusal.{Refusal}}
 use Rattle.cmd_wire.specs.{Keeping.{EndsKeeping, IsOfKeeping, KeepsSo}, Recording.{AtGate, EndsRecording, IsOfRecording, RecordsSo, at_gate}}
-use Rattle.fs_cli.specs.{Command.{is_name}, Program.{AreTold, ClockKept, Objects, Promises, SinkKept, WireKept, happened_in, names_in}, declared.live.Staying.{Staying, TheVariants.{Record as RecordSo, Keep as KeepSo}}}
+use Rattle.fs_cli.specs.Command.{is_name}
+use Rattle.fs_cli.specs.Program.{AreTold, ClockKept, Objects, Promises, SinkKept, WireKept, happened_in, names_in}
+use Rattle.fs_cli.specs.declared.live.Staying.{Staying, TheVariants.{Record as RecordSo, Keep as KeepSo}}
 
 -- a command that stays: the sessions of a configuration are to be recorded, at an address; or the rules of a file are to be
 -- kept at one

@@ -2,12 +2,19 @@
 use Rattle.std.specs.Prelude.{◌≡◌, ◌≢◌, ◌⊎◌, ℕ, List, [], ◌∷◌, Bool, true, false, Option, if◌then◌else◌, ◌↔◌, IsTrue, IfSome, Some, None}
 use Rattle.fs_base.specs.{Happened.{Happened, SinkFailed, happened, with_wire, FilesFailed, FilesStood, SinkStood, WireStood, Wrote}, Sink.{Grew}}
 use Rattle.fs_reports.specs.{Report.{Reports}, Text.{ReportsText}}
-use Rattle.cmd_stages.specs.{Refusal.{Verdict, Answers, Stopped}, declared.refusal.Refusal.{Refusal}, Load.{Names, sending_stage, Openings, OpensFront, config_alone, config_then}, Play.{HasVersion, accepted_stage}}
+use Rattle.cmd_stages.specs.{Refusal.{Verdict, Answers, Stopped}, declared.refusal.Refusal.{Refusal}}
+use Rattle.cmd_stages.specs.Load.{Names, sending_stage, Openings, OpensFront, config_alone, config_then}
+use Rattle.cmd_stages.specs.Play.{HasVersion, accepted_stage}
 use Rattle.cmd_convert.specs.Command.{Converts as ConvertsDump, Converted, convert_status}
 use Rattle.cmd_enforce.specs.Command.{Enforces, Enforced, Unopened, Wants, inputs_stage, Shown, shown, status_for, openings_of}
 use Rattle.cmd_gen.specs.Command.{Generates, Generated}
-use Rattle.cmd_wire.specs.{Announcing.{Announced, Announces}, Conversation.{Conversation, conversation}, Listening.{Heard, ListensTo, hearing_stage}, Pairing.{Carries, Joins}, Concluded.{AnyFailed, HasStatusBy}, Promised.{AnnouncePromises, ListenPromises, PairPromises}}
-use Rattle.fs_cli.specs.{Changes.{Changed, TellsChanges}, Command.{Form, Enforce, Surveys, Changes, Converts, Check, CheckFile, Gen, form_of, Announce, Listen, Pair}, FileCheck.{ChecksFile, FileChecked, FileForm, HasFileStatus, file_openings, file_statuses}, Survey.{Lists, Surveyed, listed_status, text_for}, declared.{command.Subject.{Subject, TheVariants.{Nlri, Text}}, survey.Survey.{Survey}}}
+use Rattle.cmd_wire.specs.{Announcing.{Announced, Announces}, Conversation.{Conversation, conversation}, Listening.{Heard, ListensTo, hearing_stage}}
+use Rattle.cmd_wire.specs.{Pairing.{Carries, Joins}, Concluded.{AnyFailed, HasStatusBy}, Promised.{AnnouncePromises, ListenPromises, PairPromises}}
+use Rattle.fs_cli.specs.Changes.{Changed, TellsChanges}
+use Rattle.fs_cli.specs.Command.{Form, Enforce, Surveys, Changes, Converts, Check, CheckFile, Gen, form_of, Announce, Listen, Pair}
+use Rattle.fs_cli.specs.FileCheck.{ChecksFile, FileChecked, FileForm, HasFileStatus, file_openings, file_statuses}
+use Rattle.fs_cli.specs.Survey.{Lists, Surveyed, listed_status, text_for}
+use Rattle.fs_cli.specs.declared.{command.Subject.{Subject, TheVariants.{Nlri, Text}}, survey.Survey.{Survey}}
 use Rattle.fs_tape.specs.declared.magic.Version.TheVariants.{Two}
 use Rattle.fs_base.specs.declared.Files as files
 use Rattle.fs_base.specs.declared.Sink as sink

@@ -1,7 +1,8 @@
 -- What `check rules` says of the octets of a rules file.
 use Rattle.std.specs.Prelude.{◌≡◌, ◌≢◌, ◌⊎◌, ℕ, List, ◌++◌, length, codes, decimal, Some, None}
 use Rattle.fs_base.specs.declared.config.Config.{Config}
-use Rattle.fs_conf.specs.{RuleFault.{IsFirstRulesFault, rules_fault_text}, Rules.{rules_of}, declared.fault.RulesFault.{RulesFault, TheVariants.{Memory as NoMemory}}}
+use Rattle.fs_conf.specs.{RuleFault.{IsFirstRulesFault, rules_fault_text}, Rules.{rules_of}}
+use Rattle.fs_conf.specs.declared.fault.RulesFault.{RulesFault, TheVariants.{Memory as NoMemory}}
 use Rattle.fs_speaker.specs.declared.Sending.{Sending}
 use Rattle.cmd_stages.specs.Refusal.{Verdict, verdict_with}
 

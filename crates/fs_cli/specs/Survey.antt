@@ -6,7 +6,9 @@ use Rattle.fs_reports.specs.{Listing.{listing}, TapeFault.{tape_fault_line}, Wor
 use Rattle.fs_rules.specs.Table.{Held}
 use Rattle.fs_shadow.specs.Text.{shadow_listing}
 use Rattle.fs_tape.specs.Tape.{Item, Timed}
-use Rattle.cmd_stages.specs.{Load.{HoldsConfig, Names}, Play.{HoldsTape, accepted_stage, untimed}, Refusal.{Answers, verdict_with, Stage, Found, Stopped, status_of}, Writing.{Fails}, declared.refusal.Refusal.{Refusal, TheVariants.{Tape}}}
+use Rattle.cmd_stages.specs.{Load.{HoldsConfig, Names}, Play.{HoldsTape, accepted_stage, untimed}}
+use Rattle.cmd_stages.specs.Refusal.{Answers, verdict_with, Stage, Found, Stopped, status_of}
+use Rattle.cmd_stages.specs.{Writing.{Fails}, declared.refusal.Refusal.{Refusal, TheVariants.{Tape}}}
 use Rattle.fs_desk.specs.Leaves.{Leaves}
 
 -- a survey: its text, of the configuration, the items of a tape, and the routes that they leave held

@@ -1,7 +1,9 @@
 -- What `check tape` says of a tape: how many items it has, of which moments, and what is counted of each peer.
-use Rattle.std.specs.Prelude.{◌≡◌, ◌≤◌, ◌+◌, ◌*◌, ◌==◌, ⊤, ℕ, List, [], ◌∷◌, ◌++◌, Bool, true, false, if◌then◌else◌, length, flat_map, get_or, codes, decimal, Option, Some, None}
+use Rattle.std.specs.Prelude.{◌≡◌, ◌≤◌, ◌+◌, ◌*◌, ◌==◌, ⊤, ℕ, List, [], ◌∷◌, ◌++◌, Bool, true, false, if◌then◌else◌, length, flat_map, get_or, codes}
+use Rattle.std.specs.Prelude.{decimal, Option, Some, None}
 use Rattle.fs_base.specs.declared.config.Config.{Config}
-use Rattle.fs_tape.specs.{Tape.{Item, Timed, came_up, received, was_lost}, Header.{longest_payload}, Magic.{version_number}, declared.{fault.TapeReason.{TapeReason}, item.TapeItem.{TapeItem, TheVariants.{Up, Octets, Lost}}, magic.Version.{Version}}}
+use Rattle.fs_tape.specs.{Tape.{Item, Timed, came_up, received, was_lost}, Header.{longest_payload}, Magic.{version_number}}
+use Rattle.fs_tape.specs.declared.{fault.TapeReason.{TapeReason}, item.TapeItem.{TapeItem, TheVariants.{Up, Octets, Lost}}, magic.Version.{Version}}
 use Rattle.fs_input.specs.Records.{End, done}
 use Rattle.fs_reports.specs.Peers.{numbers_of}
 use Rattle.fs_cli.specs.{declared.tallies.Tally.{Tally}, Survey.{stopped_text}}
@@ -59,7 +61,9 @@ up_text false = codes "down"
 
 abbrev pub tally_line : ℕ → Tally → List ℕ
 tally_line number tally =
-    codes "peer " ++ (decimal number ++ (codes " items " ++ (decimal tally.items ++ (codes " octets " ++ (decimal tally.octets ++ (codes " " ++ (up_text tally.up ++ codes "\n")))))))
+    codes "peer " ++ (decimal number
+    ++ (codes " items " ++ (decimal tally.items
+    ++ (codes " octets " ++ (decimal tally.octets ++ (codes " " ++ (up_text tally.up ++ codes "\n")))))))
 
 -- a line for each of these peers
 abbrev pub tally_lines : List ℕ → (ℕ → Tally) → List ℕ

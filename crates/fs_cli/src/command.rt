@@ -1,7 +1,8 @@
 //! What the words of the command line ask for.
 
 ghost use Rattle.std.specs.{Prelude.{◌≡◌, ◌∷◌, [], decimal, map, option_map, string_bytes}, Str.{bytes_eq}};
-ghost use Rattle.fs_cli.specs.{FileCheck.{file_shown}, Command.{CheckFile, check_form, count_of, file_of, files_of, form_of, is_name, form_shown, subject_of, survey_of}};
+ghost use Rattle.fs_cli.specs.FileCheck.{file_shown};
+ghost use Rattle.fs_cli.specs.Command.{CheckFile, check_form, count_of, file_of, files_of, form_of, is_name, form_shown, subject_of, survey_of};
 
 use crate::file_check::CheckedFile;
 use crate::survey::Survey;

@@ -3,7 +3,8 @@
 ghost use Rattle.std.specs.Prelude.{◌≡◌, ◌≢◌, ◌≤◌, ◌⊎◌, IfOk, IsTrue, MatchResult};
 ghost use Rattle.fs_base.specs.{Happened.{happened}, Outside.{Rose}};
 ghost use Rattle.cmd_stages.specs.{Load.{OpensFront}, Refusal.{Answers, IsOfFile, answered, status_of}};
-ghost use Rattle.fs_cli.specs.{FileCheck.{ChecksFile, IsDue, JudgesConfig, OfConfig, Unsaid, file_openings, file_shown, file_statuses, said_shown}, Program.{IsOneOf}};
+ghost use Rattle.fs_cli.specs.FileCheck.{ChecksFile, IsDue, JudgesConfig, OfConfig, Unsaid, file_openings, file_shown, file_statuses, said_shown};
+ghost use Rattle.fs_cli.specs.Program.{IsOneOf};
 
 use crate::capture_check::say_of_capture;
 use crate::dump_check::say_of_dump;

@@ -2,7 +2,10 @@
 
 ghost use Rattle.std.specs.Prelude.{◌≡◌, ◌≢◌, ◌≤◌, ◌^◌, ◌∷◌, [], ℕ, IfOk, IsTrue, List, Some, false, map, string_bytes};
 ghost use Rattle.fs_base.specs.Happened.{at_sink, happened, with_wire};
-ghost use Rattle.fs_cli.specs.{declared.{command.Subject.{Subject}, survey.Survey.{Survey}}, Program.{Checks, HasNoMoments, IsOneOf, Promises, ReportsOn, Runs, StopsSo, checked, speaks, objects, openings, tells_changes}, Command.{form_shown, Check, Enforce, Gen, Surveys}};
+ghost use Rattle.fs_cli.specs.declared.{command.Subject.{Subject}, survey.Survey.{Survey}};
+ghost use Rattle.fs_cli.specs.Program.{Checks, HasNoMoments, IsOneOf, Promises, ReportsOn, Runs, StopsSo, checked, speaks, objects, openings};
+ghost use Rattle.fs_cli.specs.Program.{tells_changes};
+ghost use Rattle.fs_cli.specs.Command.{form_shown, Check, Enforce, Gen, Surveys};
 ghost use Rattle.cmd_stages.specs.{Load.{OpensFront}, Refusal.{answered}, declared.refusal.Refusal.{Refusal as Cause}};
 ghost use Rattle.cmd_enforce.specs.Command.{Unopened, Wants, shown};
 ghost use Rattle.cmd_wire.specs.Conversation.{conversation};

@@ -4,8 +4,12 @@ ghost use Rattle.std.specs.Prelude.{◌≡◌, ◌≢◌, ◌≤◌, ◌++◌, �
 ghost use Rattle.fs_base.specs.{Files.{one_opening}, Outside.{Rose}, Sink.{Grew}};
 ghost use Rattle.fs_tape.specs.{Header.{longest_payload}, Tape.{coming}};
 ghost use Rattle.fs_reports.specs.TapeFault.{tape_fault_line};
-ghost use Rattle.cmd_stages.specs.{Load.{OpensFront}, Play.{played_to, tape_stage}, Refusal.{HasReason, IsOfTape, answered, status_of, verdict_with}, declared.refusal.Refusal.TheVariants.{Tape as TapeRefusal}};
-ghost use Rattle.fs_cli.specs.{FileCheck.{IsDue, OfTape, Unsaid, file_openings, said_shown}, Survey.{IsOfSurvey}, TapeCheck.{CountsOn, TapeCounted, counted_text, span_text, tally_at, tally_line, tally_lines, tape_line, up_text}};
+ghost use Rattle.cmd_stages.specs.{Load.{OpensFront}, Play.{played_to, tape_stage}};
+ghost use Rattle.cmd_stages.specs.Refusal.{HasReason, IsOfTape, answered, status_of, verdict_with};
+ghost use Rattle.cmd_stages.specs.declared.refusal.Refusal.TheVariants.{Tape as TapeRefusal};
+ghost use Rattle.fs_cli.specs.FileCheck.{IsDue, OfTape, Unsaid, file_openings, said_shown};
+ghost use Rattle.fs_cli.specs.Survey.{IsOfSurvey};
+ghost use Rattle.fs_cli.specs.TapeCheck.{CountsOn, TapeCounted, counted_text, span_text, tally_at, tally_line, tally_lines, tape_line, up_text};
 
 use crate::file_check::Said;
 use crate::tallies::{Counts, Tally};

@@ -1,17 +1,21 @@
-use Rattle.fs_compile.proofs.Words.{◌≡◌, ℕ, zero, suc, ◌+◌, ◌-◌, ◌<◌, ◌≤◌, ◌⊎◌, inl, inr, refl, sym, ap, subst, max, Bool, true, false, List, length, get_or, count_by, arith, take_all, take, cond, cases_lt, marked, count_by_more_yes, sum_by-take-le, take-take}
+use Rattle.fs_compile.proofs.Words.{◌≡◌, ℕ, zero, suc, ◌+◌, ◌-◌, ◌<◌, ◌≤◌, ◌⊎◌, inl, inr, refl, sym, ap, subst, max, Bool, true, false, List, length}
+use Rattle.fs_compile.proofs.Words.{get_or, count_by, arith, take_all, take, cond, cases_lt, marked, count_by_more_yes, sum_by-take-le, take-take}
 
 -- Counts of what holds in the front of a list of tests.
 
 -- counts don't fall
 pub marked_later : (n m : ℕ) (near : List Bool) → n ≤ m → marked n near ≤ marked m near
-marked_later n m near h = subst (λ (xs : List Bool). count_by (λ b. b) xs ≤ marked m near) (take-take n m near h) (sum_by-take-le (λ (b : Bool). cond b 1 0) (take m near) n)
+marked_later n m near h = subst (λ (xs : List Bool). count_by (λ b. b) xs ≤ marked m near) (take-take n m near h)
+    (sum_by-take-le (λ (b : Bool). cond b 1 0) (take m near) n)
 
 -- a stretch in which all hold
-marked_run : (near : List Bool) (i n j : ℕ) → j ≡ i + n → j ≤ length near → ((k : ℕ) → i ≤ k → k < j → get_or near k false ≡ true) → marked i near + n ≤ marked j near
+marked_run : (near : List Bool) (i n j : ℕ) → j ≡ i + n → j ≤ length near → ((k : ℕ) → i ≤ k → k < j → get_or near k false ≡ true)
+    → marked i near + n ≤ marked j near
 marked_run near i zero j e most all = let same : j ≡ i = omega (arith, e) in subst (λ x. marked i near + 0 ≤ marked x near) (sym same) (omega arith)
 marked_run near i (suc n) j e most all =
     let short : i + n ≤ length near = omega (arith, e, most) in
-    let before : marked i near + n ≤ marked (i + n) near = marked_run near i n (i + n) refl short (λ k l m. let below : k < j = omega (arith, e, m) in all k l below) in
+    let before : marked i near + n ≤ marked (i + n) near =
+    marked_run near i n (i + n) refl short (λ k l m. let below : k < j = omega (arith, e, m) in all k l below) in
     let inside : i + n < length near = omega (arith, e, most) in
     let within : i + n < j = omega (arith, e) in
     let low : i ≤ i + n = omega arith in

@@ -1,5 +1,8 @@
 -- Bits that are set where no other is cleared, for more and more of a run's rules.
-use Rattle.fs_compile.proofs.Words.{◌≡◌, ℕ, ◌+◌, ◌-◌, ◌*◌, ◌/◌, ◌%◌, ◌^◌, ◌<◌, ◌≤◌, ◌⊎◌, inl, inr, max, refl, sym, subst, ◌∙◌, Bool, true, false, true≢false, ◌||◌, bit_or, set, take, List, get_or, length, w64, arith, bit_at, cases_lt, cases_order, get_or-map, get_or-set_other, get_or-set_same, length-set, bit_at-lt, bit_at_or, bit_at_set_same, Fast, AreMarked, ArePortsMarked, Grown, IsClass, bit_in, Facts, key_of, facts_hold, hits, contains, is_in}
+use Rattle.fs_compile.proofs.Words.{◌≡◌, ℕ, ◌+◌, ◌-◌, ◌*◌, ◌/◌, ◌%◌, ◌^◌, ◌<◌, ◌≤◌, ◌⊎◌, inl, inr, max, refl, sym, subst, ◌∙◌, Bool, true, false}
+use Rattle.fs_compile.proofs.Words.{true≢false, ◌||◌, bit_or, set, take, List, get_or, length, w64, arith, bit_at, cases_lt, cases_order, get_or-map}
+use Rattle.fs_compile.proofs.Words.{get_or-set_other, get_or-set_same, length-set, bit_at-lt, bit_at_or, bit_at_set_same, Fast, AreMarked}
+use Rattle.fs_compile.proofs.Words.{ArePortsMarked, Grown, IsClass, bit_in, Facts, key_of, facts_hold, hits, contains, is_in}
 use Rattle.std.proofs.lemmas.List.Folds.{list_any_more}
 use Rattle.fs_ranges.specs.{declared.Limit.{Limit}, Limits.{allows, allows_port}, Facts.{number_of}}
 
@@ -19,7 +22,8 @@ set_grows rows word bit inside = record {
   other : (w i : ℕ) → (w ≡ word → ⊥) → bit_at (get_or rows w 0) i ≡ 1 → bit_at (get_or (set rows word (with_bit (get_or rows word 0) bit)) w 0) i ≡ 1
   other w i apart h = subst (λ (n : ℕ). bit_at n i ≡ 1) (sym (get_or-set_other rows word w (with_bit (get_or rows word 0) bit) 0 apart)) h
 
-  by : (w i : ℕ) → (w ≡ word) ⊎ ((w < word) ⊎ (word < w)) → bit_at (get_or rows w 0) i ≡ 1 → bit_at (get_or (set rows word (with_bit (get_or rows word 0) bit)) w 0) i ≡ 1
+  by : (w i : ℕ) → (w ≡ word) ⊎ ((w < word) ⊎ (word < w)) → bit_at (get_or rows w 0) i ≡ 1
+      → bit_at (get_or (set rows word (with_bit (get_or rows word 0) bit)) w 0) i ≡ 1
   by w i (inl same) h =
       subst (λ (v : ℕ). bit_at (get_or (set rows word (with_bit (get_or rows word 0) bit)) v 0) i ≡ 1) (sym same)
       (subst (λ (n : ℕ). bit_at n i ≡ 1) (sym (get_or-set_same rows word (with_bit (get_or rows word 0) bit) 0 inside))
@@ -27,7 +31,8 @@ set_grows rows word bit inside = record {
   by w i (inr (inl less)) h = other w i (λ same. omega (arith, same, less)) h
   by w i (inr (inr more)) h = other w i (λ same. omega (arith, same, more)) h
 
-pub set_there : (rows : List ℕ) (word bit : ℕ) → word < length rows → bit < 64 → bit_at (get_or (set rows word (with_bit (get_or rows word 0) bit)) word 0) bit ≡ 1
+pub set_there : (rows : List ℕ) (word bit : ℕ) → word < length rows → bit < 64
+    → bit_at (get_or (set rows word (with_bit (get_or rows word 0) bit)) word 0) bit ≡ 1
 set_there rows word bit inside small =
     subst (λ (n : ℕ). bit_at n bit ≡ 1) (sym (get_or-set_same rows word (with_bit (get_or rows word 0) bit) 0 inside))
     (bit_at_set_same w64 (get_or rows word 0) bit small)
@@ -51,7 +56,8 @@ range_more rows new words class rule number i ranges range inside grown before h
       by false false e f t = absurd (true≢false (sym t))
 
 -- Of a run's rules one more is marked.
-pub rule_more : (rules : List Fast) (first number field words : ℕ) (bounds rows new : List ℕ) (fast : Fast) (limit : Limit) → number < length rules → fast ≡ get_or rules number fast → Grown rows new
+pub rule_more : (rules : List Fast) (first number field words : ℕ) (bounds rows new : List ℕ) (fast : Fast) (limit : Limit) → number < length rules
+    → fast ≡ get_or rules number fast → Grown rows new
     → AreMarked rules first number field bounds rows words
     → ((facts : Facts) → facts_hold facts fast ≡ true → allows limit (key_of facts field) ≡ true)
     → ((n class : ℕ) → allows limit n ≡ true → IsClass bounds n class → bit_in new words class (number - first) ≡ 1)
@@ -81,12 +87,14 @@ pub ports_more : (rules : List Fast) (first number words : ℕ) (destination sou
     → ((n class : ℕ) → allows limit n ≡ true → IsClass destination n class → bit_in to_new words class (number - first) ≡ 1)
     → ((n class : ℕ) → allows limit n ≡ true → IsClass source n class → bit_in from_new words class (number - first) ≡ 1)
     → ArePortsMarked rules first (number + 1) destination source to_new from_new words
-ports_more rules first number words destination source to from to_new from_new fast limit inside same grown more before within marked again facts k class other low high hit classed others =
+ports_more rules first number words destination source to from to_new from_new fast limit inside same grown more before within marked again facts k
+    class other low high hit classed others =
     by (cases_lt k number) where
       by : (k < number) ⊎ (number ≤ k) → max (bit_in to_new words class (k - first)) (bit_in from_new words other (k - first)) ≡ 1
       by (inl earlier) =
           either_on _ _ (bit_in to_new words class (k - first)) (bit_in from_new words other (k - first)) (bit_at-lt _ _) (bit_at-lt _ _)
-          (grown.kept (class * words + (k - first) / 64) ((k - first) % 64)) (more.kept (other * words + (k - first) / 64) ((k - first) % 64)) (before facts k class other low earlier hit classed others)
+          (grown.kept (class * words + (k - first) / 64) ((k - first) % 64)) (more.kept (other * words + (k - first) / 64) ((k - first) % 64))
+          (before facts k class other low earlier hit classed others)
       by (inr later) =
           let here : number ≡ k = omega (arith, later, high) in
           let holds : facts_hold facts fast ≡ true = subst (λ (f : Fast). facts_hold facts f ≡ true) (sym same)
@@ -95,6 +103,8 @@ ports_more rules first number words destination source to from to_new from_new f
           (set (allows limit (number_of facts 6)) (allows limit (number_of facts 5)) refl refl (within facts holds)) where
             set : (a b : Bool) → allows limit (number_of facts 6) ≡ a → allows limit (number_of facts 5) ≡ b → (a || b) ≡ true
                 → max (bit_in to_new words class (number - first)) (bit_in from_new words other (number - first)) ≡ 1
-            set true b e f t = let s : bit_in from_new words other (number - first) ≡ 1 = again (number_of facts 6) other e others in let l : bit_in to_new words class (number - first) < 2 = bit_at-lt _ _ in omega (arith, s, l)
-            set false true e f t = let s : bit_in to_new words class (number - first) ≡ 1 = marked (number_of facts 5) class f classed in let l : bit_in from_new words other (number - first) < 2 = bit_at-lt _ _ in omega (arith, s, l)
+            set true b e f t = let s : bit_in from_new words other (number - first) ≡ 1 = again (number_of facts 6) other e others in
+                let l : bit_in to_new words class (number - first) < 2 = bit_at-lt _ _ in omega (arith, s, l)
+            set false true e f t = let s : bit_in to_new words class (number - first) ≡ 1 = marked (number_of facts 5) class f classed in
+                let l : bit_in from_new words other (number - first) < 2 = bit_at-lt _ _ in omega (arith, s, l)
             set false false e f t = absurd (true≢false (sym t))

@@ -1,11 +1,15 @@
 -- The rules of a matcher put anew, one place after the other.
-use Rattle.fs_compile.proofs.Words.{◌≡◌, ℕ, true≢false, false, zero, suc, ◌<◌, ◌||◌, refl, sym, ap, Bool, true, cond, arith, get_or, length, Result, Ok, Err, IfOk, subst, ◌∙◌, List, [], ◌∷◌, filter, map, AllByRecursion, AllZip, Fast, StandsFor, Family, V4, V6, Listed, listed, Held, IsAdmitted, IsRuleOf, admitted, Change, Compiled, IsIndexOf, target_of, AreMadeWhereNoted, ArePut, StandsForLists, compiled_in, admitted_in, AreOwn, put_in, replaced, all_of_family, nesting}
+use Rattle.fs_compile.proofs.Words.{◌≡◌, ℕ, true≢false, false, zero, suc, ◌<◌, ◌||◌, refl, sym, ap, Bool, true, cond, arith, get_or, length, Result}
+use Rattle.fs_compile.proofs.Words.{Ok, Err, IfOk, subst, ◌∙◌, List, [], ◌∷◌, filter, map, AllByRecursion, AllZip, Fast, StandsFor, Family, V4, V6}
+use Rattle.fs_compile.proofs.Words.{Listed, listed, Held, IsAdmitted, IsRuleOf, admitted, Change, Compiled, IsIndexOf, target_of, AreMadeWhereNoted}
+use Rattle.fs_compile.proofs.Words.{ArePut, StandsForLists, compiled_in, admitted_in, AreOwn, put_in, replaced, all_of_family, nesting}
 use Rattle.std.{specs.Prelude.{⊤}, proofs.Math.Bool.{or-true}}
 use Rattle.fs_nlri.specs.Parts.{Ruled}
 use Rattle.fs_buckets.proofs.ListMending.{rules_to, AreLeft, left_first, left_fewer, left_none, own_last, own_here, own_put, listed_to}
 use Rattle.fs_rules.specs.Changes.{AdmitsElsewhere, IsOwn, Noted, is_noted, is_to, touched_by}
 
-pub stands_mended : (held : Held) (rules : Family → List Listed) (compiled : Compiled) → AreLeft [] held rules → StandsForLists rules compiled → StandsForLists (admitted_in held) compiled
+pub stands_mended : (held : Held) (rules : Family → List Listed) (compiled : Compiled) → AreLeft [] held rules → StandsForLists rules compiled
+    → StandsForLists (admitted_in held) compiled
 stands_mended held rules compiled left h = record {
   v4 = subst (λ rs. IsIndexOf V4 rs compiled.v4) (left_none held rules left V4) h.v4;
   v6 = subst (λ rs. IsIndexOf V6 rs compiled.v6) (left_none held rules left V6) h.v6;
@@ -36,13 +40,15 @@ or_second a false e = absurd (true≢false (sym e))
 or_first : (a b : Bool) → a ≡ true → (a || b) ≡ true
 or_first a b e = ap (λ c. c || b) e
 
-made_first : (noted : Noted) (rules : Family → List Listed) (compiled : Compiled) → StandsForLists rules compiled → AreMadeWhereNoted noted rules compiled compiled
+made_first : (noted : Noted) (rules : Family → List Listed) (compiled : Compiled) → StandsForLists rules compiled
+    → AreMadeWhereNoted noted rules compiled compiled
 made_first noted rules compiled h = λ family holds each.
     each_so (λ r fast. StandsFor r.rule fast) (λ r fast. (is_noted noted r.rule || holds fast) ≡ true) (λ fast. holds fast ≡ true)
     (λ r fast e. or_second (is_noted noted r.rule) (holds fast) e) (rules family) (compiled_in compiled family) (stand_in rules compiled h family) each
 
 -- where any rule may have changed all may be compiled anew
-pub made_all : (noted : Noted) (rules : Family → List Listed) (old new : Compiled) → noted.all ≡ true → StandsForLists rules new → AreMadeWhereNoted noted rules old new
+pub made_all : (noted : Noted) (rules : Family → List Listed) (old new : Compiled) → noted.all ≡ true → StandsForLists rules new
+    → AreMadeWhereNoted noted rules old new
 made_all noted rules old new all h = λ family holds each.
     each_so (λ r fast. StandsFor r.rule fast) (λ r fast. (is_noted noted r.rule || holds fast) ≡ true) (λ fast. ⊤)
     (λ r fast e. or_first (is_noted noted r.rule) (holds fast) (or_first noted.all (touched_by noted.places r.rule) all))
@@ -55,10 +61,13 @@ made_all noted rules old new all h = λ family holds each.
 touched_item : (places : List Change) (i : ℕ) (place : Change) → i < length places → place ≡ get_or places i place → (rule : Ruled)
     → is_to place.family place.destination rule ≡ true → touched_by places rule ≡ true
 touched_item [] i place below is rule e = absurd (omega (arith, below))
-touched_item (p ∷ ps) zero place below is rule e = or_first (is_to p.family p.destination rule) (touched_by ps rule) (ap (λ (q : Change). is_to q.family q.destination rule) (sym is) ∙ e)
-touched_item (p ∷ ps) (suc i) place below is rule e = or_second (is_to p.family p.destination rule) (touched_by ps rule) (touched_item ps i place (omega (arith, below)) is rule e)
+touched_item (p ∷ ps) zero place below is rule e =
+    or_first (is_to p.family p.destination rule) (touched_by ps rule) (ap (λ (q : Change). is_to q.family q.destination rule) (sym is) ∙ e)
+touched_item (p ∷ ps) (suc i) place below is rule e =
+    or_second (is_to p.family p.destination rule) (touched_by ps rule) (touched_item ps i place (omega (arith, below)) is rule e)
 
-pub noted_item : (noted : Noted) (places : List Change) (i : ℕ) (place : Change) → places ≡ noted.places → i < length places → place ≡ get_or places i place → (rule : Ruled)
+pub noted_item : (noted : Noted) (places : List Change) (i : ℕ) (place : Change) → places ≡ noted.places → i < length places
+    → place ≡ get_or places i place → (rule : Ruled)
     → is_to place.family place.destination rule ≡ true → is_noted noted rule ≡ true
 noted_item noted places i place e below is rule to =
     or_second noted.all (touched_by noted.places rule) (subst (λ ps. touched_by ps rule ≡ true) e (touched_item places i place below is rule to))
@@ -85,7 +94,8 @@ pub mends_next : (noted : Noted) (place : Change) (rest : List Change) (held : H
     → ((rule : Ruled) → is_to place.family place.destination rule ≡ true → is_noted noted rule ≡ true)
     → ((f : Family) → AllByRecursion (IsRuleOf f) (admitted f held)) → ((f : Family) → IsAdmitted f held (admitted f held))
     → list ≡ map listed (filter (λ r. is_to place.family place.destination r.rule) (admitted place.family held))
-    → ((rules : Family → List Listed) → StandsForLists rules old → ArePut list rules (put_in place.family (replaced (target_of place.destination) list (rules place.family)) rules) old new)
+    → ((rules : Family → List Listed) → StandsForLists rules old
+    → ArePut list rules (put_in place.family (replaced (target_of place.destination) list (rules place.family)) rules) old new)
     → Mends noted (place ∷ rest) held first old → Mends noted rest held first new
 mends_next noted place rest held first old new list here there own admits is puts m = (
   put_in place.family (replaced (target_of place.destination) news (m.0 place.family)) m.0,
@@ -117,4 +127,5 @@ mends_own noted held first now m = own_last held m.0 m.3 m.2
 
 pub mends_kept : (noted : Noted) (held : Held) (first now : Compiled) → Mends noted [] held first now → AreMadeWhereNoted noted (admitted_in held) first now
 mends_kept noted held first now m = λ family holds was.
-    subst (λ rs. AllZip (λ r fast. (is_noted noted r.rule || holds fast) ≡ true) rs (compiled_in now family)) (left_none held m.0 m.3 family) (m.4 family holds was)
+    subst (λ rs. AllZip (λ r fast. (is_noted noted r.rule || holds fast) ≡ true) rs (compiled_in now family)) (left_none held m.0 m.3 family)
+    (m.4 family holds was)

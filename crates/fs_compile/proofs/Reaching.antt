@@ -1,6 +1,11 @@
 -- Which packets the destination of a rule covers: those whose destination lies between its first and its last address. A
 -- rule matches no others.
-use Rattle.fs_compile.proofs.Words.{◌≡◌, ℕ, ◌-◌, ◌*◌, ◌^◌, ◌<◌, ◌≤◌, ◌==◌, ◌↔◌, refl, sym, ap, ap₂, subst, ◌∙◌, Bool, true, false, true≢false, cond, Option, Some, None, List, [], ◌∷◌, arith, list_all, eqb-true, eq-eqb, none-some, and_first, and_second, Family, V4, V6, Prefix, width_of, cleared, Body, V4Body, V6Body, ListBody, Part, Ruled, IsRule, IsNormalAt, AreNormal, destination_body, destination_in, destination_of, IsMade, destination_first, last_shown, Viewed, family_of, is_match, is_prefix_of, body_matches, part_matches, family_of_destination, IsSmallAddress, span_by, span_of, number_of, covers_address, reaches, made_destination, HasDestination, from_span}
+use Rattle.fs_compile.proofs.Words.{◌≡◌, ℕ, ◌-◌, ◌*◌, ◌^◌, ◌<◌, ◌≤◌, ◌==◌, ◌↔◌, refl, sym, ap, ap₂, subst, ◌∙◌, Bool, true, false, true≢false, cond}
+use Rattle.fs_compile.proofs.Words.{Option, Some, None, List, [], ◌∷◌, arith, list_all, eqb-true, eq-eqb, none-some, and_first, and_second, Family}
+use Rattle.fs_compile.proofs.Words.{V4, V6, Prefix, width_of, cleared, Body, V4Body, V6Body, ListBody, Part, Ruled, IsRule, IsNormalAt, AreNormal}
+use Rattle.fs_compile.proofs.Words.{destination_body, destination_in, destination_of, IsMade, destination_first, last_shown, Viewed, family_of}
+use Rattle.fs_compile.proofs.Words.{is_match, is_prefix_of, body_matches, part_matches, family_of_destination, IsSmallAddress, span_by, span_of}
+use Rattle.fs_compile.proofs.Words.{number_of, covers_address, reaches, made_destination, HasDestination, from_span}
 use Rattle.fs_base.{specs.declared.config.Address.{Address, TheVariants.{V4 as V4Address, V6 as V6Address}}, proofs.Addresses.{address_range}}
 use Rattle.fs_nlri.specs.Forms.{form_of}
 
@@ -17,7 +22,8 @@ number_below (V4Address a) h = h
 number_below (V6Address a) h = h
 
 -- A rule with a destination reaches those packets of its family whose destination is one of its addresses.
-pub span_reaches : (rule : Ruled) (view : Viewed) (p : ℕ × ℕ) → IsRule rule → rule.family ≡ view.family → family_of view.destination ≡ view.family → IsSmallAddress view.destination
+pub span_reaches : (rule : Ruled) (view : Viewed) (p : ℕ × ℕ) → IsRule rule → rule.family ≡ view.family → family_of view.destination ≡ view.family
+    → IsSmallAddress view.destination
     → span_of rule ≡ Some p → (reaches view rule ≡ true) ↔ ((p.0 ≤ number_of view.destination) × (number_of view.destination ≤ p.1))
 span_reaches rule view p h f g small s = (
   (λ r. subst (λ (x : ℕ × ℕ). (x.0 ≤ n) × (n ≤ x.1)) (sym found.span) (range.0 (eqb-true (cleared (width_of found.d.0) found.d.2 n) found.d.1 (sym is ∙ r)))),
@@ -46,7 +52,8 @@ bare_reaches rule view s = at (destination_of rule) s where
   at (Some d) e = absurd (none-some (d.1, last_shown d) (sym e))
 
 -- A rule matches only packets that it reaches.
-match_body : (family : Family) (body : Body) (address : Address) → IsNormalAt (form_of family 1) body → is_prefix_of body address ≡ true → covers_address (destination_body body) address ≡ true
+match_body : (family : Family) (body : Body) (address : Address) → IsNormalAt (form_of family 1) body → is_prefix_of body address ≡ true
+    → covers_address (destination_body body) address ≡ true
 match_body V4 (V4Body f l b) (V4Address a) h m = subst (λ x. (cleared (width_of x) l a == b) ≡ true) (sym h.0) m
 match_body V4 (V4Body f l b) (V6Address a) h m = absurd (true≢false (sym m))
 match_body V4 (V6Body l o b) address h m = absurd h
@@ -66,7 +73,8 @@ match_body V6 (V6Body l o b) (V6Address a) h m = at (o == 0) refl where
         once = omega arith
   at false e = refl
 
-first_body : (family : Family) (view : Viewed) (body : Body) → IsNormalAt (form_of family 1) body → body_matches view 1 body ≡ true → covers_address (destination_body body) view.destination ≡ true
+first_body : (family : Family) (view : Viewed) (body : Body) → IsNormalAt (form_of family 1) body → body_matches view 1 body ≡ true
+    → covers_address (destination_body body) view.destination ≡ true
 first_body family view (V4Body f l b) normal g = match_body family (V4Body f l b) view.destination normal g
 first_body family view (V6Body l o b) normal g = match_body family (V6Body l o b) view.destination normal g
 first_body V4 view (ListBody pairs) normal g = absurd normal
@@ -74,7 +82,8 @@ first_body V6 view (ListBody pairs) normal g = absurd normal
 
 pub match_reaches : (rule : Ruled) (view : Viewed) → IsRule rule → is_match rule view ≡ true → reaches view rule ≡ true
 match_reaches rule view h m = in_parts rule.parts h.normal (and_second _ _ m) where
-  in_parts : (parts : List Part) → AreNormal rule.family 0 parts → list_all (part_matches view) parts ≡ true → covers_address (destination_in parts) view.destination ≡ true
+  in_parts : (parts : List Part) → AreNormal rule.family 0 parts → list_all (part_matches view) parts ≡ true
+      → covers_address (destination_in parts) view.destination ≡ true
   in_parts [] n a = refl
   in_parts (x ∷ xs) n a = ap (λ o. covers_address o view.destination) (destination_first rule.family x xs n) ∙ at (x.kind == 1) refl where
     at : (c : Bool) → (x.kind == 1) ≡ c → covers_address (cond c (destination_body x.body) None) view.destination ≡ true

@@ -1,5 +1,8 @@
 -- The rules that a packet may match, by the bits of words.
-use Rattle.fs_compile.proofs.Words.{◌≡◌, ℕ, ◌+◌, ◌-◌, ◌*◌, ◌/◌, ◌%◌, ◌^◌, ◌<◌, ◌≤◌, ◌⊎◌, inl, inr, max, min, sym, subst, ap, ◌∙◌, Bool, true, false, bit_and, map, List, get_or, length, w64, arith, bit_at, trailing_zeros, cases_lt, get_or-map, bit_at-trailing_zeros, bit_at-zero, bit_at_and, bit_at_or, false_from, Rows, PortRows, Fast, ArePortRows, IsClass, IsRow, bit_in, words_for, Facts, AreRows, front_of, word_of, Missed, hits}
+use Rattle.fs_compile.proofs.Words.{◌≡◌, ℕ, ◌+◌, ◌-◌, ◌*◌, ◌/◌, ◌%◌, ◌^◌, ◌<◌, ◌≤◌, ◌⊎◌, inl, inr, max, min, sym, subst, ap, ◌∙◌, Bool, true, false}
+use Rattle.fs_compile.proofs.Words.{bit_and, map, List, get_or, length, w64, arith, bit_at, trailing_zeros, cases_lt, get_or-map}
+use Rattle.fs_compile.proofs.Words.{bit_at-trailing_zeros, bit_at-zero, bit_at_and, bit_at_or, false_from, Rows, PortRows, Fast, ArePortRows, IsClass}
+use Rattle.fs_compile.proofs.Words.{IsRow, bit_in, words_for, Facts, AreRows, front_of, word_of, Missed, hits}
 use Rattle.std.proofs.{Math.Nat.{div-div-eq-div-mul, div-le_self}, lemmas.Nat.{pow-add}}
 use Rattle.fs_ranges.specs.Facts.{number_of}
 
@@ -11,7 +14,8 @@ not_both : (n : ℕ) → n ≡ 1 → n ≡ 0 → ⊥
 not_both n set clear = omega (arith, set, clear)
 
 -- the lowest bit that is set, and those below it
-pub lowest : (rest : ℕ) → rest < 2 ^ 64 → 0 < rest → (trailing_zeros w64 rest < 64) × (bit_at rest (trailing_zeros w64 rest) ≡ 1) × ((i : ℕ) → i < trailing_zeros w64 rest → bit_at rest i ≡ 0)
+pub lowest : (rest : ℕ) → rest < 2 ^ 64 → 0 < rest → (trailing_zeros w64 rest < 64) × (bit_at rest (trailing_zeros w64 rest) ≡ 1)
+    × ((i : ℕ) → i < trailing_zeros w64 rest → bit_at rest i ≡ 0)
 lowest rest small some = bit_at-trailing_zeros w64 rest some small
 
 pub fits_shifted : (word n : ℕ) → word < 2 ^ 64 → word / 2 ^ n < 2 ^ 64
@@ -30,7 +34,8 @@ clear_in_both a b i h = bit_at_and a b i ∙ at (bit_at a i) (bit_at b i) h wher
 none_in_front : (front a b c i : ℕ) → front ≡ 0 → bit_at (bit_and (bit_and (bit_and front a) b) c) i ≡ 0
 none_in_front front a b c i h = clear_in_both _ c i (clear_in_both _ b i (clear_in_both front a i (ap (λ (n : ℕ). bit_at n i) h ∙ bit_at-zero i)))
 
-pub set_in_all : (tests : List Bool) (rows : Rows) (first to place k : ℕ) → AreRows tests first to rows → first + place * 64 ≤ k → k < first + place * 64 + 64 → k < to → get_or tests k false ≡ true
+pub set_in_all : (tests : List Bool) (rows : Rows) (first to place k : ℕ) → AreRows tests first to rows → first + place * 64 ≤ k
+    → k < first + place * 64 + 64 → k < to → get_or tests k false ≡ true
     → bit_at (word_of rows place) (k - (first + place * 64)) ≡ 1
 set_in_all tests rows first to place k are from within before hit =
     subst (λ (i : ℕ). bit_at (word_of rows i) (k - (first + place * 64)) ≡ 1) here
@@ -67,12 +72,14 @@ AreLeft tests rest number end = (k : ℕ) → number ≤ k → k < end → get_o
 pub left_first : (tests : List Bool) (word start from end : ℕ) → start ≤ from
     → ((k : ℕ) → from ≤ k → k < end → get_or tests k false ≡ true → bit_at word (k - start) ≡ 1) → AreLeft tests (word / 2 ^ (from - start)) from end
 left_first tests word start from end begins marked k above below hit =
-    shifted word (from - start) (k - from) ∙ ap (λ (i : ℕ). bit_at word i) (let e : from - start + (k - from) ≡ k - start = omega (arith, begins, above) in e) ∙ marked k above below hit
+    shifted word (from - start) (k - from)
+    ∙ ap (λ (i : ℕ). bit_at word i) (let e : from - start + (k - from) ≡ k - start = omega (arith, begins, above) in e) ∙ marked k above below hit
 
 pub left_next : (tests : List Bool) (rest number clear end : ℕ) → AreLeft tests rest number end → AreLeft tests (rest / 2 ^ clear / 2) (number + clear + 1) end
 left_next tests rest number clear end left k above below hit =
     shifted (rest / 2 ^ clear) 1 (k - (number + clear + 1)) ∙ shifted rest clear (1 + (k - (number + clear + 1)))
-    ∙ ap (λ (i : ℕ). bit_at rest i) (let e : clear + (1 + (k - (number + clear + 1))) ≡ k - number = omega (arith, above) in e) ∙ left k (omega (arith, above)) below hit
+    ∙ ap (λ (i : ℕ). bit_at rest i) (let e : clear + (1 + (k - (number + clear + 1))) ≡ k - number = omega (arith, above) in e)
+    ∙ left k (omega (arith, above)) below hit
 
 -- What has no bit doesn't match.
 pub missed_on : (tests : List Bool) (rest from end number clear : ℕ) → AreLeft tests rest number end → ((j : ℕ) → j < clear → bit_at rest j ≡ 0)
@@ -83,7 +90,8 @@ missed_on tests rest from end number clear left none missed k above below = by (
   by (inr later) = false_from (get_or tests k false) (λ hit.
       not_both (bit_at rest (k - number)) (left k later (omega (arith, below)) hit) (none (k - number) (omega (arith, later, below))))
 
-pub missed_all : (tests : List Bool) (rest from end number : ℕ) → rest ≡ 0 → AreLeft tests rest number end → Missed tests from (min number end) → Missed tests from end
+pub missed_all : (tests : List Bool) (rest from end number : ℕ) → rest ≡ 0 → AreLeft tests rest number end → Missed tests from (min number end)
+    → Missed tests from end
 missed_all tests rest from end number none left missed k above below =
     missed_on tests rest from end number end left (λ j _. ap (λ (n : ℕ). bit_at n j) none ∙ bit_at-zero j) missed k above (omega (arith, below))
 
@@ -110,15 +118,18 @@ fewer_rows tests first end to rows least are = record {
 pub port_set : (rules : List Fast) (facts : Facts) (first end words class other : ℕ) (destination source to from : List ℕ) (rows : PortRows)
     → words ≡ words_for (end - first) → ArePortRows rules first end destination source rows
     → IsClass destination (number_of facts 5) class → IsClass source (number_of facts 6) other
-    → ((k : ℕ) → k < words → get_or to k 0 ≡ get_or rows.to.items (class * words + k) 0) → ((k : ℕ) → k < words → get_or from k 0 ≡ get_or rows.from.items (other * words + k) 0)
+    → ((k : ℕ) → k < words → get_or to k 0 ≡ get_or rows.to.items (class * words + k) 0)
+    → ((k : ℕ) → k < words → get_or from k 0 ≡ get_or rows.from.items (other * words + k) 0)
     → (number : ℕ) → first ≤ number → number < end → get_or (hits facts rules) number false ≡ true
     → max (bit_at (get_or to ((number - first) / 64) 0) ((number - first) % 64)) (bit_at (get_or from ((number - first) / 64) 0) ((number - first) % 64)) ≡ 1
 port_set rules facts first end words class other destination source to from rows size are classed others tos froms number low below hit =
     (λ i. max (bit_at (tos ((number - first) / 64) inside i) ((number - first) % 64)) (bit_at (froms ((number - first) / 64) inside i) ((number - first) % 64)))
-    ∙ subst (λ (w : ℕ). max (bit_in rows.to.items w class (number - first)) (bit_in rows.from.items w other (number - first)) ≡ 1) (sym size) (are.marked facts number class other low below hit classed others) where
+    ∙ subst (λ (w : ℕ). max (bit_in rows.to.items w class (number - first)) (bit_in rows.from.items w other (number - first)) ≡ 1) (sym size)
+    (are.marked facts number class other low below hit classed others) where
       inside : (number - first) / 64 < words
       inside = omega (arith, size, low, below)
 
 -- a test that is passed is a rule that matches
-pub test_passes : {X : Type 0} (test : X → Bool) (xs : List X) (i : ℕ) (d : X) (r : Bool) → i < length xs → r ≡ test (get_or xs i d) → r ≡ true → get_or (map test xs) i false ≡ true
+pub test_passes : {X : Type 0} (test : X → Bool) (xs : List X) (i : ℕ) (d : X) (r : Bool) → i < length xs → r ≡ test (get_or xs i d) → r ≡ true
+    → get_or (map test xs) i false ≡ true
 test_passes test xs i d r below e t = get_or-map test xs i d false below ∙ sym e ∙ t

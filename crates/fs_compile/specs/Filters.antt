@@ -1,5 +1,6 @@
 -- Which rules of a long run a packet may match.
-use Rattle.std.specs.{Prelude.{◌≡◌, ℕ, ◌+◌, ◌-◌, ◌*◌, ◌/◌, ◌%◌, ◌<◌, ◌≤◌, max, Bool, true, false, List, get_or, length}, Int.{bit_at, RustNames.{bit_and, bit_or}}, List.{All}}
+use Rattle.std.specs.Prelude.{◌≡◌, ℕ, ◌+◌, ◌-◌, ◌*◌, ◌/◌, ◌%◌, ◌<◌, ◌≤◌, max, Bool, true, false, List, get_or, length}
+use Rattle.std.specs.{Int.{bit_at, RustNames.{bit_and, bit_or}}, List.{All}}
 use Rattle.fs_ranges.specs.declared.Fast.{Fast}
 use Rattle.fs_compile.specs.{declared.filters.{Filter.{Filter}, Filters.{Filters}, Rows.{Rows}}, Columns.{ArePortRows, IsColumn, IsRow}}
 
@@ -28,7 +29,8 @@ pub record AreRows (tests : List Bool) (first end : ℕ) (rows : Rows) : Type 0 
   pub to_port : end ≤ first + length rows.to_port.now * 64
   pub from_port : end ≤ first + length rows.from_port.now * 64
   pub ports : (number : ℕ) → first ≤ number → number < end → get_or tests number false ≡ true
-      → max (bit_at (get_or rows.to_port.now ((number - first) / 64) 0) ((number - first) % 64)) (bit_at (get_or rows.from_port.now ((number - first) / 64) 0) ((number - first) % 64)) ≡ 1
+      → max (bit_at (get_or rows.to_port.now ((number - first) / 64) 0) ((number - first) % 64))
+      (bit_at (get_or rows.from_port.now ((number - first) / 64) 0) ((number - first) % 64)) ≡ 1
   pub length : IsRow tests first end rows.length.now
 
 -- the rows have a word at the place

@@ -1,5 +1,7 @@
 -- The search for an address through buckets.
-use Rattle.std.specs.{Prelude.{◌≡◌, ℕ, ◌+◌, ◌-◌, ◌<◌, ◌≤◌, Bool, true, false, Option, Some, None, MatchOption, option_map, List, length, take, get_or, map}, List.{count_by}}
+use Rattle.std.specs.Prelude.{◌≡◌, ℕ, ◌+◌, ◌-◌, ◌<◌, ◌≤◌, Bool, true, false, Option, Some, None, MatchOption, option_map, List, length, take, get_or}
+use Rattle.std.specs.Prelude.{map}
+use Rattle.std.specs.List.{count_by}
 use Rattle.fs_buckets.specs.{declared.{Buckets.{Buckets}, Node.{Node}}, Addresses.{numbers_in, nodes_in}, Buckets.{node_at}}
 use Rattle.fs_ranges.specs.{declared.Fast.{Fast}, Facts.{Facts}, Fast.{facts_hold}}
 use Rattle.fs_compile.specs.declared.search.{Hit.{Hit}, Cursor.{Cursor}}

@@ -2,7 +2,8 @@
 
 ghost use Rattle.std.specs.{Prelude.{◌≡◌, ℕ, ◌+◌, ◌-◌, ◌*◌, ◌/◌, ◌^◌, ◌<◌, ◌≤◌, true, IfOk, List, get_or, length}, Int.{bit_at}};
 ghost use Rattle.fs_buckets.specs.Buckets.{AreRising};
-ghost use Rattle.fs_compile.specs.{Columns.{AreMarked, ArePortRows, ArePortsMarked, AreRowsOf, Grown, IsClass, IsColumn, IsRow, bit_in, words_for}, Search.{hits}};
+ghost use Rattle.fs_compile.specs.Columns.{AreMarked, ArePortRows, ArePortsMarked, AreRowsOf, Grown, IsClass, IsColumn, IsRow, bit_in, words_for};
+ghost use Rattle.fs_compile.specs.Search.{hits};
 ghost use Rattle.fs_ranges.specs.{Limits.{allows}, Facts.{Facts, key_of}, Spans.{contains, is_in}};
 
 use fs_base::Memory;

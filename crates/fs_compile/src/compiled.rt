@@ -3,7 +3,9 @@
 ghost use Rattle.std.specs.{Prelude.{◌≡◌, ◌≤◌, ◌+◌, IfOk, List, OnOk, length, max}, List.{AllByRecursion}};
 ghost use Rattle.fs_base.specs.declared.prefix.Family.{Family, TheVariants.{V4, V6}};
 ghost use Rattle.fs_rules.specs.{Changes.{Covers}, Lent.{Listed, all_admitted}, Table.{Held}};
-ghost use Rattle.fs_compile.specs.{Index.{IsIndexOf, actions_of}, Mending.{AreOwn, put_in, replaced}, Matcher.{AreMadeWhereNoted, ArePut, StandsForLists, WalksByNext, admitted_in, next_from}, Matches.{AreMatchesOf}, Reach.{reaching}};
+ghost use Rattle.fs_compile.specs.{Index.{IsIndexOf, actions_of}, Mending.{AreOwn, put_in, replaced}};
+ghost use Rattle.fs_compile.specs.Matcher.{AreMadeWhereNoted, ArePut, StandsForLists, WalksByNext, admitted_in, next_from};
+ghost use Rattle.fs_compile.specs.{Matches.{AreMatchesOf}, Reach.{reaching}};
 ghost use Rattle.fs_buckets.specs.Destinations.{IsOfFamily, spans_of, AreTo, target_of};
 
 use crate::index::Index;

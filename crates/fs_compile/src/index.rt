@@ -4,9 +4,12 @@ ghost use Rattle.std.specs.{Prelude.{◌≡◌, ◌≤◌, ◌+◌, ◌<◌, ◌
 ghost use Rattle.fs_base.specs.declared.prefix.Family.{Family};
 ghost use Rattle.fs_packet.specs.Fields.{Viewed};
 ghost use Rattle.fs_rules.specs.Lent.{Listed, all_admitted};
-ghost use Rattle.fs_buckets.specs.{Addresses.{number_of}, Housed.{AreSound}, Destinations.{AreTo, IsOfFamily, IsStretch, spans_of, target_of}, Runs.{AreNesting}};
+ghost use Rattle.fs_buckets.specs.{Addresses.{number_of}, Housed.{AreSound}};
+ghost use Rattle.fs_buckets.specs.Destinations.{AreTo, IsOfFamily, IsStretch, spans_of, target_of};
+ghost use Rattle.fs_buckets.specs.Runs.{AreNesting};
 ghost use Rattle.fs_ranges.specs.{Facts.{AreFacts}, declared.Fast.{Fast}};
-ghost use Rattle.fs_compile.specs.{Filters.{AreFilters, IsFilter}, Index.{IsIndexOf, IsMended, StandForEach, actions_of}, Mending.{replaced}, Matcher.{next_from}, Reach.{reaching_behind, reaching_from}, Search.{Starts, behind_hit, hit_number}};
+ghost use Rattle.fs_compile.specs.{Filters.{AreFilters, IsFilter}, Index.{IsIndexOf, IsMended, StandForEach, actions_of}, Mending.{replaced}};
+ghost use Rattle.fs_compile.specs.{Matcher.{next_from}, Reach.{reaching_behind, reaching_from}, Search.{Starts, behind_hit, hit_number}};
 
 use crate::filters::{FEW_RULES, Filter, Filters};
 use crate::search::{Cursor, Hit, climb, place_behind, place_from};

@@ -3,7 +3,9 @@
 
 ghost use Rattle.std.specs.Prelude.{◌≡◌, ◌<◌, ◌≤◌, ◌+◌, ◌-◌, ◌^◌, List, Bool, get_or, length, max, IfSome, MatchOption};
 ghost use Rattle.fs_buckets.specs.{Addresses.{numbers_in, number_of}, Housed.{AreSound}};
-ghost use Rattle.fs_compile.specs.{Filters.{AreFilters}, Search.{Found, IsNear, Missed, Scanned, Starts, Within, behind_hit, hit_number, hits, marked, parent_at, start_at, tested_to}};
+ghost use Rattle.fs_compile.specs.Filters.{AreFilters};
+ghost use Rattle.fs_compile.specs.Search.{Found, IsNear, Missed, Scanned, Starts, Within, behind_hit, hit_number, hits, marked, parent_at, start_at};
+ghost use Rattle.fs_compile.specs.Search.{tested_to};
 
 use crate::filters::{FEW_RULES, Filters};
 use fs_base::{Address, Steps};

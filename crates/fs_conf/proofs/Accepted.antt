@@ -1,5 +1,12 @@
 -- What the numbers of an accepted configuration are.
-use Rattle.fs_conf.proofs.{Words.{◌≡◌, ℕ, ◌⊎◌, ◌<◌, ◌≤◌, ◌==◌, ◌^◌, nat_le, true, false, not, ◌&&◌, ◌||◌, List, [], ◌∷◌, Option, Some, None, subst, arith, ◌≢◌, codes, pos, negsuc, option_and_then, AllByRecursion, and_parts, leb-true, same_Some, and_then_some, cond_some, map_some, Data, string, integer, float, boolean, datetime, array, table, as_array, as_str, as_table, Items, no_items, item, Members, get_member, Config, Peer, address_of, ipv4_octets_of, ipv4_of, are_peers, as_number, config_keys, config_of_document, config_of_members, hold_time_in, identifier, limit_in, peer_keys, peer_of_data, peer_of_members, peer_of_table, peers_in, peers_of_items, written, document_of, flag_or, keys_among, number_in, number_or, AcceptsNumbers, HasNumbers, HasPeerNumbers}, DottedText.{ipv4_octets_of_sound}, Found.{cond_within}}
+use Rattle.fs_conf.proofs.Words.{◌≡◌, ℕ, ◌⊎◌, ◌<◌, ◌≤◌, ◌==◌, ◌^◌, nat_le, true, false, not, ◌&&◌, ◌||◌, List, [], ◌∷◌, Option, Some, None, subst}
+use Rattle.fs_conf.proofs.Words.{arith, ◌≢◌, codes, pos, negsuc, option_and_then, AllByRecursion, and_parts, leb-true, same_Some, and_then_some}
+use Rattle.fs_conf.proofs.Words.{cond_some, map_some, Data, string, integer, float, boolean, datetime, array, table, as_array, as_str, as_table}
+use Rattle.fs_conf.proofs.Words.{Items, no_items, item, Members, get_member, Config, Peer, address_of, ipv4_octets_of, ipv4_of, are_peers, as_number}
+use Rattle.fs_conf.proofs.Words.{config_keys, config_of_document, config_of_members, hold_time_in, identifier, limit_in, peer_keys, peer_of_data}
+use Rattle.fs_conf.proofs.Words.{peer_of_members, peer_of_table, peers_in, peers_of_items, written, document_of, flag_or, keys_among, number_in}
+use Rattle.fs_conf.proofs.Words.{number_or, AcceptsNumbers, HasNumbers, HasPeerNumbers}
+use Rattle.fs_conf.proofs.{DottedText.{ipv4_octets_of_sound}, Found.{cond_within}}
 use Rattle.std.{specs.Int.{w32, from_be_bytes}, proofs.lemmas.Bool.Decides.{nat_tests}}
 
 -- numbers
@@ -37,7 +44,8 @@ ipv4_small text id e =
 
 -- what stands at a key
 
-pub written_reads : {A : Type 0} (read : List ℕ → Option A) (found : Option Data) (value : A) → written read found ≡ Some value → (text : List ℕ) × (read text ≡ Some value)
+pub written_reads : {A : Type 0} (read : List ℕ → Option A) (found : Option Data) (value : A) → written read found ≡ Some value
+    → (text : List ℕ) × (read text ≡ Some value)
 written_reads read found value e = and_then_some read (option_and_then as_str found) value e λ text is same. (text, same)
 
 pub written_small : (found : Option Data) (id : ℕ) → written ipv4_of found ≡ Some id → id < 2 ^ 32

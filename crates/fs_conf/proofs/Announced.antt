@@ -1,5 +1,14 @@
 -- What an accepted rules file says is to be sent.
-use Rattle.fs_conf.proofs.{Words.{◌≡◌, ℕ, ◌<◌, ◌^◌, nat_le, nat_lt, Bool, ◌&&◌, true, false, if◌then◌else◌, List, [], Option, Some, None, Result, Ok, Err, length, refl, sym, ap, subst, ◌∙◌, arith, codes, option_and_then, AllByRecursion, list_all, and_parts, leb-true, none-some, same_Some, and_then_some, cond_some, map_some, Data, Items, Members, as_array, as_str, as_table, get_member, item, no_items, Config, Peer, Family, IsOctets, each_weaker, octets_from, Ruled, IsRule, Sent, ipv4_of, kept_if, written, document_of, each_item, keys_among, AcceptsRules, HasRules, are_single, as_path_in, file_keys, number_of, rules_in, sendable, sending_of_document, sending_of_members, actions_in, actions_written, family_of, if_ok, listed_actions, octets_of, rule_keys, rule_of, rule_written, sent_of_data, sent_of_members, sent_of_table, sent_of_text, text_keys, all_each}, Accepted.{as_within, written_reads, written_small}, Found.{cond_within}, ListedActions.{listed_are}, TextSought.{rule_is, text_found}}
+use Rattle.fs_conf.proofs.Words.{◌≡◌, ℕ, ◌<◌, ◌^◌, nat_le, nat_lt, Bool, ◌&&◌, true, false, if◌then◌else◌, List, [], Option, Some, None, Result, Ok}
+use Rattle.fs_conf.proofs.Words.{Err, length, refl, sym, ap, subst, ◌∙◌, arith, codes, option_and_then, AllByRecursion, list_all, and_parts, leb-true}
+use Rattle.fs_conf.proofs.Words.{none-some, same_Some, and_then_some, cond_some, map_some, Data, Items, Members, as_array, as_str, as_table}
+use Rattle.fs_conf.proofs.Words.{get_member, item, no_items, Config, Peer, Family, IsOctets, each_weaker, octets_from, Ruled, IsRule, Sent, ipv4_of}
+use Rattle.fs_conf.proofs.Words.{kept_if, written, document_of, each_item, keys_among, AcceptsRules, HasRules, are_single, as_path_in, file_keys}
+use Rattle.fs_conf.proofs.Words.{number_of, rules_in, sendable, sending_of_document, sending_of_members, actions_in, actions_written, family_of}
+use Rattle.fs_conf.proofs.Words.{if_ok, listed_actions, octets_of, rule_keys, rule_of, rule_written, sent_of_data, sent_of_members, sent_of_table}
+use Rattle.fs_conf.proofs.Words.{sent_of_text, text_keys, all_each}
+use Rattle.fs_conf.proofs.{Accepted.{as_within, written_reads, written_small}, Found.{cond_within}, ListedActions.{listed_are}}
+use Rattle.fs_conf.proofs.TextSought.{rule_is, text_found}
 use Rattle.hex.{specs.{Hex.{decode_of}, declared.error.FromHexError.{FromHexError}}, proofs.HexLemmas.{decode_of-ok}}
 use Rattle.fs_attrs.proofs.RulesRead.{outcome_is}
 use Rattle.fs_speaker.specs.{declared.Sending.{Sending}, Laws.{IsSent}, Sending.{is_sending, is_short, sender_of}, Transition.{terms_of}}
@@ -123,7 +132,8 @@ members_rules config members sending is =
       id = written_small (get_member (codes "id") members) id id_is;
       numbers = record {
         few = leb-true (length numbers) 255 few.0;
-        each = each_weaker IsAs (λ (asn : ℕ). asn < 2 ^ 32) (λ asn is_as. is_as.0) numbers (found_numbers (get_member (codes "as_path") members) numbers numbers_are);
+        each = each_weaker IsAs (λ (asn : ℕ). asn < 2 ^ 32) (λ asn is_as. is_as.0) numbers
+            (found_numbers (get_member (codes "as_path") members) numbers numbers_are);
       };
       rules = found_rules (get_member (codes "rule") members) rules rules_are;
       short = λ other is_other.

@@ -1,5 +1,6 @@
 -- The canonical frame of a rule: how many octets it has.
-use Rattle.fs_conf.proofs.Words.{ℕ, ◌+◌, ◌/◌, ◌%◌, ◌≤◌, Bool, true, false, [], ◌∷◌, length, arith, length-append, Ruled, IsRule, canonical_frame, canonical_length, canonical_value}
+use Rattle.fs_conf.proofs.Words.{ℕ, ◌+◌, ◌/◌, ◌%◌, ◌≤◌, Bool, true, false, [], ◌∷◌, length, arith, length-append, Ruled, IsRule, canonical_frame}
+use Rattle.fs_conf.proofs.Words.{canonical_length, canonical_value}
 use Rattle.std.specs.Prelude.{nat_lt, if◌then◌else◌}
 
 -- one octet or two say the length

@@ -1,6 +1,14 @@
 -- The texts of std's grammar of IPv6 without a dot are those whose groups `ipv6_groups_of` gives.
 use Rattle.std.proofs.Common.{take-append-drop, option_and_then, codes, leb-true}
-use Rattle.fs_conf.proofs.{Words.{◌≡◌, ℕ, ◌+◌, ◌-◌, ◌<◌, ◌==◌, nat_lt, nat_le, ◌&&◌, Bool, true, false, if◌then◌else◌, List, [], ◌∷◌, ◌++◌, length, take, drop, replicate, Option, Some, None, option_map, decimal, refl, sym, ap, ◌∙◌, arith, inl, inr, append_assoc, append-nil, lt-ltb, ltb-true, le-leb, eqb-true, eq-eqb, lit≤, and_from, and_parts, none-some, same_Some, bytes_eq-Decides, cond_some, and_then_some, map_some, same_parts, digit_value, is_digit, list_all, IsDotted, IsGroup, IsGroupsAfter, IsGroups, IsColonHex, bytes_eq, AllDigits, digits_value, dot, colon, fields_of, each_of, exactly, group_of, groups_of, around_double_colon, ipv6_form_2, ipv6_groups_of}, DottedText.{regrouped}, Separated.{each_after, joined, joined-fields_of, fields_some, Lacks, Lacks-not_among, Lacks-back, Lacks-front, Lacks-AllDigits, fields_of-end, fields_of-append}}
+use Rattle.fs_conf.proofs.Words.{◌≡◌, ℕ, ◌+◌, ◌-◌, ◌<◌, ◌==◌, nat_lt, nat_le, ◌&&◌, Bool, true, false, if◌then◌else◌, List, [], ◌∷◌, ◌++◌, length}
+use Rattle.fs_conf.proofs.Words.{take, drop, replicate, Option, Some, None, option_map, decimal, refl, sym, ap, ◌∙◌, arith, inl, inr, append_assoc}
+use Rattle.fs_conf.proofs.Words.{append-nil, lt-ltb, ltb-true, le-leb, eqb-true, eq-eqb, lit≤, and_from, and_parts, none-some, same_Some}
+use Rattle.fs_conf.proofs.Words.{bytes_eq-Decides, cond_some, and_then_some, map_some, same_parts, digit_value, is_digit, list_all, IsDotted, IsGroup}
+use Rattle.fs_conf.proofs.Words.{IsGroupsAfter, IsGroups, IsColonHex, bytes_eq, AllDigits, digits_value, dot, colon, fields_of, each_of, exactly}
+use Rattle.fs_conf.proofs.Words.{group_of, groups_of, around_double_colon, ipv6_form_2, ipv6_groups_of}
+use Rattle.fs_conf.proofs.DottedText.{regrouped}
+use Rattle.fs_conf.proofs.Separated.{each_after, joined, joined-fields_of, fields_some, Lacks, Lacks-not_among, Lacks-back, Lacks-front}
+use Rattle.fs_conf.proofs.Separated.{Lacks-AllDigits, fields_of-end, fields_of-append}
 
 all_digits : (text : List ℕ) → list_all (λ octet. is_digit octet 16) text ≡ true → AllDigits 16 text
 all_digits [] h = tt
@@ -25,14 +33,16 @@ group_of_sound text n e =
     (((ltb-true 0 (length text) some, all_digits text digits), same), leb-true (length text) 4 short)
 
 -- the groups of fields are groups in std's grammar
-each_after_groups : (ipv4 : Bool) (fields : List (List ℕ)) (groups : List ℕ) → each_of group_of fields ≡ Some groups → IsGroupsAfter ipv4 (codes ":") (each_after colon fields) groups
+each_after_groups : (ipv4 : Bool) (fields : List (List ℕ)) (groups : List ℕ) → each_of group_of fields ≡ Some groups
+    → IsGroupsAfter ipv4 (codes ":") (each_after colon fields) groups
 each_after_groups ipv4 [] groups e = rw (← same_Some [] groups e) refl
 each_after_groups ipv4 (field ∷ fields) groups e =
     and_then_some _ (group_of field) _ e λ n read kept.
     map_some _ (each_of group_of fields) _ kept λ more rest same.
     rw (← same) (inl (field, each_after colon fields, refl, group_of_sound field n read, each_after_groups ipv4 fields more rest))
 
-joined_groups : (ipv4 : Bool) (fields : List (List ℕ)) (groups : List ℕ) → 0 < length fields → each_of group_of fields ≡ Some groups → IsGroups ipv4 (joined colon fields) groups
+joined_groups : (ipv4 : Bool) (fields : List (List ℕ)) (groups : List ℕ) → 0 < length fields → each_of group_of fields ≡ Some groups
+    → IsGroups ipv4 (joined colon fields) groups
 joined_groups ipv4 [] groups some e = absurd (omega arith)
 joined_groups ipv4 (field ∷ fields) groups some e =
     and_then_some _ (group_of field) _ e λ n read kept.
@@ -69,7 +79,8 @@ behind_from ipv4 text (n ∷ groups) lacks (inr (last, octets, allowed, spelled,
     absurd (dotted_has_dot last octets dotted (Lacks-back dot (58 ∷ []) last (rw spelled at lacks)))
 
 -- the fields of a group and of what stands behind it
-fields_from : (field rest : List ℕ) (n : ℕ) (groups : List ℕ) → IsGroup field n → Behind rest groups → each_of group_of (fields_of colon (field ++ rest)) ≡ Some (n ∷ groups)
+fields_from : (field rest : List ℕ) (n : ℕ) (groups : List ℕ) → IsGroup field n → Behind rest groups
+    → each_of group_of (fields_of colon (field ++ rest)) ≡ Some (n ∷ groups)
 fields_from field _ n _ is_group at_end =
     rw (append-nil field, fields_of-end colon field (no_colon field n is_group), group_of_complete field n is_group)
 fields_from field _ n _ is_group (behind group more m left is_next h) =
@@ -127,7 +138,8 @@ around_next : (group rest : List ℕ) (n : ℕ) → IsGroup group n → around_d
 around_next [] rest n is_group = absurd (omega (arith, is_group.0.0.0))
 around_next (octet ∷ group) rest n is_group =
     let lacks = no_colon (octet ∷ group) n is_group in
-    rw (no_double_next octet (group ++ rest) lacks.0, around_field (octet ∷ group) rest lacks) (prepend-append (58 ∷ []) (octet ∷ group) (around_double_colon rest))
+    rw (no_double_next octet (group ++ rest) lacks.0, around_field (octet ∷ group) rest lacks)
+    (prepend-append (58 ∷ []) (octet ∷ group) (around_double_colon rest))
 
 around_behind : (text groups rest : List ℕ) → Behind text groups → around_double_colon (text ++ rest) ≡ prepend text (around_double_colon rest)
 around_behind _ _ rest at_end = prepend-nil (around_double_colon rest)
@@ -169,7 +181,8 @@ ipv6_groups_of_complete text groups lacks (inr h) =
 
 around_by_test : (b : Bool) (octet : ℕ) (text front back : List ℕ) (found : Option (List ℕ × List ℕ)) → bytes_eq (take 2 (octet ∷ text)) (codes "::") ≡ b
     → ((head tail : List ℕ) → found ≡ Some (head, tail) → text ≡ head ++ 58 ∷ 58 ∷ tail)
-    → (let here : Option (List ℕ × List ℕ) = Some ([], drop 1 text) in if b then here else option_map (λ sides. (octet ∷ sides.0, sides.1)) found) ≡ Some (front, back)
+    → (let here : Option (List ℕ × List ℕ) = Some ([], drop 1 text) in if b then here else option_map (λ sides. (octet ∷ sides.0, sides.1)) found)
+    ≡ Some (front, back)
     → octet ∷ text ≡ front ++ 58 ∷ 58 ∷ back
 around_by_test true octet text front back found test rest e =
     let (no_front, is_back) = same_parts [] front (drop 1 text) back e in
@@ -209,7 +222,8 @@ form_2_sound text front back groups spelled e =
       value = sym same;
     })
 
-by_sides : (text groups : List ℕ) (found : Option (List ℕ × List ℕ)) → around_double_colon text ≡ found → ipv6_groups_of text ≡ Some groups → IsColonHex text groups
+by_sides : (text groups : List ℕ) (found : Option (List ℕ × List ℕ)) → around_double_colon text ≡ found → ipv6_groups_of text ≡ Some groups
+    → IsColonHex text groups
 by_sides text groups None e h = form_1_sound text groups (rw e at h)
 by_sides text groups (Some sides) e h = form_2_sound text sides.0 sides.1 groups (around_sound text sides.0 sides.1 e) (rw e at h)
 

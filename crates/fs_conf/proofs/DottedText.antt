@@ -1,5 +1,8 @@
 -- The dotted texts of std's grammar are those whose octets `ipv4_octets_of` gives.
-use Rattle.fs_conf.proofs.{Words.{◌≡◌, ℕ, ◌<◌, ◌==◌, nat_lt, ◌&&◌, List, [], ◌∷◌, ◌++◌, length, get_or, map, Some, decimal, refl, arith, append_assoc, append-nil, lt-ltb, ltb-true, eqb-true, lit≤, and_parts, same_Some, bytes_eq-Decides, cond_some, and_then_some, map_some, IsDotted, bytes_eq, digits_value, dot, fields_of, each_of, decimal_octet, ipv4_octets_of}, Separated.{joined, joined-fields_of, Lacks, Lacks-AllDigits, fields_of-end, fields_of-append}}
+use Rattle.fs_conf.proofs.Words.{◌≡◌, ℕ, ◌<◌, ◌==◌, nat_lt, ◌&&◌, List, [], ◌∷◌, ◌++◌, length, get_or, map, Some, decimal, refl, arith, append_assoc}
+use Rattle.fs_conf.proofs.Words.{append-nil, lt-ltb, ltb-true, eqb-true, lit≤, and_parts, same_Some, bytes_eq-Decides, cond_some, and_then_some}
+use Rattle.fs_conf.proofs.Words.{map_some, IsDotted, bytes_eq, digits_value, dot, fields_of, each_of, decimal_octet, ipv4_octets_of}
+use Rattle.fs_conf.proofs.Separated.{joined, joined-fields_of, Lacks, Lacks-AllDigits, fields_of-end, fields_of-append}
 use Rattle.std.{proofs.{lemmas.Fmt.{decimal_is_IsNumeral}, NetLemmas.Arrays.{four_items}}, specs.Net.Text.{dotted_text}}
 
 decimal_octet-decimal : (n : ℕ) → n < 256 → decimal_octet (decimal n) ≡ Some n
@@ -20,7 +23,8 @@ no_dot n small = Lacks-AllDigits dot 10 (decimal n) (lit≤ tt) (decimal_is_IsNu
 pub regrouped : (a b c d : ℕ) → dotted_text a b c d ≡ decimal a ++ 46 ∷ (decimal b ++ 46 ∷ (decimal c ++ 46 ∷ decimal d))
 regrouped a b c d = simp append_assoc
 
-four_fields : (a b c d : ℕ) → (a < 256) × (b < 256) × (c < 256) × (d < 256) → fields_of dot (dotted_text a b c d) ≡ decimal a ∷ decimal b ∷ decimal c ∷ decimal d ∷ []
+four_fields : (a b c d : ℕ) → (a < 256) × (b < 256) × (c < 256) × (d < 256)
+    → fields_of dot (dotted_text a b c d) ≡ decimal a ∷ decimal b ∷ decimal c ∷ decimal d ∷ []
 four_fields a b c d fit =
     rw (
       regrouped a b c d,
@@ -50,7 +54,8 @@ AllSmall (n ∷ numbers) = (n < 256) × AllSmall numbers
 abbrev AreDecimal : List (List ℕ) → List ℕ → Type 0
 AreDecimal fields numbers = (fields ≡ map decimal numbers) × AllSmall numbers
 
-more_decimal : (field : List ℕ) (fields : List (List ℕ)) (n : ℕ) (more : List ℕ) → (n < 256) × (field ≡ decimal n) → AreDecimal fields more → AreDecimal (field ∷ fields) (n ∷ more)
+more_decimal : (field : List ℕ) (fields : List (List ℕ)) (n : ℕ) (more : List ℕ) → (n < 256) × (field ≡ decimal n) → AreDecimal fields more
+    → AreDecimal (field ∷ fields) (n ∷ more)
 more_decimal field fields n more first rest = (rw (first.1, rest.0), (first.0, rest.1))
 
 each_of_decimal : (fields : List (List ℕ)) (numbers : List ℕ) → each_of decimal_octet fields ≡ Some numbers → AreDecimal fields numbers

@@ -1,8 +1,21 @@
 -- A document has a fault exactly where it is no configuration.
-use Rattle.fs_conf.proofs.{Words.{◌≡◌, ◌≢◌, ℕ, suc, ◌==◌, nat_le, Bool, true, false, not, ◌&&◌, ◌||◌, if◌then◌else◌, List, [], ◌∷◌, ◌++◌, map, length, Option, Some, None, refl, sym, ap, ◌∙◌, codes, option_map, option_and_then, is_some, list_any, bytes_eq, Data, Items, no_items, item, Members, no_members, as_table, get_member, Peer, address_of, are_distinct, are_peers, as_number, config_keys, config_of_document, config_of_members, hold_time_in, identifier, kept_if, limit_in, peer_keys, peer_of_data, peer_of_members, peer_of_table, peers_in, peers_of_items, written, flag_or, keys_among, number_in, and_then_some, map_some, same_Some}, Found.{cond_within}}
+use Rattle.fs_conf.proofs.Words.{◌≡◌, ◌≢◌, ℕ, suc, ◌==◌, nat_le, Bool, true, false, not, ◌&&◌, ◌||◌, if◌then◌else◌, List, [], ◌∷◌, ◌++◌, map, length}
+use Rattle.fs_conf.proofs.Words.{Option, Some, None, refl, sym, ap, ◌∙◌, codes, option_map, option_and_then, is_some, list_any, bytes_eq, Data, Items}
+use Rattle.fs_conf.proofs.Words.{no_items, item, Members, no_members, as_table, get_member, Peer, address_of, are_distinct, are_peers, as_number}
+use Rattle.fs_conf.proofs.Words.{config_keys, config_of_document, config_of_members, hold_time_in, identifier, kept_if, limit_in, peer_keys}
+use Rattle.fs_conf.proofs.Words.{peer_of_data, peer_of_members, peer_of_table, peers_in, peers_of_items, written, flag_or, keys_among, number_in}
+use Rattle.fs_conf.proofs.Words.{and_then_some, map_some, same_Some}
+use Rattle.fs_conf.proofs.Found.{cond_within}
 use Rattle.std.specs.{Option.{option_or}, Prelude.{◌↔◌}}
 use Rattle.toml.specs.Data.{member}
-use Rattle.fs_conf.specs.{Config.{config_of}, declared.{fault.{ConfigFault.{ConfigFault, TheVariants.{Key, Memory as NoMemory, Text as NoDocument}}, KeyReason.TheVariants.{Unknown, Value}}, faults.Kind.{Kind, TheVariants.{Array, Boolean, Integer, Text}}}, Fault.{Check, IsFirstFault, KeyFault, KeyUnfit, array_fault, array_in, config_fault, document_checks, each_peer, first_again, first_of, first_other, item_count, items_fault, judged, keys_of_peer, number_of_peer, numbers_of_peers, own_fault, peer_checks, peer_fault, peers_fault, reason_at, repeated, unfit, unknown}, Laws.{NamesTheFault}}
+use Rattle.fs_conf.specs.Config.{config_of}
+use Rattle.fs_conf.specs.declared.fault.ConfigFault.{ConfigFault, TheVariants.{Key, Memory as NoMemory, Text as NoDocument}}
+use Rattle.fs_conf.specs.declared.fault.KeyReason.TheVariants.{Unknown, Value}
+use Rattle.fs_conf.specs.declared.faults.Kind.{Kind, TheVariants.{Array, Boolean, Integer, Text}}
+use Rattle.fs_conf.specs.Fault.{Check, IsFirstFault, KeyFault, KeyUnfit, array_fault, array_in, config_fault, document_checks, each_peer, first_again}
+use Rattle.fs_conf.specs.Fault.{first_of, first_other, item_count, items_fault, judged, keys_of_peer, number_of_peer, numbers_of_peers, own_fault}
+use Rattle.fs_conf.specs.Fault.{peer_checks, peer_fault, peers_fault, reason_at, repeated, unfit, unknown}
+use Rattle.fs_conf.specs.Laws.{NamesTheFault}
 
 -- nothing was found
 abbrev pub is_clear : {A : Type 0} → Option A → Bool
@@ -41,7 +54,8 @@ pub clear_other : (names : List (List ℕ)) (members : Members) → is_clear (fi
 clear_other names no_members = refl
 clear_other names (member key value rest) = by (list_any (λ name. bytes_eq name key) names) (clear_other names rest)
   where
-    by : (b : Bool) → is_clear (first_other names rest) ≡ keys_among names rest → is_clear (if b then first_other names rest else Some key) ≡ (b && keys_among names rest)
+    by : (b : Bool) → is_clear (first_other names rest) ≡ keys_among names rest
+        → is_clear (if b then first_other names rest else Some key) ≡ (b && keys_among names rest)
     by true more = more
     by false more = refl
 
@@ -61,10 +75,17 @@ if_keys false found p e = refl
 
 peer_clear : (members : Members) → is_clear (first_of peer_checks members) ≡ is_some (peer_of_table members)
 peer_clear members =
-    clear_first (unknown peer_keys) (judged (codes "number") Integer (number_in 1 65535) ∷ judged (codes "address") Text (written address_of) ∷ judged (codes "as") Integer as_number ∷ judged (codes "max_routes") Integer limit_in ∷ []) members _ _ (clear_unknown peer_keys members)
-    (clear_first (judged (codes "number") Integer (number_in 1 65535)) (judged (codes "address") Text (written address_of) ∷ judged (codes "as") Integer as_number ∷ judged (codes "max_routes") Integer limit_in ∷ []) members _ _ (clear_judged (codes "number") Integer (number_in 1 65535) members)
-    (clear_first (judged (codes "address") Text (written address_of)) (judged (codes "as") Integer as_number ∷ judged (codes "max_routes") Integer limit_in ∷ []) members _ _ (clear_judged (codes "address") Text (written address_of) members)
-    (clear_first (judged (codes "as") Integer as_number) (judged (codes "max_routes") Integer limit_in ∷ []) members _ _ (clear_judged (codes "as") Integer as_number members)
+    clear_first (unknown peer_keys)
+    (judged (codes "number") Integer (number_in 1 65535) ∷ judged (codes "address") Text (written address_of) ∷ judged
+    (codes "as") Integer as_number ∷ judged (codes "max_routes") Integer limit_in ∷ []) members _ _ (clear_unknown peer_keys members)
+    (clear_first (judged (codes "number") Integer (number_in 1 65535))
+    (judged (codes "address") Text (written address_of) ∷ judged (codes "as") Integer as_number ∷ judged (codes "max_routes") Integer limit_in ∷ [])
+    members _ _ (clear_judged (codes "number") Integer (number_in 1 65535) members)
+    (clear_first (judged (codes "address") Text (written address_of))
+    (judged (codes "as") Integer as_number ∷ judged (codes "max_routes") Integer limit_in ∷ []) members _ _
+    (clear_judged (codes "address") Text (written address_of) members)
+    (clear_first (judged (codes "as") Integer as_number) (judged (codes "max_routes") Integer limit_in ∷ []) members _ _
+    (clear_judged (codes "as") Integer as_number members)
     (clear_first (judged (codes "max_routes") Integer limit_in) [] members _ _ (clear_judged (codes "max_routes") Integer limit_in members) refl))))
     ∙ sym (if_keys (keys_among peer_keys members) (peer_of_members members) _
     (then_some _ (number_in 1 65535 (get_member (codes "number") members)) _ λ number.
@@ -142,18 +163,21 @@ joined : (a b c : Bool) → ((a && b) && c) ≡ (a && (b && c))
 joined true b c = refl
 joined false b c = refl
 
-apart_more : (before : List ℕ) (n : ℕ) (peers : List Peer) → apart (before ++ n ∷ []) peers ≡ (apart before peers && not (list_any (λ other. other.number == n) peers))
+apart_more : (before : List ℕ) (n : ℕ) (peers : List Peer)
+    → apart (before ++ n ∷ []) peers ≡ (apart before peers && not (list_any (λ other. other.number == n) peers))
 apart_more before n [] = refl
 apart_more before n (peer ∷ peers) =
     rw (any_last (λ earlier. peer.number == earlier) before n, apart_more before n peers)
     (moved (list_any (λ earlier. peer.number == earlier) before) (peer.number == n) (apart before peers) (list_any (λ (other : Peer). other.number == n) peers))
 
-again_clear : (before : List ℕ) (peers : List Peer) → is_clear (first_again before (map (λ peer. peer.number) peers)) ≡ (apart before peers && are_distinct peers)
+again_clear : (before : List ℕ) (peers : List Peer)
+    → is_clear (first_again before (map (λ peer. peer.number) peers)) ≡ (apart before peers && are_distinct peers)
 again_clear before [] = refl
 again_clear before (peer ∷ peers) =
     by (list_any (λ earlier. peer.number == earlier) before) (again_clear (before ++ peer.number ∷ []) peers)
   where
-    by : (b : Bool) → is_clear (first_again (before ++ peer.number ∷ []) (map (λ other. other.number) peers)) ≡ (apart (before ++ peer.number ∷ []) peers && are_distinct peers)
+    by : (b : Bool) → is_clear (first_again (before ++ peer.number ∷ []) (map (λ other. other.number) peers))
+        ≡ (apart (before ++ peer.number ∷ []) peers && are_distinct peers)
         → is_clear (if b then Some (suc (length before)) else first_again (before ++ peer.number ∷ []) (map (λ other. other.number) peers))
         ≡ ((not b && apart before peers) && (not (list_any (λ other. other.number == peer.number) peers) && are_distinct peers))
     by true h = refl
@@ -184,16 +208,19 @@ items_by items None e = by (nat_le 1 (item_count items) && nat_le (item_count it
 items_by items (Some peers) e =
     by (nat_le 1 (item_count items) && nat_le (item_count items) 1024) ∙ rw ((peers_are items peers e).0) refl ∙ sym (some_kept (are_peers peers) peers)
   where
-    by : (c : Bool) → is_clear (if c then option_or (each_peer 1 items) (repeated items) else Some (own_fault (unfit (codes "peer") Value))) ≡ (c && are_distinct peers)
+    by : (c : Bool) → is_clear (if c then option_or (each_peer 1 items) (repeated items) else Some (own_fault (unfit (codes "peer") Value)))
+        ≡ (c && are_distinct peers)
     by true = clear_or (each_peer 1 items) (repeated items) ∙ rw (each_clear 1 items, e, repeated_clear items peers e) refl
     by false = refl
 
 peers_clear : (members : Members) → is_clear (peers_fault members) ≡ is_some (peers_in (get_member (codes "peer") members))
 peers_clear members =
     clear_or (option_map own_fault (judged (codes "peer") Array array_in members)) (array_fault (array_in (get_member (codes "peer") members)))
-    ∙ rw (clear_map own_fault (judged (codes "peer") Array array_in members), clear_judged (codes "peer") Array array_in members) (by (array_in (get_member (codes "peer") members)))
+    ∙ rw (clear_map own_fault (judged (codes "peer") Array array_in members), clear_judged (codes "peer") Array array_in members)
+    (by (array_in (get_member (codes "peer") members)))
   where
-    by : (found : Option Items) → (is_some found && is_clear (array_fault found)) ≡ is_some (option_and_then (kept_if are_peers) (option_and_then peers_of_items found))
+    by : (found : Option Items) → (is_some found && is_clear (array_fault found))
+        ≡ is_some (option_and_then (kept_if are_peers) (option_and_then peers_of_items found))
     by None = refl
     by (Some items) = items_by items (peers_of_items items) refl
 
@@ -207,11 +234,22 @@ document_clear : (members : Members) → is_clear (first_of document_checks memb
     && (is_some (flag_or true (get_member (codes "empty_path_valid") members))
     && (is_some (hold_time_in (get_member (codes "hold_time") members)) && true))))))
 document_clear members =
-    clear_first (unknown config_keys) (judged (codes "local_as") Integer as_number ∷ judged (codes "local_id") Text identifier ∷ judged (codes "allow_no_destination") Boolean (flag_or false) ∷ judged (codes "empty_path_valid") Boolean (flag_or true) ∷ judged (codes "hold_time") Integer hold_time_in ∷ []) members _ _ (clear_unknown config_keys members)
-    (clear_first (judged (codes "local_as") Integer as_number) (judged (codes "local_id") Text identifier ∷ judged (codes "allow_no_destination") Boolean (flag_or false) ∷ judged (codes "empty_path_valid") Boolean (flag_or true) ∷ judged (codes "hold_time") Integer hold_time_in ∷ []) members _ _ (clear_judged (codes "local_as") Integer as_number members)
-    (clear_first (judged (codes "local_id") Text identifier) (judged (codes "allow_no_destination") Boolean (flag_or false) ∷ judged (codes "empty_path_valid") Boolean (flag_or true) ∷ judged (codes "hold_time") Integer hold_time_in ∷ []) members _ _ (clear_judged (codes "local_id") Text identifier members)
-    (clear_first (judged (codes "allow_no_destination") Boolean (flag_or false)) (judged (codes "empty_path_valid") Boolean (flag_or true) ∷ judged (codes "hold_time") Integer hold_time_in ∷ []) members _ _ (clear_judged (codes "allow_no_destination") Boolean (flag_or false) members)
-    (clear_first (judged (codes "empty_path_valid") Boolean (flag_or true)) (judged (codes "hold_time") Integer hold_time_in ∷ []) members _ _ (clear_judged (codes "empty_path_valid") Boolean (flag_or true) members)
+    clear_first (unknown config_keys)
+    (judged (codes "local_as") Integer as_number ∷ judged (codes "local_id") Text identifier ∷ judged (codes "allow_no_destination") Boolean
+    (flag_or false) ∷ judged (codes "empty_path_valid") Boolean (flag_or true) ∷ judged (codes "hold_time") Integer hold_time_in ∷ []) members _ _
+    (clear_unknown config_keys members)
+    (clear_first (judged (codes "local_as") Integer as_number)
+    (judged (codes "local_id") Text identifier ∷ judged (codes "allow_no_destination") Boolean (flag_or false) ∷ judged
+    (codes "empty_path_valid") Boolean (flag_or true) ∷ judged (codes "hold_time") Integer hold_time_in ∷ []) members _ _
+    (clear_judged (codes "local_as") Integer as_number members)
+    (clear_first (judged (codes "local_id") Text identifier)
+    (judged (codes "allow_no_destination") Boolean (flag_or false) ∷ judged (codes "empty_path_valid") Boolean (flag_or true) ∷ judged
+    (codes "hold_time") Integer hold_time_in ∷ []) members _ _ (clear_judged (codes "local_id") Text identifier members)
+    (clear_first (judged (codes "allow_no_destination") Boolean (flag_or false))
+    (judged (codes "empty_path_valid") Boolean (flag_or true) ∷ judged (codes "hold_time") Integer hold_time_in ∷ []) members _ _
+    (clear_judged (codes "allow_no_destination") Boolean (flag_or false) members)
+    (clear_first (judged (codes "empty_path_valid") Boolean (flag_or true)) (judged (codes "hold_time") Integer hold_time_in ∷ []) members _ _
+    (clear_judged (codes "empty_path_valid") Boolean (flag_or true) members)
     (clear_first (judged (codes "hold_time") Integer hold_time_in) [] members _ _ (clear_judged (codes "hold_time") Integer hold_time_in members) refl)))))
 
 config_some : (members : Members) → is_some (config_of_document members)

@@ -1,4 +1,5 @@
-use Rattle.fs_conf.proofs.Words.{◌≡◌, ℕ, ◌+◌, ◌<◌, get_or, sym, ap, ◌∙◌, List, [], ◌∷◌, ◌++◌, length, drop, Option, Some, None, option_map, refl, append_assoc, Data, Items, item, Value, view, items_view, items_view-drop, each_item}
+use Rattle.fs_conf.proofs.Words.{◌≡◌, ℕ, ◌+◌, ◌<◌, get_or, sym, ap, ◌∙◌, List, [], ◌∷◌, ◌++◌, length, drop, Option, Some, None, option_map, refl}
+use Rattle.fs_conf.proofs.Words.{append_assoc, Data, Items, item, Value, view, items_view, items_view-drop, each_item}
 
 -- The items of an array, read one after the other.
 
@@ -14,7 +15,8 @@ one_more reads read found value rest e = rw e (joined read found (each_item read
 -- one more item read
 pub item_read : {A : Type 0} (reads : Data → Option A) (items : List Value) (i : ℕ) (value : Value) (read next : List A) (found : A) → i < length items
     → value ≡ get_or items i value → reads (view value) ≡ Some found → next ≡ read ++ found ∷ []
-    → option_map (λ m. read ++ m) (each_item reads (items_view (drop i items))) ≡ option_map (λ m. next ++ m) (each_item reads (items_view (drop (i + 1) items)))
+    → option_map (λ m. read ++ m) (each_item reads (items_view (drop i items)))
+    ≡ option_map (λ m. next ++ m) (each_item reads (items_view (drop (i + 1) items)))
 item_read reads items i value read next found inside is e kept =
     let rest : Items = items_view (drop (i + 1) items) in
     ap (λ left. option_map (λ m. read ++ m) (each_item reads left)) (items_view-drop items i value inside ∙ ap (λ v. item (view v) rest) (sym is))

@@ -1,19 +1,25 @@
 -- Loops that look for the first fault.
-use Rattle.fs_conf.proofs.Words.{◌≡◌, ℕ, suc, ◌+◌, ◌<◌, ◌≤◌, ◌==◌, Bool, true, false, if◌then◌else◌, List, [], ◌∷◌, ◌++◌, length, take, drop, get_or, Option, Some, None, refl, sym, ap, ◌∙◌, arith, list_any, bytes_eq, map, not, ◌||◌, cond, option_map, string_bytes, String, Global, Bor, members_view, zero, nat_le, ◌&&◌, codes, is_some, Data, Members, get_member, item, as_table, Value, view, items_view, items_view-drop}
+use Rattle.fs_conf.proofs.Words.{◌≡◌, ℕ, suc, ◌+◌, ◌<◌, ◌≤◌, ◌==◌, Bool, true, false, if◌then◌else◌, List, [], ◌∷◌, ◌++◌, length, take, drop, get_or}
+use Rattle.fs_conf.proofs.Words.{Option, Some, None, refl, sym, ap, ◌∙◌, arith, list_any, bytes_eq, map, not, ◌||◌, cond, option_map, string_bytes}
+use Rattle.fs_conf.proofs.Words.{String, Global, Bor, members_view, zero, nat_le, ◌&&◌, codes, is_some, Data, Members, get_member, item, as_table}
+use Rattle.fs_conf.proofs.Words.{Value, view, items_view, items_view-drop}
 use Rattle.std.specs.Option.{option_or}
 use Rattle.std.specs.{Map.{keys_of}, Prelude.{find}}
 use Rattle.fs_conf.specs.{Fields.{is_named}, declared.{fault.KeyReason.TheVariants.{Value as NoValue}, faults.Kind.{Kind}}}
-use Rattle.fs_conf.specs.Fault.{KeyFault, each_peer, first_again, first_other, item_count, items_fault, judged, keys_of_peer, number_of_peer, numbers_of_peers, own_fault, reason_at, repeated, unfit}
+use Rattle.fs_conf.specs.Fault.{KeyFault, each_peer, first_again, first_other, item_count, items_fault, judged, keys_of_peer, number_of_peer}
+use Rattle.fs_conf.specs.Fault.{numbers_of_peers, own_fault, reason_at, repeated, unfit}
 
 -- a peer without a fault, and one with a fault
 
 peers_left : (items : List Value) (i : ℕ) (value : Value) → i < length items → value ≡ get_or items i value
-    → each_peer (suc i) (items_view (drop i items)) ≡ option_or (keys_of_peer (suc i) (as_table (view value))) (each_peer (suc (suc i)) (items_view (drop (i + 1) items)))
+    → each_peer (suc i) (items_view (drop i items))
+    ≡ option_or (keys_of_peer (suc i) (as_table (view value))) (each_peer (suc (suc i)) (items_view (drop (i + 1) items)))
 peers_left items i value inside is =
     ap (each_peer (suc i)) (items_view-drop items i value inside ∙ ap (λ v. item (view v) (items_view (drop (i + 1) items))) (sym is))
 
 pub peer_next : (items : List Value) (i place : ℕ) (value : Value) → i < length items → value ≡ get_or items i value → place ≡ suc i
-    → None ≡ keys_of_peer place (as_table (view value)) → each_peer (suc i) (items_view (drop i items)) ≡ each_peer (suc place) (items_view (drop (i + 1) items))
+    → None ≡ keys_of_peer place (as_table (view value))
+    → each_peer (suc i) (items_view (drop i items)) ≡ each_peer (suc place) (items_view (drop (i + 1) items))
 peer_next items i place value inside is same none =
     let here : keys_of_peer (suc i) (as_table (view value)) ≡ None = ap (λ k. keys_of_peer k (as_table (view value))) (sym same) ∙ sym none in
     peers_left items i value inside is
@@ -31,7 +37,8 @@ peer_found items i place value fault inside is same some =
 abbrev pub numbers_in : List Value → List ℕ
 numbers_in items = numbers_of_peers (items_view items)
 
-pub any_number : (n : ℕ) (items : List Value) → list_any (λ value. n == number_of_peer (view value)) items ≡ list_any (λ earlier. n == earlier) (numbers_in items)
+pub any_number : (n : ℕ) (items : List Value)
+    → list_any (λ value. n == number_of_peer (view value)) items ≡ list_any (λ earlier. n == earlier) (numbers_in items)
 any_number n [] = refl
 any_number n (value ∷ items) = rw (any_number n items) refl
 
@@ -104,12 +111,14 @@ again_ends items i past = ap (first_again (take i (numbers_in items))) (empty i 
 
 -- the first key that is none of the names: the map's keys are the members' keys
 
-any_now : (names : List (Bor (List ℕ))) (key : List ℕ) → is_named names key ≡ list_any (λ name. bytes_eq name key) (map (λ (name : Bor (List ℕ)). name.now) names)
+any_now : (names : List (Bor (List ℕ))) (key : List ℕ)
+    → is_named names key ≡ list_any (λ name. bytes_eq name key) (map (λ (name : Bor (List ℕ)). name.now) names)
 any_now [] key = refl
 any_now (name ∷ names) key = ap (λ b. bytes_eq name.now key || b) (any_now names key)
 
 pub other_is : (names : List (Bor (List ℕ))) (entries : List (String Global × Value))
-    → option_map string_bytes (find (λ key. not (is_named names (string_bytes key))) (keys_of entries)) ≡ first_other (map (λ (name : Bor (List ℕ)). name.now) names) (members_view entries)
+    → option_map string_bytes (find (λ key. not (is_named names (string_bytes key))) (keys_of entries))
+    ≡ first_other (map (λ (name : Bor (List ℕ)). name.now) names) (members_view entries)
 other_is names [] = refl
 other_is names (entry ∷ entries) = by (is_named names (string_bytes entry.0)) (any_now names (string_bytes entry.0)) (other_is names entries)
   where
@@ -118,7 +127,8 @@ other_is names (entry ∷ entries) = by (is_named names (string_bytes entry.0)) 
 
     by : (b : Bool) → b ≡ list_any (λ name. bytes_eq name (string_bytes entry.0)) (map (λ (name : Bor (List ℕ)). name.now) names)
         → option_map string_bytes rest ≡ first_other (map (λ (name : Bor (List ℕ)). name.now) names) (members_view entries)
-        → option_map string_bytes (cond (not b) (Some entry.0) rest) ≡ first_other (map (λ (name : Bor (List ℕ)). name.now) names) (members_view (entry ∷ entries))
+        → option_map string_bytes (cond (not b) (Some entry.0) rest)
+        ≡ first_other (map (λ (name : Bor (List ℕ)). name.now) names) (members_view (entry ∷ entries))
     by true e more = rw (← e) more
     by false e more = rw (← e) refl
 
@@ -128,7 +138,8 @@ map_or : {A B : Type 0} (f : A → B) (a b : Option A) → option_map f (option_
 map_or f None b = refl
 map_or f (Some x) b = refl
 
-pub or_shown : {A B : Type 0} (f : A → B) (r a b : Option A) (x y : Option B) → r ≡ option_or a b → option_map f a ≡ x → option_map f b ≡ y → option_map f r ≡ option_or x y
+pub or_shown : {A B : Type 0} (f : A → B) (r a b : Option A) (x y : Option B) → r ≡ option_or a b → option_map f a ≡ x → option_map f b ≡ y
+    → option_map f r ≡ option_or x y
 or_shown f r a b x y is one other = ap (option_map f) is ∙ map_or f a b ∙ ap (λ (z : Option _). option_or z (option_map f b)) one ∙ ap (option_or x) other
 
 pub judged_by : {A : Type 0} (key : List ℕ) (kind : Kind) (read : Option Data → Option A) (members : Members) (b : Bool) (found : Option A) → b ≡ is_some found
@@ -136,7 +147,8 @@ pub judged_by : {A : Type 0} (key : List ℕ) (kind : Kind) (read : Option Data 
 judged_by key kind read members b found e same =
     ap (λ c. option_map (unfit key) (reason_at kind c (get_member key members))) (e ∙ ap (λ (o : Option _). is_some o) same)
 
-pub five_in_turn : {A : Type 0} (a b c d e : Option A) → option_or (option_or (option_or (option_or a b) c) d) e ≡ option_or a (option_or b (option_or c (option_or d (option_or e None))))
+pub five_in_turn : {A : Type 0} (a b c d e : Option A)
+    → option_or (option_or (option_or (option_or a b) c) d) e ≡ option_or a (option_or b (option_or c (option_or d (option_or e None))))
 five_in_turn (Some x) b c d e = refl
 five_in_turn None (Some x) c d e = refl
 five_in_turn None None (Some x) d e = refl
@@ -144,7 +156,9 @@ five_in_turn None None None (Some x) e = refl
 five_in_turn None None None None (Some x) = refl
 five_in_turn None None None None None = refl
 
-pub six_in_turn : {A : Type 0} (a b c d e f : Option A) → option_or (option_or (option_or (option_or (option_or a b) c) d) e) f ≡ option_or a (option_or b (option_or c (option_or d (option_or e (option_or f None)))))
+pub six_in_turn : {A : Type 0} (a b c d e f : Option A)
+    → option_or (option_or (option_or (option_or (option_or a b) c) d) e) f
+    ≡ option_or a (option_or b (option_or c (option_or d (option_or e (option_or f None)))))
 six_in_turn (Some x) b c d e f = refl
 six_in_turn None b c d e f = five_in_turn b c d e f
 

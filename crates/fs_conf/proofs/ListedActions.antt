@@ -1,7 +1,13 @@
 -- Actions as communities: the octets of actions are read as these, and what is read are actions.
-use Rattle.fs_conf.proofs.{Words.{◌≡◌, ℕ, zero, suc, ◌*◌, ◌/◌, ◌<◌, ◌≤◌, Bool, true, false, cond, ◌&&◌, List, [], ◌∷◌, length, drop, bit_and, Option, Some, None, refl, sym, ap, ◌∙◌, subst, arith, filter_map, is_some, AllByRecursion, concat, list_all, length-take-le, octets_drop, octets_take, IsOctets, communities_joined, each_length, read_back, whole_joined, AreActions, are_listed, listed_actions}, Sought.{all_filter}}
+use Rattle.fs_conf.proofs.Words.{◌≡◌, ℕ, zero, suc, ◌*◌, ◌/◌, ◌<◌, ◌≤◌, Bool, true, false, cond, ◌&&◌, List, [], ◌∷◌, length, drop, bit_and, Option}
+use Rattle.fs_conf.proofs.Words.{Some, None, refl, sym, ap, ◌∙◌, subst, arith, filter_map, is_some, AllByRecursion, concat, list_all, length-take-le}
+use Rattle.fs_conf.proofs.Words.{octets_drop, octets_take, IsOctets, communities_joined, each_length, read_back, whole_joined, AreActions, are_listed}
+use Rattle.fs_conf.proofs.Words.{listed_actions}
+use Rattle.fs_conf.proofs.Sought.{all_filter}
 use Rattle.std.{specs.{Simd.{first_chunks}, Int.Bits.{and_self}}, proofs.lemmas.{Bool.{lt-ltb}, List.{length-drop}, Nat.{and_assoc, and_le_l}}}
-use Rattle.fs_actions.{proofs.{Insertion.{each_with}, Listed.{are_listed as are_the_listed}}, specs.{Actions.{actions_of, are_communities, communities, with_action, with_actions}, Community.{IsAction, cleared, kind_of, listed, normal_form}}}
+use Rattle.fs_actions.proofs.{Insertion.{each_with}, Listed.{are_listed as are_the_listed}}
+use Rattle.fs_actions.specs.Actions.{actions_of, are_communities, communities, with_action, with_actions}
+use Rattle.fs_actions.specs.Community.{IsAction, cleared, kind_of, listed, normal_form}
 use Rattle.fs_text.proofs.{Found.{IsEight, each, eight, masked, normal_at}, Greatest.{octets_eight}, Led.{no_actions}}
 
 -- what is written is read back
@@ -10,7 +16,8 @@ each_listed : (xs : List (List ℕ)) → AllByRecursion IsAction xs → list_all
 each_listed [] h = refl
 each_listed (x ∷ xs) h = rw (h.0.normal, each_listed xs h.1) refl
 
-some_octets : (octets : List ℕ) (found : List (List ℕ)) → 0 < length octets → are_communities octets ≡ true → are_listed octets ≡ true → actions_of octets ≡ found
+some_octets : (octets : List ℕ) (found : List (List ℕ)) → 0 < length octets → are_communities octets ≡ true → are_listed octets ≡ true
+    → actions_of octets ≡ found
     → listed_actions octets ≡ Some found
 some_octets [] found some whole listed is = absurd (omega arith)
 some_octets (octet ∷ octets) found some whole listed is = rw (whole, listed, is) refl
@@ -51,7 +58,8 @@ masked_octets bits community len small =
     let last : e.a7 < 256 = cells 7 0 (omega arith) in
     let within : bit_and e.a7 bits ≤ e.a7 = and_le_l e.a7 bits in
     subst (λ (l : List ℕ). IsOctets (masked bits l)) (sym e.is)
-    (octets_eight e.a0 e.a1 0 0 0 0 0 (bit_and e.a7 bits) first second (omega arith) (omega arith) (omega arith) (omega arith) (omega arith) (omega (arith, within, last)))
+    (octets_eight e.a0 e.a1 0 0 0 0 0 (bit_and e.a7 bits) first second (omega arith) (omega arith) (omega arith) (omega arith) (omega arith)
+    (omega (arith, within, last)))
 
 masked_eight : (bits : ℕ) (community : List ℕ) → length community ≡ 8 → length (masked bits community) ≡ 8
 masked_eight bits community len =
@@ -100,7 +108,8 @@ chunks_are (suc n) octets within small = (
   chunks_are n (drop 8 octets) (omega (arith, within, length-drop 8 octets)) (octets_drop 8 octets small),
 )
 
-all_with : (new actions : List (List ℕ)) → AllByRecursion IsAnAction new → AllByRecursion IsAnAction actions → AllByRecursion IsAnAction (with_actions new actions)
+all_with : (new actions : List (List ℕ)) → AllByRecursion IsAnAction new → AllByRecursion IsAnAction actions
+    → AllByRecursion IsAnAction (with_actions new actions)
 all_with [] actions p q = q
 all_with (action ∷ new) actions p q = all_with new (with_action action actions) p.1 (each_with IsAnAction action actions p.0 q)
 

@@ -1,5 +1,7 @@
 -- Octets that are exactly one frame.
-use Rattle.fs_conf.proofs.Words.{◌≡◌, ℕ, ◌≤◌, List, [], ◌∷◌, ◌++◌, Option, Some, None, Result, Ok, Err, length, take, drop, refl, ap, sym, ◌∙◌, subst, arith, append-nil, length-drop, option_and_then, take-append-drop, take_all, Family, IsOctets, Reason, Ruled, IsFrame, IsFieldOutcome, IsTheOutcome, rules_of, if_ok, only, rule_of}
+use Rattle.fs_conf.proofs.Words.{◌≡◌, ℕ, ◌≤◌, List, [], ◌∷◌, ◌++◌, Option, Some, None, Result, Ok, Err, length, take, drop, refl, ap, sym, ◌∙◌, subst}
+use Rattle.fs_conf.proofs.Words.{arith, append-nil, length-drop, option_and_then, take-append-drop, take_all, Family, IsOctets, Reason, Ruled}
+use Rattle.fs_conf.proofs.Words.{IsFrame, IsFieldOutcome, IsTheOutcome, rules_of, if_ok, only, rule_of}
 use Rattle.fs_nlri.{specs.{Fault.{IsFrameBad}, Laws.{NoFrameGoesOn}}, proofs.OneOutcome.{one_field_outcome}}
 
 abbrev Found : Type 0
@@ -12,16 +14,19 @@ module _ (law : IsTheOutcome) (family : Family) (octets : List ℕ) (small : IsO
   found_is : (found : Found) → IsFieldOutcome family octets found → rules_of family octets ≡ found
   found_is found h = one_field_outcome family octets (rules_of family octets) found small (law family octets small) h
 
-  pub one_frame : (rule : Ruled) (taken : ℕ) → taken ≡ length octets → rule.family ≡ family → IsFrame (take taken octets) rule → rule_of family octets ≡ Some rule
+  pub one_frame : (rule : Ruled) (taken : ℕ) → taken ≡ length octets → rule.family ≡ family → IsFrame (take taken octets) rule
+      → rule_of family octets ≡ Some rule
   one_frame rule taken all own frame =
       let whole : take taken octets ≡ octets = take_all taken octets (omega (arith, all)) in
       ap single (found_is (Ok (rule ∷ [])) (octets, [], sym (append-nil octets), own, subst (λ (z : List ℕ). IsFrame z rule) whole frame, refl))
 
-  longer : (goes : NoFrameGoesOn) (rule other : Ruled) (taken : ℕ) → taken ≤ length octets → (taken ≡ length octets → ⊥) → rule.family ≡ family → other.family ≡ family
+  longer : (goes : NoFrameGoesOn) (rule other : Ruled) (taken : ℕ) → taken ≤ length octets → (taken ≡ length octets → ⊥) → rule.family ≡ family
+      → other.family ≡ family
       → IsFrame (take taken octets) rule → IsFrame octets other → ⊥
   longer goes rule other taken within more own same frame whole =
       let none : drop taken octets ≡ [] =
-      goes rule other (take taken octets) (drop taken octets) (own ∙ sym same) frame (subst (λ (z : List ℕ). IsFrame z other) (sym (take-append-drop taken octets)) whole) in
+      goes rule other (take taken octets) (drop taken octets) (own
+      ∙ sym same) frame (subst (λ (z : List ℕ). IsFrame z other) (sym (take-append-drop taken octets)) whole) in
       more (omega (arith, within, ap length none, length-drop taken octets))
 
   pub goes_on : (goes : NoFrameGoesOn) (rule : Ruled) (taken : ℕ) → taken ≤ length octets → (taken ≡ length octets → ⊥) → rule.family ≡ family
@@ -42,4 +47,5 @@ bad_frame law family [] small reason place bad = ap single (found_is law family 
 bad_frame law family (octet ∷ octets) small reason place bad =
     let all : List ℕ = octet ∷ octets in
     let never : all ≡ [] → ⊥ = λ h. absurd cc in
-    ap single (found_is law family all small (Err (reason, place)) (record { front = []; rules = []; rest = all; frames = refl; split = refl; some = never; bad = bad }))
+    ap single (found_is law family all small (Err (reason, place))
+    (record { front = []; rules = []; rest = all; frames = refl; split = refl; some = never; bad = bad }))

@@ -1,17 +1,24 @@
 -- Loops that look for the first fault of rules.
-use Rattle.fs_conf.proofs.{Words.{◌≡◌, ℕ, suc, ◌+◌, ◌<◌, ◌≤◌, Bool, true, false, not, ◌||◌, if◌then◌else◌, List, [], ◌∷◌, length, drop, get_or, Option, Some, None, refl, sym, ap, ◌∙◌, arith, zero, drop_more, is_eq, rule_cmp, Ruled, Sent, Data, item, Value, view, items_view, items_view-drop, nat_le, codes, is_some, option_map, has_seen, Bor, nat_lt, ltb-true}, Judging.{count_is}}
+use Rattle.fs_conf.proofs.Words.{◌≡◌, ℕ, suc, ◌+◌, ◌<◌, ◌≤◌, Bool, true, false, not, ◌||◌, if◌then◌else◌, List, [], ◌∷◌, length, drop, get_or, Option}
+use Rattle.fs_conf.proofs.Words.{Some, None, refl, sym, ap, ◌∙◌, arith, zero, drop_more, is_eq, rule_cmp, Ruled, Sent, Data, item, Value, view}
+use Rattle.fs_conf.proofs.Words.{items_view, items_view-drop, nat_le, codes, is_some, option_map, has_seen, Bor, nat_lt, ltb-true}
+use Rattle.fs_conf.proofs.Judging.{count_is}
 use Rattle.std.{specs.{BTreeSet.{BTreeSet}, Option.{option_or}, Prelude.{IfSome}}, proofs.Common.{ltb-false}}
 use Rattle.fs_order.specs.declared.ranked.Ranked.{Ranked}
-use Rattle.fs_conf.specs.{Fault.{KeyFault, own_fault, unfit}, RuleFault.{each_fault, first_same, item_at, number_fault, numbers_fault}, declared.{fault.KeyReason.TheVariants.{Value as NoValue}}}
+use Rattle.fs_conf.specs.Fault.{KeyFault, own_fault, unfit}
+use Rattle.fs_conf.specs.RuleFault.{each_fault, first_same, item_at, number_fault, numbers_fault}
+use Rattle.fs_conf.specs.declared.fault.KeyReason.TheVariants.{Value as NoValue}
 
 -- an item without a fault, and one with a fault
 
 faults_left : (judge : ℕ → Data → Option KeyFault) (items : List Value) (i : ℕ) (value : Value) → i < length items → value ≡ get_or items i value
-    → each_fault judge (suc i) (items_view (drop i items)) ≡ option_or (judge (suc i) (view value)) (each_fault judge (suc (suc i)) (items_view (drop (i + 1) items)))
+    → each_fault judge (suc i) (items_view (drop i items))
+    ≡ option_or (judge (suc i) (view value)) (each_fault judge (suc (suc i)) (items_view (drop (i + 1) items)))
 faults_left judge items i value inside is =
     ap (each_fault judge (suc i)) (items_view-drop items i value inside ∙ ap (λ v. item (view v) (items_view (drop (i + 1) items))) (sym is))
 
-pub fault_next : (judge : ℕ → Data → Option KeyFault) (items : List Value) (i place : ℕ) (value : Value) → i < length items → value ≡ get_or items i value → place ≡ suc i
+pub fault_next : (judge : ℕ → Data → Option KeyFault) (items : List Value) (i place : ℕ) (value : Value) → i < length items
+    → value ≡ get_or items i value → place ≡ suc i
     → None ≡ judge place (view value) → each_fault judge (suc i) (items_view (drop i items)) ≡ each_fault judge (suc place) (items_view (drop (i + 1) items))
 fault_next judge items i place value inside is same none =
     let here : judge (suc i) (view value) ≡ None = ap (λ k. judge k (view value)) (sym same) ∙ sym none in
@@ -19,11 +26,13 @@ fault_next judge items i place value inside is same none =
     ∙ ap (λ (found : Option KeyFault). option_or found (each_fault judge (suc (suc i)) (items_view (drop (i + 1) items)))) here
     ∙ ap (λ k. each_fault judge (suc k) (items_view (drop (i + 1) items))) (sym same)
 
-pub fault_found : (judge : ℕ → Data → Option KeyFault) (items : List Value) (i place : ℕ) (value : Value) (fault : KeyFault) → i < length items → value ≡ get_or items i value → place ≡ suc i
+pub fault_found : (judge : ℕ → Data → Option KeyFault) (items : List Value) (i place : ℕ) (value : Value) (fault : KeyFault) → i < length items
+    → value ≡ get_or items i value → place ≡ suc i
     → Some fault ≡ judge place (view value) → each_fault judge (suc i) (items_view (drop i items)) ≡ Some fault
 fault_found judge items i place value fault inside is same some =
     let here : judge (suc i) (view value) ≡ Some fault = ap (λ k. judge k (view value)) (sym same) ∙ sym some in
-    faults_left judge items i value inside is ∙ ap (λ (found : Option KeyFault). option_or found (each_fault judge (suc (suc i)) (items_view (drop (i + 1) items)))) here
+    faults_left judge items i value inside is
+    ∙ ap (λ (found : Option KeyFault). option_or found (each_fault judge (suc (suc i)) (items_view (drop (i + 1) items)))) here
 
 -- an item by its place
 
@@ -38,7 +47,8 @@ item_past [] (suc i) past = refl
 item_past (v ∷ items) zero past = absurd (omega (arith, past))
 item_past (v ∷ items) (suc i) past = item_past items i (omega (arith, past))
 
-pub item_of : (items : List Value) (place : ℕ) (found : Option (Bor Value)) → is_some found ≡ nat_lt place (length items) → IfSome found (λ x. x.now ≡ get_or items place x.now)
+pub item_of : (items : List Value) (place : ℕ) (found : Option (Bor Value)) → is_some found ≡ nat_lt place (length items)
+    → IfSome found (λ x. x.now ≡ get_or items place x.now)
     → option_map (λ value. view value.now) found ≡ item_at place (items_view items)
 item_of items place None e h = sym (item_past items place (ltb-false place (length items) (sym e)))
 item_of items place (Some x) e h = sym (item_is items place x.now (ltb-true place (length items) (sym e)) h)
@@ -48,18 +58,21 @@ item_of items place (Some x) e h = sym (item_is items place x.now (ltb-true plac
 pub nothing_seen : (seen : BTreeSet Ranked) → seen.keys ≡ [] → (rule : Ruled) → has_seen seen rule ≡ false
 nothing_seen seen e rule = rw e refl
 
-pub same_has : (has other : Ruled → Bool) → ((rule : Ruled) → has rule ≡ other rule) → (place : ℕ) (rules : List Sent) → first_same has place rules ≡ first_same other place rules
+pub same_has : (has other : Ruled → Bool) → ((rule : Ruled) → has rule ≡ other rule) → (place : ℕ) (rules : List Sent)
+    → first_same has place rules ≡ first_same other place rules
 same_has has other h place [] = refl
 same_has has other h place (sent ∷ rules) =
     ap (λ b. if b then Some place else first_same (λ rule. is_eq (rule_cmp sent.rule rule) || has rule) (suc place) rules) (h sent.rule)
     ∙ ap (λ (rest : Option ℕ). if other sent.rule then Some place else rest)
-    (same_has (λ rule. is_eq (rule_cmp sent.rule rule) || has rule) (λ rule. is_eq (rule_cmp sent.rule rule) || other rule) (λ rule. ap (λ b. is_eq (rule_cmp sent.rule rule) || b) (h rule)) (suc place) rules)
+    (same_has (λ rule. is_eq (rule_cmp sent.rule rule) || has rule) (λ rule. is_eq (rule_cmp sent.rule rule) || other rule)
+    (λ rule. ap (λ b. is_eq (rule_cmp sent.rule rule) || b) (h rule)) (suc place) rules)
 
 flipped : (b new : Bool) → new ≡ not b → b ≡ not new
 flipped true new e = ap not (sym e)
 flipped false new e = ap not (sym e)
 
-pub same_next : (has now : Ruled → Bool) (rules : List Sent) (i place : ℕ) (sent : Sent) (new : Bool) → i < length rules → sent ≡ get_or rules i sent → place ≡ suc i
+pub same_next : (has now : Ruled → Bool) (rules : List Sent) (i place : ℕ) (sent : Sent) (new : Bool) → i < length rules → sent ≡ get_or rules i sent
+    → place ≡ suc i
     → new ≡ not (has sent.rule) → true ≡ new → ((rule : Ruled) → now rule ≡ (is_eq (rule_cmp sent.rule rule) || has rule))
     → first_same has (suc i) (drop i rules) ≡ first_same now (suc place) (drop (i + 1) rules)
 same_next has now rules i place sent new inside is same fresh is_new seen =
@@ -70,7 +83,8 @@ same_next has now rules i place sent new inside is same fresh is_new seen =
     ∙ same_has (λ rule. is_eq (rule_cmp sent.rule rule) || has rule) now (λ rule. sym (seen rule)) (suc (suc i)) behind
     ∙ ap (λ k. first_same now (suc k) behind) (sym same)
 
-pub same_found : (has : Ruled → Bool) (rules : List Sent) (i place : ℕ) (sent : Sent) (new : Bool) → i < length rules → sent ≡ get_or rules i sent → place ≡ suc i
+pub same_found : (has : Ruled → Bool) (rules : List Sent) (i place : ℕ) (sent : Sent) (new : Bool) → i < length rules → sent ≡ get_or rules i sent
+    → place ≡ suc i
     → new ≡ not (has sent.rule) → false ≡ new → first_same has (suc i) (drop i rules) ≡ Some place
 same_found has rules i place sent new inside is same fresh is_old =
     let behind : List Sent = drop (i + 1) rules in
@@ -97,10 +111,12 @@ four_in_turn None None None None = refl
 
 -- the count of the numbers of a path
 
-pub numbers_within : (items : List Value) → true ≡ nat_le (length items) 255 → numbers_fault (Some (items_view items)) ≡ each_fault number_fault 1 (items_view items)
+pub numbers_within : (items : List Value) → true ≡ nat_le (length items) 255
+    → numbers_fault (Some (items_view items)) ≡ each_fault number_fault 1 (items_view items)
 numbers_within items e = rw (count_is items, ← e) refl
 
-pub numbers_without : (items : List Value) → false ≡ nat_le (length items) 255 → numbers_fault (Some (items_view items)) ≡ Some (own_fault (unfit (codes "as_path") NoValue))
+pub numbers_without : (items : List Value) → false ≡ nat_le (length items) 255
+    → numbers_fault (Some (items_view items)) ≡ Some (own_fault (unfit (codes "as_path") NoValue))
 numbers_without items e = rw (count_is items, ← e) refl
 
 -- what stands at `rule`

@@ -1,5 +1,7 @@
 -- What is told of the fault of a rule.
-use Rattle.fs_conf.proofs.Words.{◌≡◌, ℕ, ◌+◌, ◌<◌, ◌≤◌, ◌==◌, true, List, length, Option, Some, None, refl, sym, ap, ◌∙◌, arith, codes, option_and_then, is_some, inl, inr, ◌⊎◌, Members, as_str, get_member, Family, sent_of_text, kept_if, IsFrame, take, drop, take-append-drop, Sent, IsRule, sent, AreActions}
+use Rattle.fs_conf.proofs.Words.{◌≡◌, ℕ, ◌+◌, ◌<◌, ◌≤◌, ◌==◌, true, List, length, Option, Some, None, refl, sym, ap, ◌∙◌, arith, codes}
+use Rattle.fs_conf.proofs.Words.{option_and_then, is_some, inl, inr, ◌⊎◌, Members, as_str, get_member, Family, sent_of_text, kept_if, IsFrame, take}
+use Rattle.fs_conf.proofs.Words.{drop, take-append-drop, Sent, IsRule, sent, AreActions}
 use Rattle.std.{proofs.lemmas.List.{Splits.{length-slice_split}, Sums.{count_by-le-length}}}
 use Rattle.fs_text.specs.{Printed.{text_of}, Text.{IsTextFault, words_in}, declared.fault.TextFault.TheVariants.{Bad}}
 use Rattle.fs_nlri.specs.Parts.{Ruled}
@@ -12,7 +14,8 @@ text_there members fault = option_and_then (λ rule. option_and_then as_str (get
 kept_text : (members : Members) (fault : KeyFault) → bad_text members fault ≡ option_and_then (kept_if untold) (text_there members fault)
 kept_text members fault = by (judged_rule (codes "text") members fault)
   where
-    by : (found : Option Members) → option_and_then text_at found ≡ option_and_then (kept_if untold) (option_and_then (λ rule. option_and_then as_str (get_member (codes "text") rule)) found)
+    by : (found : Option Members) → option_and_then text_at found
+        ≡ option_and_then (kept_if untold) (option_and_then (λ rule. option_and_then as_str (get_member (codes "text") rule)) found)
     by None = refl
     by (Some rule) = refl
 
@@ -37,7 +40,8 @@ word_within text word bad = by bad.at
     by (inr h) = omega (arith, h.0, few)
 
 -- the octets that begin with a frame
-pub begins : (family : Family) (octets : List ℕ) (taken : ℕ) (rule : Ruled) → rule.family ≡ family → IsFrame (take taken octets) rule → BeginsFrame family octets
+pub begins : (family : Family) (octets : List ℕ) (taken : ℕ) (rule : Ruled) → rule.family ≡ family → IsFrame (take taken octets) rule
+    → BeginsFrame family octets
 begins family octets taken rule own frame = record {
   front = take taken octets;
   rest = drop taken octets;

@@ -1,5 +1,6 @@
 -- The fields of a text, and the text that they make.
-use Rattle.fs_conf.proofs.Words.{◌≡◌, ℕ, ◌<◌, ◌≤◌, ◌==◌, Bool, true, false, if◌then◌else◌, List, [], ◌∷◌, ◌++◌, length, refl, sym, ap, ◌∙◌, arith, eqb-true, ne_eqb, eq-eqb, true≢false, digit_value, list_any, AllDigits, begin_field, fields_of}
+use Rattle.fs_conf.proofs.Words.{◌≡◌, ℕ, ◌<◌, ◌≤◌, ◌==◌, Bool, true, false, if◌then◌else◌, List, [], ◌∷◌, ◌++◌, length, refl, sym, ap, ◌∙◌, arith}
+use Rattle.fs_conf.proofs.Words.{eqb-true, ne_eqb, eq-eqb, true≢false, digit_value, list_any, AllDigits, begin_field, fields_of}
 use Rattle.fs_base.proofs.Bools.{or_false}
 
 -- fields that each follow a separator
@@ -69,7 +70,8 @@ pub fields_of-end : (separator : ℕ) (field : List ℕ) → Lacks separator fie
 fields_of-end separator [] h = refl
 fields_of-end separator (octet ∷ field) h = rw (h.0, fields_of-end separator field h.1)
 
-pub fields_of-append : (separator : ℕ) (field rest : List ℕ) → Lacks separator field → fields_of separator (field ++ separator ∷ rest) ≡ field ∷ fields_of separator rest
+pub fields_of-append : (separator : ℕ) (field rest : List ℕ) → Lacks separator field
+    → fields_of separator (field ++ separator ∷ rest) ≡ field ∷ fields_of separator rest
 fields_of-append separator [] rest h = rw (eq-eqb separator separator refl)
 fields_of-append separator (octet ∷ field) rest h = rw (h.0, fields_of-append separator field rest h.1)
 

@@ -1,4 +1,5 @@
-use Rattle.fs_conf.proofs.Words.{◌≡◌, ◌||◌, ◌&&◌, Bool, true, false, not, List, [], ◌∷◌, refl, ap, sym, ◌∙◌, list_all, list_any, is_eq, Ruled, rule_cmp, Sent, are_single, is_same}
+use Rattle.fs_conf.proofs.Words.{◌≡◌, ◌||◌, ◌&&◌, Bool, true, false, not, List, [], ◌∷◌, refl, ap, sym, ◌∙◌, list_all, list_any, is_eq, Ruled}
+use Rattle.fs_conf.proofs.Words.{rule_cmp, Sent, are_single, is_same}
 
 -- Rules of which no two are one, tried one after the other beside those before.
 
@@ -9,7 +10,8 @@ is_fresh has sent = not (has sent.rule)
 abbrev pub are_fresh : (Ruled → Bool) → List Sent → Bool
 are_fresh has rules = list_all (is_fresh has) rules && are_single rules
 
-all_same : (has other : Ruled → Bool) → ((rule : Ruled) → has rule ≡ other rule) → (rules : List Sent) → list_all (is_fresh has) rules ≡ list_all (is_fresh other) rules
+all_same : (has other : Ruled → Bool) → ((rule : Ruled) → has rule ≡ other rule) → (rules : List Sent)
+    → list_all (is_fresh has) rules ≡ list_all (is_fresh other) rules
 all_same has other h [] = refl
 all_same has other h (sent ∷ rules) = rw (h sent.rule, all_same has other h rules) refl
 

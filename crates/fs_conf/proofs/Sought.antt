@@ -1,5 +1,7 @@
 -- Lists of all that is below bounds, and what is sought in such lists.
-use Rattle.fs_conf.proofs.Words.{◌≡◌, ◌⊎◌, inl, inr, ℕ, zero, suc, ◌+◌, ◌<◌, ◌≤◌, Bool, true, false, cond, List, [], ◌∷◌, ◌++◌, map, length, Option, Some, None, All, refl, sym, ap, subst, arith, find, AllByRecursion, cons_option, flat_map, range_with_len, All-append, each_append, each_mapped, each_weaker, lists_below}
+use Rattle.fs_conf.proofs.Words.{◌≡◌, ◌⊎◌, inl, inr, ℕ, zero, suc, ◌+◌, ◌<◌, ◌≤◌, Bool, true, false, cond, List, [], ◌∷◌, ◌++◌, map, length, Option}
+use Rattle.fs_conf.proofs.Words.{Some, None, All, refl, sym, ap, subst, arith, find, AllByRecursion, cons_option, flat_map, range_with_len}
+use Rattle.fs_conf.proofs.Words.{All-append, each_append, each_mapped, each_weaker, lists_below}
 use Rattle.std.specs.Prelude.{filter_map}
 
 abbrev pub IsIn : {A : Type 0} → A → List A → Type 0
@@ -43,11 +45,13 @@ pub all_flat : {A B : Type 0} (P : A → Type 0) (Q : B → Type 0) (f : A → L
 all_flat P Q f [] more p = tt
 all_flat P Q f (x ∷ xs) more p = each_append Q (f x) (flat_map f xs) (more x p.0) (all_flat P Q f xs more p.1)
 
-all_option : {B : Type 0} (Q : B → Type 0) (o : Option B) (ys : List B) → ((y : B) → o ≡ Some y → Q y) → AllByRecursion Q ys → AllByRecursion Q (cons_option o ys)
+all_option : {B : Type 0} (Q : B → Type 0) (o : Option B) (ys : List B) → ((y : B) → o ≡ Some y → Q y) → AllByRecursion Q ys
+    → AllByRecursion Q (cons_option o ys)
 all_option Q None ys first p = p
 all_option Q (Some y) ys first p = (first y refl, p)
 
-pub all_filter : {A B : Type 0} (P : A → Type 0) (Q : B → Type 0) (f : A → Option B) (xs : List A) → ((x : A) (y : B) → P x → f x ≡ Some y → Q y) → AllByRecursion P xs
+pub all_filter : {A B : Type 0} (P : A → Type 0) (Q : B → Type 0) (f : A → Option B) (xs : List A) → ((x : A) (y : B) → P x → f x ≡ Some y → Q y)
+    → AllByRecursion P xs
     → AllByRecursion Q (filter_map f xs)
 all_filter P Q f [] more p = tt
 all_filter P Q f (x ∷ xs) more p = all_option Q (f x) (filter_map f xs) (λ y is. more x y p.0 is) (all_filter P Q f xs more p.1)
@@ -114,6 +118,7 @@ all_lists bound (suc most) = (
   all_flat (AreBelow bound) (AreBelow bound) (λ (list : List ℕ). map (λ first. first ∷ list) (range_with_len 0 bound)) (lists_below bound most)
       (λ list are.
       each_mapped (λ (first : ℕ). first ∷ list) (AreBelow bound) (range_with_len 0 bound)
-      (each_weaker (λ (n : ℕ). n < bound) (λ (n : ℕ). AreBelow bound (n ∷ list)) (λ n small. below_cons bound n list small are) (range_with_len 0 bound) (all_range 0 bound bound (omega arith))))
+      (each_weaker (λ (n : ℕ). n < bound) (λ (n : ℕ). AreBelow bound (n ∷ list)) (λ n small. below_cons bound n list small are)
+      (range_with_len 0 bound) (all_range 0 bound bound (omega arith))))
       (all_lists bound most),
 )

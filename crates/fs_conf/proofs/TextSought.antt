@@ -1,13 +1,24 @@
 -- What a text says in a rules file, found among all rules and actions that octets can say.
-use Rattle.fs_conf.{proofs.{Words.{◌≡◌, ℕ, ◌+◌, ◌*◌, ◌≤◌, true, false, List, [], ◌∷◌, ◌++◌, map, length, Option, Some, None, Result, Ok, Err, refl, sym, ap, ◌∙◌, subst, arith, append-nil, option_and_then, AllByRecursion, concat, bytes_eq, length-append, take_all, bytes_eq-Decides, each_append, each_mapped, each_weaker, octets_of_each, IsOctets, Family, Reason, IsFieldOutcome, Ruled, IsRule, canonical_frame, IsFrame, IsTheOutcome, rules_of, AreActions, ReadsAs, Sent, actions_among, if_ok, listed_actions, only, rule_of, rules_among, sent_of_text, sents_among, has_text, octet_lists, sent, each_length}, CanonicalFrame.{frame_short}, Found.{found_in}, ListedActions.{listed_are, listed_back}, OneRule.{one_frame}, Sought.{AreBelow, IsIn, all_filter, all_flat, all_lists, in_filter, in_flat, in_left, in_lists, in_map, in_right, none_in}}, specs.WordedLaw.{IsTextOf, SaysItsOwn}}
+use Rattle.fs_conf.proofs.Words.{◌≡◌, ℕ, ◌+◌, ◌*◌, ◌≤◌, true, false, List, [], ◌∷◌, ◌++◌, map, length, Option, Some, None, Result, Ok, Err, refl, sym}
+use Rattle.fs_conf.proofs.Words.{ap, ◌∙◌, subst, arith, append-nil, option_and_then, AllByRecursion, concat, bytes_eq, length-append, take_all}
+use Rattle.fs_conf.proofs.Words.{bytes_eq-Decides, each_append, each_mapped, each_weaker, octets_of_each, IsOctets, Family, Reason, IsFieldOutcome}
+use Rattle.fs_conf.proofs.Words.{Ruled, IsRule, canonical_frame, IsFrame, IsTheOutcome, rules_of, AreActions, ReadsAs, Sent, actions_among, if_ok}
+use Rattle.fs_conf.proofs.Words.{listed_actions, only, rule_of, rules_among, sent_of_text, sents_among, has_text, octet_lists, sent, each_length}
+use Rattle.fs_conf.proofs.{CanonicalFrame.{frame_short}, Found.{found_in}, ListedActions.{listed_are, listed_back}, OneRule.{one_frame}}
+use Rattle.fs_conf.proofs.Sought.{AreBelow, IsIn, all_filter, all_flat, all_lists, in_filter, in_flat, in_left, in_lists, in_map, in_right, none_in}
+use Rattle.fs_conf.specs.WordedLaw.{IsTextOf, SaysItsOwn}
 use Rattle.fs_base.specs.declared.prefix.Family.TheVariants.{V4, V6}
 use Rattle.fs_nlri.proofs.Again.{canonical_is_frame, frame_is_rule}
-use Rattle.fs_text.{specs.{Laws.{EachHasOnePair}, declared.fault.TextFault.{TextFault, TheVariants.{Bad, TooLong, Memory}}, Printed.{action_words, component_words, family_word, spaced, text_of, then_words}}, proofs.Spaces.{join_spaced}}
+use Rattle.fs_text.specs.Laws.{EachHasOnePair}
+use Rattle.fs_text.specs.declared.fault.TextFault.{TextFault, TheVariants.{Bad, TooLong, Memory}}
+use Rattle.fs_text.specs.Printed.{action_words, component_words, family_word, spaced, text_of, then_words}
+use Rattle.fs_text.proofs.Spaces.{join_spaced}
 use Rattle.fs_attrs.proofs.RuleOctets.{frame_are}
 
 -- the octets of a frame say a rule, and those of each rule say it
 
-single_rule : (family : Family) (octets : List ℕ) (rule : Ruled) (found : Result (List Ruled) (Reason × ℕ)) → IsOctets octets → IsFieldOutcome family octets found
+single_rule : (family : Family) (octets : List ℕ) (rule : Ruled) (found : Result (List Ruled) (Reason × ℕ)) → IsOctets octets
+    → IsFieldOutcome family octets found
     → option_and_then only (if_ok found) ≡ Some rule → IsRule rule
 single_rule family octets rule (Err bad) small h is = absurd cc
 single_rule family octets rule (Ok []) small h is = absurd cc
@@ -45,14 +56,16 @@ text_long rule actions =
     let behind : List (List ℕ) = component_words rule.parts ++ then_words actions in
     let told : length (text_of rule actions) ≡ length (family_word rule.family) + length (spaced behind) =
     ap length (join_spaced (family_word rule.family) behind) ∙ length-append (family_word rule.family) (spaced behind) in
-    let count : length behind ≡ length (component_words rule.parts) + length (then_words actions) = length-append (component_words rule.parts) (then_words actions) in
+    let count : length behind ≡ length (component_words rule.parts) + length (then_words actions) =
+    length-append (component_words rule.parts) (then_words actions) in
     omega (arith, told, count, spaced_long behind, then_count actions)
 
 -- among what is sought
 
 family_in : IsTheOutcome → (rule : Ruled) → IsRule rule → IsIn rule (rules_among rule.family)
 family_in law rule is =
-    in_filter (rule_of rule.family) (canonical_frame rule) rule (octet_lists 4097) (in_lists 256 4097 (canonical_frame rule) (frame_short rule is) (frame_are rule is))
+    in_filter (rule_of rule.family) (canonical_frame rule) rule (octet_lists 4097)
+    (in_lists 256 4097 (canonical_frame rule) (frame_short rule is) (frame_are rule is))
     (rule_back law rule is)
 
 rule_in : (rule : Ruled) (family : Family) → rule.family ≡ family → IsIn rule (rules_among rule.family) → IsIn rule (rules_among V4 ++ rules_among V6)
@@ -62,13 +75,15 @@ rule_in rule V6 is there = in_right rule (rules_among V4) (rules_among V6) (subs
 actions_in : (most : ℕ) (actions : List (List ℕ)) → AreActions actions → 8 * length actions ≤ most → IsIn actions (actions_among most)
 actions_in most actions are within =
     let size : length (concat actions) ≡ 8 * length actions = each_length actions are.rising.each in
-    in_filter listed_actions (concat actions) actions (octet_lists most) (in_lists 256 most (concat actions) (omega (arith, size, within)) (octets_of_each actions are.octets))
+    in_filter listed_actions (concat actions) actions (octet_lists most)
+    (in_lists 256 most (concat actions) (omega (arith, size, within)) (octets_of_each actions are.octets))
     (listed_back actions are)
 
 sent_in : IsTheOutcome → (text : List ℕ) (given : Sent) → IsTextOf text given → IsIn given (sents_among (8 * length text))
 sent_in law text given is =
     let most : ℕ = 8 * length text in
-    let long : length given.actions ≤ length text = subst (λ (t : List ℕ). length given.actions ≤ length t) (sym is.text_is) (text_long given.rule given.actions) in
+    let long : length given.actions ≤ length text =
+    subst (λ (t : List ℕ). length given.actions ≤ length t) (sym is.text_is) (text_long given.rule given.actions) in
     in_flat (λ (rule : Ruled). map (sent rule) (actions_among (8 * length text))) given.rule given (rules_among V4 ++ rules_among V6)
     (rule_in given.rule given.rule.family refl (family_in law given.rule is.rule))
     (in_map (sent given.rule) given.actions (actions_among (8 * length text)) (actions_in (8 * length text) given.actions is.actions (omega (arith, long))))
@@ -84,14 +99,16 @@ rules_are law family =
     all_filter (AreBelow 256) IsRule (rule_of family) (octet_lists 4097) (λ octets rule small is. rule_is law family octets rule small is) (all_lists 256 4097)
 
 actions_are : (most : ℕ) → AllByRecursion AreActions (actions_among most)
-actions_are most = all_filter (AreBelow 256) AreActions listed_actions (octet_lists most) (λ octets actions small is. listed_are octets actions small is) (all_lists 256 most)
+actions_are most = all_filter (AreBelow 256) AreActions listed_actions (octet_lists most)
+    (λ octets actions small is. listed_are octets actions small is) (all_lists 256 most)
 
 pairs_are : IsTheOutcome → (most : ℕ) → AllByRecursion IsPair (sents_among most)
 pairs_are law most =
     all_flat IsRule IsPair (λ (rule : Ruled). map (sent rule) (actions_among most)) (rules_among V4 ++ rules_among V6)
     (λ rule is.
     each_mapped (sent rule) IsPair (actions_among most)
-    (each_weaker AreActions (λ (actions : List (List ℕ)). IsPair (sent rule actions)) (λ actions are. record { rule = is; actions = are }) (actions_among most) (actions_are most)))
+    (each_weaker AreActions (λ (actions : List (List ℕ)). IsPair (sent rule actions)) (λ actions are. record { rule = is; actions = are })
+    (actions_among most) (actions_are most)))
     (each_append IsRule (rules_among V4) (rules_among V6) (rules_are law V4) (rules_are law V6))
 
 -- what is found
@@ -144,6 +161,7 @@ never_read TooLong rule actions other reads = reads
 
 -- what is answered of a text of nothing, but for want of memory
 pub unread : SaysItsOwn → (text : List ℕ) (fault : TextFault) → (fault ≡ Memory → ⊥)
-    → ((rule : Ruled) (actions : List (List ℕ)) → IsRule rule → AreActions actions → text ≡ text_of rule actions → ReadsAs rule actions (Err fault)) → sent_of_text text ≡ None
+    → ((rule : Ruled) (actions : List (List ℕ)) → IsRule rule → AreActions actions → text ≡ text_of rule actions → ReadsAs rule actions (Err fault))
+    → sent_of_text text ≡ None
 unread law text fault other exact =
     nothing_found law text (λ sent is. never_read fault sent.rule sent.actions other (exact sent.rule sent.actions is.rule is.actions is.text_is))

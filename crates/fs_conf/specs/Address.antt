@@ -1,5 +1,8 @@
 -- The texts of addresses: dotted IPv4, and the forms 1 and 2 of IPv6 (RFC 4291, section 2.2).
-use Rattle.std.specs.{Prelude.{ℕ, ◌+◌, ◌-◌, ◌==◌, nat_lt, nat_le, ◌&&◌, if◌then◌else◌, List, [], ◌∷◌, ◌++◌, length, take, drop, replicate, codes, Option, Some, None, option_map, option_and_then}, Char.{is_digit}, Fmt.{decimal}, Int.{w32, w128, from_be_bytes}, List.{list_all, list_any}, Net.Addr.{octets_of}, Str.{bytes_eq, Parse.{digits_value}}}
+use Rattle.std.specs.Prelude.{ℕ, ◌+◌, ◌-◌, ◌==◌, nat_lt, nat_le, ◌&&◌, if◌then◌else◌, List, [], ◌∷◌, ◌++◌, length, take, drop, replicate, codes}
+use Rattle.std.specs.Prelude.{Option, Some, None, option_map, option_and_then}
+use Rattle.std.specs.{Char.{is_digit}, Fmt.{decimal}, Int.{w32, w128, from_be_bytes}, List.{list_all, list_any}, Net.Addr.{octets_of}}
+use Rattle.std.specs.Str.{bytes_eq, Parse.{digits_value}}
 use Rattle.fs_base.specs.declared.config.Address.{Address, TheVariants.{V4, V6}}
 
 -- the code of a full stop, and of a colon

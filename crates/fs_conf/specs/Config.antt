@@ -1,5 +1,7 @@
 -- The configuration file: a TOML document with these keys and no others.
-use Rattle.std.specs.{Prelude.{ℕ, ◌==◌, nat_le, Bool, true, false, not, ◌&&◌, ◌||◌, if◌then◌else◌, List, [], ◌∷◌, length, codes, Option, Some, None, option_map, option_and_then}, List.{list_any}}
+use Rattle.std.specs.Prelude.{ℕ, ◌==◌, nat_le, Bool, true, false, not, ◌&&◌, ◌||◌, if◌then◌else◌, List, [], ◌∷◌, length, codes, Option, Some, None}
+use Rattle.std.specs.Prelude.{option_map, option_and_then}
+use Rattle.std.specs.List.{list_any}
 use Rattle.toml.specs.Data.{Data, as_str, as_array, as_table, Items, Members, get_member}
 use Rattle.fs_base.specs.declared.config.{Config.{Config}, Peer.{Peer}}
 use Rattle.fs_conf.specs.{Address.{ipv4_of, address_of}, Document.{document_of, each_item}, Fields.{flag_or, keys_among, number_in, number_or}}

@@ -1,11 +1,18 @@
 -- The first fault of a configuration file, in the order in which it is judged. First, whether it is a document of TOML.
 -- Then its keys: one that it doesn't have, the first by their octets; then those that it has, in the order of FORMATS. Of
 -- the peers, how many there are; then each in turn, by its keys likewise; then whether two have one number.
-use Rattle.std.specs.{Prelude.{ℕ, suc, ◌+◌, ◌≡◌, ◌≤◌, ◌==◌, nat_le, nat_lt, Bool, true, false, not, ◌&&◌, ◌||◌, ⊤, if◌then◌else◌, List, [], ◌∷◌, ◌++◌, length, take, codes, decimal, Option, Some, None, option_map, option_and_then, is_some, string_bytes}, List.{list_all, list_any}, Option.{option_or}, Str.{bytes_eq, is_utf8, Lossy.{utf8_valid_len}}}
+use Rattle.std.specs.Prelude.{ℕ, suc, ◌+◌, ◌≡◌, ◌≤◌, ◌==◌, nat_le, nat_lt, Bool, true, false, not, ◌&&◌, ◌||◌, ⊤, if◌then◌else◌, List, [], ◌∷◌, ◌++◌}
+use Rattle.std.specs.Prelude.{length, take, codes, decimal, Option, Some, None, option_map, option_and_then, is_some, string_bytes}
+use Rattle.std.specs.{List.{list_all, list_any}, Option.{option_or}, Str.{bytes_eq, is_utf8, Lossy.{utf8_valid_len}}}
 use Rattle.hex.specs.Hex.{encode_lower}
 use Rattle.toml.specs.Data.{Data, as_array, as_bool, as_integer, as_str, as_table, Items, no_items, item, Members, no_members, member, get_member}
-use Rattle.fs_conf.specs.{Address.{address_of}, Config.{as_number, config_keys, hold_time_in, identifier, limit_in, peer_keys, written}, Document.{document_of}, Fields.{flag_or, number_in}}
-use Rattle.fs_conf.specs.declared.{fault.{ConfigFault.{ConfigFault, TheVariants.{Key, Memory, Text as NoDocument}}, Unread.{Unread, TheVariants.{At, Memory as NoneLeft}}, KeyReason.{KeyReason, TheVariants.{Kind as OtherKind, Missing, Repeated, Unknown, Value}}}, faults.{Kind.{Kind, TheVariants.{Array, Boolean, Integer, Text}}, Spot.{Spot}, Unfit.{Unfit}}}
+use Rattle.fs_conf.specs.Address.{address_of}
+use Rattle.fs_conf.specs.Config.{as_number, config_keys, hold_time_in, identifier, limit_in, peer_keys, written}
+use Rattle.fs_conf.specs.{Document.{document_of}, Fields.{flag_or, number_in}}
+use Rattle.fs_conf.specs.declared.fault.ConfigFault.{ConfigFault, TheVariants.{Key, Memory, Text as NoDocument}}
+use Rattle.fs_conf.specs.declared.fault.Unread.{Unread, TheVariants.{At, Memory as NoneLeft}}
+use Rattle.fs_conf.specs.declared.fault.KeyReason.{KeyReason, TheVariants.{Kind as OtherKind, Missing, Repeated, Unknown, Value}}
+use Rattle.fs_conf.specs.declared.faults.{Kind.{Kind, TheVariants.{Array, Boolean, Integer, Text}}, Spot.{Spot}, Unfit.{Unfit}}
 
 -- where a document breaks off
 

@@ -1,10 +1,14 @@
 -- What the values are that accepted files write.
 use Rattle.std.specs.{Prelude.{◌≡◌, ◌≢◌, ◌↔◌, ℕ, ◌^◌, ◌<◌, true, List, Some, None, is_some}, List.{AllByRecursion}}
 use Rattle.fs_base.specs.declared.config.{Config.{Config}, Peer.{Peer}}
-use Rattle.fs_speaker.specs.{declared.Sending.{Sending}, Laws.{AreSendable, IsSent}, Numbers.{HasOwnNumbers, IsFourOctet}, Sending.{is_short, sender_of}, Transition.{terms_of}}
+use Rattle.fs_speaker.specs.{declared.Sending.{Sending}, Laws.{AreSendable, IsSent}, Numbers.{HasOwnNumbers, IsFourOctet}}
+use Rattle.fs_speaker.specs.{Sending.{is_short, sender_of}, Transition.{terms_of}}
 use Rattle.toml.specs.Data.{Members}
-use Rattle.fs_conf.specs.{Config.{config_keys, config_of, config_of_document}, Fault.{IsFirstFault, config_fault, first_other, own_fault, unfit}, RuleFault.{IsFirstRulesFault, rules_fault}, Rules.{file_keys, rules_of, sending_of_document}}
-use Rattle.fs_conf.specs.declared.fault.{ConfigFault.{ConfigFault, TheVariants.{Memory as NoMemory}}, KeyReason.TheVariants.{Unknown}, RulesFault.{RulesFault, TheVariants.{Memory as NoRulesMemory}}}
+use Rattle.fs_conf.specs.{Config.{config_keys, config_of, config_of_document}, Fault.{IsFirstFault, config_fault, first_other, own_fault, unfit}}
+use Rattle.fs_conf.specs.{RuleFault.{IsFirstRulesFault, rules_fault}, Rules.{file_keys, rules_of, sending_of_document}}
+use Rattle.fs_conf.specs.declared.fault.ConfigFault.{ConfigFault, TheVariants.{Memory as NoMemory}}
+use Rattle.fs_conf.specs.declared.fault.KeyReason.TheVariants.{Unknown}
+use Rattle.fs_conf.specs.declared.fault.RulesFault.{RulesFault, TheVariants.{Memory as NoRulesMemory}}
 
 -- a peer's number has two octets, its AS number four, and neither is 0
 pub record HasPeerNumbers (peer : Peer) : Type 0 where

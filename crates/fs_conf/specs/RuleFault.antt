@@ -1,15 +1,25 @@
 -- The first fault of a rules file, in the order in which it is judged. First, whether it is a document of TOML. Then its
 -- keys: one that it doesn't have, `id` and `as_path`. Then its rules: each in turn, by its keys likewise; whether two are
 -- one; whether the UPDATE of each fits a message.
-use Rattle.std.specs.{Prelude.{ℕ, zero, suc, ◌-◌, ◌≡◌, nat_le, Bool, true, false, not, ◌&&◌, ◌||◌, ⊤, if◌then◌else◌, List, [], ◌∷◌, ◌++◌, codes, decimal, Option, Some, None, option_map, option_and_then, is_some, string_bytes}, Option.{option_or}, Ordering.{is_eq}, Str.{bytes_eq}}
+use Rattle.std.specs.Prelude.{ℕ, zero, suc, ◌-◌, ◌≡◌, nat_le, Bool, true, false, not, ◌&&◌, ◌||◌, ⊤, if◌then◌else◌, List, [], ◌∷◌, ◌++◌, codes}
+use Rattle.std.specs.Prelude.{decimal, Option, Some, None, option_map, option_and_then, is_some, string_bytes}
+use Rattle.std.specs.{Option.{option_or}, Ordering.{is_eq}, Str.{bytes_eq}}
 use Rattle.toml.specs.Data.{Data, as_array, as_str, as_table, Items, no_items, item, Members, get_member}
 use Rattle.fs_base.specs.declared.{config.{Config.{Config}, Peer.{Peer}}, prefix.Family.{Family}}
-use Rattle.fs_nlri.specs.{Fault.{IsFrameBad}, Parts.{Ruled}, Spelling.{IsFrame}, declared.fault.Reason.{Reason, TheVariants.{Cut, NoType, Order, PrefixLength, Offset, Width, Length}}}
+use Rattle.fs_nlri.specs.{Fault.{IsFrameBad}, Parts.{Ruled}, Spelling.{IsFrame}}
+use Rattle.fs_nlri.specs.declared.fault.Reason.{Reason, TheVariants.{Cut, NoType, Order, PrefixLength, Offset, Width, Length}}
 use Rattle.fs_order.specs.Comparison.{rule_cmp}
 use Rattle.fs_speaker.specs.{Sending.{is_sending, sender_of}, declared.{Sending.{Sending}, Sent.{Sent}}}
 use Rattle.fs_text.specs.{Text.{IsTextFault}, declared.fault.TextFault.TheVariants.{Bad, TooLong as LongText}}
-use Rattle.fs_conf.specs.{Address.{ipv4_of}, Config.{kept_if, written}, Document.{document_of, each_item}, Fault.{Check, IsNoDocument, KeyFault, KeyUnfit, array_in, first_of, item_count, judged, own_fault, place_text, reason_at, reason_name, unfit, unknown}, Rules.{as_path_in, file_keys, number_of}, Sent.{actions_in, family_of, octets_of, rule_keys, rule_written, sent_of_data, sent_of_text, text_keys}}
-use Rattle.fs_conf.specs.declared.{fault.{KeyReason.{KeyReason, TheVariants.{Kind as OtherKind, Missing, Repeated, Value}}, RulesFault.{RulesFault, TheVariants.{Key, Memory, Nlri, Text as NoDocument, TooLong, Word}}, Unread.{Unread, TheVariants.{At, Memory as NoneLeft}}}, faults.Kind.TheVariants.{Array, Integer, Text}}
+use Rattle.fs_conf.specs.{Address.{ipv4_of}, Config.{kept_if, written}, Document.{document_of, each_item}}
+use Rattle.fs_conf.specs.Fault.{Check, IsNoDocument, KeyFault, KeyUnfit, array_in, first_of, item_count, judged, own_fault, place_text, reason_at}
+use Rattle.fs_conf.specs.Fault.{reason_name, unfit, unknown}
+use Rattle.fs_conf.specs.Rules.{as_path_in, file_keys, number_of}
+use Rattle.fs_conf.specs.Sent.{actions_in, family_of, octets_of, rule_keys, rule_written, sent_of_data, sent_of_text, text_keys}
+use Rattle.fs_conf.specs.declared.fault.KeyReason.{KeyReason, TheVariants.{Kind as OtherKind, Missing, Repeated, Value}}
+use Rattle.fs_conf.specs.declared.fault.RulesFault.{RulesFault, TheVariants.{Key, Memory, Nlri, Text as NoDocument, TooLong, Word}}
+use Rattle.fs_conf.specs.declared.fault.Unread.{Unread, TheVariants.{At, Memory as NoneLeft}}
+use Rattle.fs_conf.specs.declared.faults.Kind.TheVariants.{Array, Integer, Text}
 
 infixl 10 ◌>>=◌
 abbrev ◌>>=◌ : {A B : Type 0} → Option A → (A → Option B) → Option B

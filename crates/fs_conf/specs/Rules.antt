@@ -1,5 +1,6 @@
 -- The rules file: a TOML document with these keys and no others.
-use Rattle.std.specs.{Prelude.{ℕ, Bool, true, not, ◌&&◌, ◌||◌, ◌≡◌, if◌then◌else◌, List, [], ◌∷◌, codes, Option, Some, None, option_and_then}, BTreeSet.{BTreeSet}, List.{list_any}, Ordering.{is_eq}}
+use Rattle.std.specs.Prelude.{ℕ, Bool, true, not, ◌&&◌, ◌||◌, ◌≡◌, if◌then◌else◌, List, [], ◌∷◌, codes, Option, Some, None, option_and_then}
+use Rattle.std.specs.{BTreeSet.{BTreeSet}, List.{list_any}, Ordering.{is_eq}}
 use Rattle.toml.specs.Data.{Data, as_array, Members, get_member}
 use Rattle.fs_base.specs.declared.config.Config.{Config}
 use Rattle.fs_nlri.specs.Parts.{Ruled}

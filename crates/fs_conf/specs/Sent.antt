@@ -1,5 +1,7 @@
 -- A rule of the rules file: a table with the keys of its octets, or with the one key of its text, and no others.
-use Rattle.std.specs.{Prelude.{ℕ, ◌*◌, ◌&&◌, Bool, if◌then◌else◌, List, [], ◌∷◌, ◌++◌, codes, filter_map, find, length, Option, Some, None, option_and_then, is_some, Result, Ok, Err}, List.{list_all}, Str.{bytes_eq}}
+use Rattle.std.specs.Prelude.{ℕ, ◌*◌, ◌&&◌, Bool, if◌then◌else◌, List, [], ◌∷◌, ◌++◌, codes, filter_map, find, length, Option, Some, None}
+use Rattle.std.specs.Prelude.{option_and_then, is_some, Result, Ok, Err}
+use Rattle.std.specs.{List.{list_all}, Str.{bytes_eq}}
 use Rattle.hex.specs.Hex.{decode_of}
 use Rattle.toml.specs.Data.{Data, as_str, as_table, Members, get_member}
 use Rattle.fs_base.specs.declared.prefix.Family.{Family, TheVariants.{V4, V6}}

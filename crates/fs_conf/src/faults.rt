@@ -1,10 +1,16 @@
 //! The first fault of a configuration file, found.
 
-ghost use Rattle.std.specs.{BTreeMap.{keys}, Prelude.{◌≡◌, ◌==◌, ◌≤◌, ◌<◌, ◌^◌, [], codes, find, map, nat_le, not, ◌&&◌, option_map, string_bytes, is_some, take, length, Some, None, IfOk, IfErr}, List.{list_all, list_any}, Option.{option_copied}};
+ghost use Rattle.std.specs.BTreeMap.{keys};
+ghost use Rattle.std.specs.Prelude.{◌≡◌, ◌==◌, ◌≤◌, ◌<◌, ◌^◌, [], codes, find, map, nat_le, not, ◌&&◌, option_map, string_bytes, is_some, take};
+ghost use Rattle.std.specs.Prelude.{length, Some, None, IfOk, IfErr};
+ghost use Rattle.std.specs.{List.{list_all, list_any}, Option.{option_copied}};
 ghost use Rattle.toml.specs.{Data.{as_table, get_member}, View.{items_view, table_view, view}};
 ghost use Rattle.fs_conf.specs.{Address.{address_of}, Config.{config_of, config_of_document, written}, Document.{document_of}, Fields.{is_named}};
 ghost use Rattle.fs_conf.specs.declared.fault.{ConfigFault.TheVariants.{Memory as NoMemory}, Unread.TheVariants.{At}};
-ghost use Rattle.fs_conf.specs.Fault.{IsFirstFault, IsUnread, config_fault, document_checks, each_peer, first_again, advance, first_of, first_other, is_bare, is_bare_octet, is_inner, is_kind, is_plain_octet, items_fault, key_text, keys_of_peer, number_of_peer, numbers_of_peers, own_fault, peer_checks, peer_fault, peers_fault, place_text, position_of, reason_at, repeated, spot_shown, unfit, unfit_shown, unknown};
+ghost use Rattle.fs_conf.specs.Fault.{IsFirstFault, IsUnread, config_fault, document_checks, each_peer, first_again, advance, first_of, first_other};
+ghost use Rattle.fs_conf.specs.Fault.{is_bare, is_bare_octet, is_inner, is_kind, is_plain_octet, items_fault, key_text, keys_of_peer, number_of_peer};
+ghost use Rattle.fs_conf.specs.Fault.{numbers_of_peers, own_fault, peer_checks, peer_fault, peers_fault, place_text, position_of, reason_at};
+ghost use Rattle.fs_conf.specs.Fault.{repeated, spot_shown, unfit, unfit_shown, unknown};
 
 use crate::address::read_address;
 use crate::config::{ConfFault, PEER_LIMIT, config_from, hold_time_at, identifier_at, limit_at};

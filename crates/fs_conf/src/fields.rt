@@ -1,6 +1,7 @@
 //! What stands at the keys of a TOML table.
 
-ghost use Rattle.std.specs.{Prelude.{◌≡◌, ◌≤◌, map, string_bytes, option_map, option_and_then, IfSome, OnOk, ◌++◌, ◌∷◌, []}, BTreeMap.{keys}, List.{list_all}, Option.{option_copied}};
+ghost use Rattle.std.specs.Prelude.{◌≡◌, ◌≤◌, map, string_bytes, option_map, option_and_then, IfSome, OnOk, ◌++◌, ◌∷◌, []};
+ghost use Rattle.std.specs.{BTreeMap.{keys}, List.{list_all}, Option.{option_copied}};
 ghost use Rattle.toml.specs.{Data.{get_member, as_str, as_array}, View.{view, array_view, table_view}};
 ghost use Rattle.fs_conf.specs.Fields.{flag_or, is_named, keys_among, number_in, number_or};
 

@@ -1,11 +1,19 @@
 //! The first fault of a rules file, found.
 
-ghost use Rattle.std.specs.{Option.{option_copied, option_or}, Prelude.{◌≡◌, ◌≤◌, ◌+◌, ◌&&◌, suc, length, codes, nat_le, option_and_then, option_map, is_some, false, Some, None, IfOk, IfErr}};
+ghost use Rattle.std.specs.Option.{option_copied, option_or};
+ghost use Rattle.std.specs.Prelude.{◌≡◌, ◌≤◌, ◌+◌, ◌&&◌, suc, length, codes, nat_le, option_and_then, option_map, is_some, false, Some, None, IfOk};
+ghost use Rattle.std.specs.Prelude.{IfErr};
 ghost use Rattle.toml.specs.{Data.{as_str, get_member}, View.{items_view, table_view, view}};
 ghost use Rattle.fs_speaker.specs.Sending.{sender_of};
 ghost use Rattle.fs_conf.specs.declared.faults.Kind.TheVariants.{Integer};
-ghost use Rattle.fs_conf.specs.{Config.{written}, Document.{each_item}, Fault.{first_of, own_fault, reason_at, spot_shown, unfit_shown}, Rules.{as_path_in, number_of, rules_of, sending_of_document}, Sent.{actions_in, family_of, octets_of, sent_of_data, sent_of_text}};
-ghost use Rattle.fs_conf.specs.RuleFault.{IsFirstRulesFault, IsOfDocument, IsTold, SaysFrame, SaysOctet, SaysValue, SaysWord, bad_nlri, each_fault, file_checks, first_but, first_same, is_at, is_value, item_fault, judged_rule, item_at, list_fault, listed, listed_fault, may_go, nlri_at, number_fault, numbers_fault, octet_checks, path_fault, rule_at, rule_check, rule_fault, rule_in, rules_fault, sents_fault, text_checks, unsent};
+ghost use Rattle.fs_conf.specs.{Config.{written}, Document.{each_item}};
+ghost use Rattle.fs_conf.specs.Fault.{first_of, own_fault, reason_at, spot_shown, unfit_shown};
+ghost use Rattle.fs_conf.specs.Rules.{as_path_in, number_of, rules_of, sending_of_document};
+ghost use Rattle.fs_conf.specs.Sent.{actions_in, family_of, octets_of, sent_of_data, sent_of_text};
+ghost use Rattle.fs_conf.specs.RuleFault.{IsFirstRulesFault, IsOfDocument, IsTold, SaysFrame, SaysOctet, SaysValue, SaysWord, bad_nlri, each_fault};
+ghost use Rattle.fs_conf.specs.RuleFault.{file_checks, first_but, first_same, is_at, is_value, item_fault, judged_rule, item_at, list_fault, listed};
+ghost use Rattle.fs_conf.specs.RuleFault.{listed_fault, may_go, nlri_at, number_fault, numbers_fault, octet_checks, path_fault, rule_at, rule_check};
+ghost use Rattle.fs_conf.specs.RuleFault.{rule_fault, rule_in, rules_fault, sents_fault, text_checks, unsent};
 
 use crate::array::each_item;
 use crate::config::ConfFault;

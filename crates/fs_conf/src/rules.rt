@@ -2,7 +2,8 @@
 
 ghost use Rattle.std.specs.Prelude.{◌≡◌, Some, None, IfOk, IsErrOf};
 ghost use Rattle.toml.specs.{Data.{get_member}, View.{view, table_view}};
-ghost use Rattle.fs_conf.specs.{Address.{ipv4_of}, Config.{written}, Rules.{as_path_in, are_single, number_of, rules_in, sendable, sending_of_members, sending_of_document, rules_of, Sees}};
+ghost use Rattle.fs_conf.specs.{Address.{ipv4_of}, Config.{written}};
+ghost use Rattle.fs_conf.specs.Rules.{as_path_in, are_single, number_of, rules_in, sendable, sending_of_members, sending_of_document, rules_of, Sees};
 
 use crate::address::read_ipv4;
 use crate::array::{OfItem, each_item};

@@ -3,7 +3,9 @@
 ghost use Rattle.std.specs.{Prelude.{◌≡◌, Some, None, IfOk, IsErrOf}, List.{list_all}};
 ghost use Rattle.toml.specs.{Data.{get_member}, View.{view, table_view}};
 ghost use Rattle.fs_actions.specs.Actions.{communities};
-ghost use Rattle.fs_conf.specs.{Config.{written}, Sent.{family_of, octets_of, rule_of, rule_written, are_listed, listed_actions, actions_written, actions_in, sent_of_members, sent_of_text}};
+ghost use Rattle.fs_conf.specs.Config.{written};
+ghost use Rattle.fs_conf.specs.Sent.{family_of, octets_of, rule_of, rule_written, are_listed, listed_actions, actions_written, actions_in};
+ghost use Rattle.fs_conf.specs.Sent.{sent_of_members, sent_of_text};
 
 use crate::array::OfItem;
 use crate::config::ConfFault;

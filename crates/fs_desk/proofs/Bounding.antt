@@ -1,5 +1,7 @@
 -- The first update behind which a peer holds more than it may, and the session that it cuts.
-use Rattle.fs_desk.proofs.Words.{◌≡◌, ℕ, List, [], ◌∷◌, ◌++◌, map, map-id, find, Bool, true, false, Option, Some, None, if◌then◌else◌, ap, sym, ◌∙◌, map-append, find-append, option_or, Update, Last, closed, routes_left, is_over, fronts, first_over, too_many, bounded}
+use Rattle.fs_desk.proofs.Words.{◌≡◌, ℕ, List, [], ◌∷◌, ◌++◌, map, map-id, find, Bool, true, false, Option, Some, None, if◌then◌else◌, ap, sym, ◌∙◌}
+use Rattle.fs_desk.proofs.Words.{map-append, find-append, option_or, Update, Last, closed, routes_left, is_over, fronts, first_over, too_many}
+use Rattle.fs_desk.proofs.Words.{bounded}
 use Rattle.fs_rules.proofs.Chosen.{map-map}
 
 fronts-append : {A : Type 0} (xs ys : List A) → fronts (xs ++ ys) ≡ fronts xs ++ map (λ front. xs ++ front) (fronts ys)
@@ -39,8 +41,11 @@ module _ (most : Option ℕ) where
 
   -- a session that doesn't pass the limit is as without it
   pub bounded_within : (updates : List Update) (last : Last) → first_over most updates ≡ None → bounded most (updates, last) ≡ (updates, last)
-  bounded_within updates last h = ap (λ (o : Option (List Update)). elim o as (λ _. List Update × Last) [ None ↦ (updates, last) | Some front ↦ (front, closed too_many) ]) h
+  bounded_within updates last h =
+      ap (λ (o : Option (List Update)). elim o as (λ _. List Update × Last) [ None ↦ (updates, last) | Some front ↦ (front, closed too_many) ]) h
 
   -- and one that passes it is closed there
-  pub bounded_over : (updates front : List Update) (last : Last) → first_over most updates ≡ Some front → bounded most (updates, last) ≡ (front, closed too_many)
-  bounded_over updates front last h = ap (λ (o : Option (List Update)). elim o as (λ _. List Update × Last) [ None ↦ (updates, last) | Some front ↦ (front, closed too_many) ]) h
+  pub bounded_over : (updates front : List Update) (last : Last) → first_over most updates ≡ Some front
+      → bounded most (updates, last) ≡ (front, closed too_many)
+  bounded_over updates front last h =
+      ap (λ (o : Option (List Update)). elim o as (λ _. List Update × Last) [ None ↦ (updates, last) | Some front ↦ (front, closed too_many) ]) h

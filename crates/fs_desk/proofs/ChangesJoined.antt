@@ -1,5 +1,10 @@
 -- Changes of the table one after the other, up to that of an update.
-use Rattle.fs_desk.proofs.{Words.{◌≡◌, ◌==◌, ◌<◌, ◌+◌, ℕ, List, [], ◌∷◌, ◌++◌, Bool, true, false, ◌||◌, Option, Some, None, Result, Ok, Err, OnOk, if◌then◌else◌, option_map, length, take, map, get_or, refl, ap, sym, subst, ◌∙◌, append_assoc, append-nil, is_some, ◌⊎◌, inl, inr, list_any, option_to_list, take_more, map-append, list_any-append, or_none, Path, Prefix, Ruled, shown, Held, Shown, Update, unicast_in, flows_in, given_prefixes, unicast_at, flow_at, last_such, Given, is_prefix, is_rule, given_with, Changes, same, taken_of, given_at, rules_taken, rules_given, given_or, told, told_of}, Life.{any-more}, Updates.{last-more, later_of}}
+use Rattle.fs_desk.proofs.Words.{◌≡◌, ◌==◌, ◌<◌, ◌+◌, ℕ, List, [], ◌∷◌, ◌++◌, Bool, true, false, ◌||◌, Option, Some, None, Result, Ok, Err, OnOk}
+use Rattle.fs_desk.proofs.Words.{if◌then◌else◌, option_map, length, take, map, get_or, refl, ap, sym, subst, ◌∙◌, append_assoc, append-nil, is_some}
+use Rattle.fs_desk.proofs.Words.{◌⊎◌, inl, inr, list_any, option_to_list, take_more, map-append, list_any-append, or_none, Path, Prefix, Ruled, shown}
+use Rattle.fs_desk.proofs.Words.{Held, Shown, Update, unicast_in, flows_in, given_prefixes, unicast_at, flow_at, last_such, Given, is_prefix, is_rule}
+use Rattle.fs_desk.proofs.Words.{given_with, Changes, same, taken_of, given_at, rules_taken, rules_given, given_or, told, told_of}
+use Rattle.fs_desk.proofs.{Life.{any-more}, Updates.{last-more, later_of}}
 use Rattle.std.proofs.lemmas.Option.{none-some}
 
 pub on_ok : {T E P Q : Type 0} (result : Result T E) → (P → Q) → OnOk result P → OnOk result Q
@@ -42,7 +47,8 @@ changes_then peer f f' g g' old mid new t u = record {
       ∙ joined (other == peer) (g' rule) (g rule) (flow_at rule other mid.flows) (flow_at rule other old.flows) (t.flows l rule other);
 }
   where
-    joined : {A : Type 0} (b : Bool) (f' f : A → A) (mid old : A) → mid ≡ (if b then f old else old) → (if b then f' mid else mid) ≡ (if b then f' (f old) else old)
+    joined : {A : Type 0} (b : Bool) (f' f : A → A) (mid old : A) → mid ≡ (if b then f old else old)
+        → (if b then f' mid else mid) ≡ (if b then f' (f old) else old)
     joined true f' f mid old h = ap f' h
     joined false f' f mid old h = h
 
@@ -62,7 +68,8 @@ changes_as peer f f' g g' old new a b t = record {
     said false x y old h = refl
 
 -- the later of two choices counts, where both choose one value
-both_chosen : {A : Type 0} (a b : Bool) (value before : A) → (if (b || false) then value else (if a then value else before)) ≡ (if (a || b) then value else before)
+both_chosen : {A : Type 0} (a b : Bool) (value before : A)
+    → (if (b || false) then value else (if a then value else before)) ≡ (if (a || b) then value else before)
 both_chosen true true value before = refl
 both_chosen true false value before = refl
 both_chosen false true value before = refl
@@ -103,7 +110,8 @@ pub rules_given_more : (peer : ℕ) (path : Path) (actions : List (List ℕ)) (r
     → Changes peer same (rules_given rules path actions) old mid → Changes peer same (rules_given (rule ∷ []) path actions) mid new
     → Changes peer same (rules_given (rules ++ rule ∷ []) path actions) old new
 rules_given_more peer path actions rules rule old mid new t u =
-    changes_as peer (λ p o. o) same (λ r o. rules_given (rule ∷ []) path actions r (rules_given rules path actions r o)) (rules_given (rules ++ rule ∷ []) path actions) old new
+    changes_as peer (λ p o. o) same (λ r o. rules_given (rule ∷ []) path actions r (rules_given rules path actions r o))
+    (rules_given (rules ++ rule ∷ []) path actions) old new
     (λ p o. refl)
     (λ r o.
     given_twice o (last_such (is_rule r) rules) (if is_rule r rule then Some rule else None) path actions
@@ -111,7 +119,8 @@ rules_given_more peer path actions rules rule old mid new t u =
     (changes_then peer same same (rules_given rules path actions) (rules_given (rule ∷ []) path actions) old mid new t u)
 
 -- the rules of a list whose last one was taken off, and then that one
-pub rules_given_at_last : (peer : ℕ) (path : Path) (actions : List (List ℕ)) (rules all front : List Ruled) (last : Option Ruled) (rule : Ruled) (old mid new : Held)
+pub rules_given_at_last : (peer : ℕ) (path : Path) (actions : List (List ℕ)) (rules all front : List Ruled) (last : Option Ruled) (rule : Ruled)
+    (old mid new : Held)
     → all ≡ rules → all ≡ front ++ option_to_list last → last ≡ Some rule
     → Changes peer same (rules_given front path actions) old mid → Changes peer same (rules_given (rule ∷ []) path actions) mid new
     → Changes peer same (rules_given rules path actions) old new
@@ -147,7 +156,8 @@ given_join peer path first later rules old mid new t u =
     (changes_then peer (given_at first path) (given_at later path) same rules old mid new t u)
 
 all_any : (p : Prefix) (u : Update) (rest : List Shown)
-    → list_any (is_prefix p) (u.classic_out ++ (unicast_in u.unreach ++ rest)) ≡ (list_any (is_prefix p) (u.classic_out ++ unicast_in u.unreach) || list_any (is_prefix p) rest)
+    → list_any (is_prefix p) (u.classic_out ++ (unicast_in u.unreach ++ rest))
+    ≡ (list_any (is_prefix p) (u.classic_out ++ unicast_in u.unreach) || list_any (is_prefix p) rest)
 all_any p u rest =
     ap (list_any (is_prefix p)) (sym (append_assoc u.classic_out (unicast_in u.unreach) rest))
     ∙ list_any-append (is_prefix p) (u.classic_out ++ unicast_in u.unreach) rest
@@ -218,7 +228,9 @@ unfolding told_rule_with
 none_rule u h n r o =
     ap (λ (b : Bool). if b then None else rules_taken (flows_in u.unreach) r o) (last_there r (flows_in u.reach))
     ∙ none_choice u (last_such (is_rule r) (flows_in u.reach)) (rules_taken (flows_in u.unreach) r o) n
-    ∙ ap (λ (rules : List Ruled). elim (last_such (is_rule r) (flows_in u.reach)) [ Some given ↦ given_with u given | None ↦ if list_any (is_rule r) rules then None else o ]) (sym (append-nil (flows_in u.unreach)))
+    ∙ ap (λ (rules : List Ruled). elim
+    (last_such (is_rule r) (flows_in u.reach)) [ Some given ↦ given_with u given | None ↦ if list_any (is_rule r) rules then None else o ])
+    (sym (append-nil (flows_in u.unreach)))
     ∙ ap (λ (w : Bool). told_rule_with w u r o) (sym h)
 
 some_choice : (u : Update) (path : Path) (found : Option Ruled) (o : Option Given) → u.path ≡ Some path
@@ -231,7 +243,9 @@ some_rule : (u : Update) (path : Path) → u.as_withdraw ≡ false → u.path �
 unfolding told_rule_with
 some_rule u path h n r o =
     some_choice u path (last_such (is_rule r) (flows_in u.reach)) (rules_taken (flows_in u.unreach) r o) n
-    ∙ ap (λ (rules : List Ruled). elim (last_such (is_rule r) (flows_in u.reach)) [ Some given ↦ given_with u given | None ↦ if list_any (is_rule r) rules then None else o ]) (sym (append-nil (flows_in u.unreach)))
+    ∙ ap (λ (rules : List Ruled). elim
+    (last_such (is_rule r) (flows_in u.reach)) [ Some given ↦ given_with u given | None ↦ if list_any (is_rule r) rules then None else o ])
+    (sym (append-nil (flows_in u.unreach)))
     ∙ ap (λ (w : Bool). told_rule_with w u r o) (sym h)
 
 -- whether an update gives a path
@@ -239,7 +253,8 @@ pub path_back : (w : Bool) (path given : Option Path) → given ≡ (if w then N
 path_back true path given e n = inl refl
 path_back false path given e n = inr (refl, sym e ∙ n)
 
-pub path_there : (w : Bool) (path given : Option Path) (found : Path) → given ≡ (if w then None else path) → given ≡ Some found → (w ≡ false) × (path ≡ Some found)
+pub path_there : (w : Bool) (path given : Option Path) (found : Path) → given ≡ (if w then None else path) → given ≡ Some found
+    → (w ≡ false) × (path ≡ Some found)
 path_there true path given found e n = absurd (none-some found (sym e ∙ n))
 path_there false path given found e n = (refl, sym e ∙ n)
 
@@ -264,5 +279,6 @@ pub told_given : (peer : ℕ) (u : Update) (path : Path) (old mid new : Held) �
     → Changes peer (told u) (told_of u) old new
 told_given peer u path old mid new h n t v =
     changes_as peer (λ p o. given_at (u.classic_in ++ unicast_in u.reach) path p (taken_of (u.classic_out ++ unicast_in u.unreach) p o)) (told u)
-    (λ r o. rules_given (flows_in u.reach) path u.actions r (rules_taken (flows_in u.unreach) r o)) (told_of u) old new (some_prefix u path h n) (some_rule u path h n)
+    (λ r o. rules_given (flows_in u.reach) path u.actions r (rules_taken (flows_in u.unreach) r o)) (told_of u) old new (some_prefix u path h n)
+    (some_rule u path h n)
     (changes_then peer _ _ _ _ old mid new t v)

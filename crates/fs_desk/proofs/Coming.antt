@@ -1,5 +1,9 @@
 -- What a session is still to come to with a piece, message by message.
-use Rattle.fs_desk.proofs.{Words.{◌≡◌, ◌==◌, ℕ, max, List, [], ◌++◌, drop, length, true, Bool, Option, Some, None, refl, ap, sym, ◌∙◌, append_assoc, append-nil, subst, arith, nat_tests, nil_from_length, Config, Peer, pending, Update, Held, Closed, Times, Phase, Handed, with_taken, runs_by, Step, waits, takes, stops, Live, Does, reply_of, step_with, receiver, at_moment, taken_in, Machine, runs_takes, Comes, MessageComes, TakesUpdate, comes_to}, Follows.{all_gone}}
+use Rattle.fs_desk.proofs.Words.{◌≡◌, ◌==◌, ℕ, max, List, [], ◌++◌, drop, length, true, Bool, Option, Some, None, refl, ap, sym, ◌∙◌, append_assoc}
+use Rattle.fs_desk.proofs.Words.{append-nil, subst, arith, nat_tests, nil_from_length, Config, Peer, pending, Update, Held, Closed, Times, Phase}
+use Rattle.fs_desk.proofs.Words.{Handed, with_taken, runs_by, Step, waits, takes, stops, Live, Does, reply_of, step_with, receiver, at_moment}
+use Rattle.fs_desk.proofs.Words.{taken_in, Machine, runs_takes, Comes, MessageComes, TakesUpdate, comes_to}
+use Rattle.fs_desk.proofs.Follows.{all_gone}
 
 -- the greatest moment so far moves nothing
 pub at_greatest : (now : Times) → at_moment now.greatest now ≡ now
@@ -12,7 +16,8 @@ at_greatest now = ap (λ (n : ℕ). let t : Times = record { greatest = n; taken
 pub comes_none : (session : Live) (octets replies : List ℕ) → Comes session octets session octets replies replies
 comes_none session octets replies = record { more = []; grows = sym (append-nil replies); text = refl; point_is = refl }
 
-pub comes_then : (old mid new : Live) (octets between rest a b c : List ℕ) → Comes old octets mid between a b → Comes mid between new rest b c → Comes old octets new rest a c
+pub comes_then : (old mid new : Live) (octets between rest a b c : List ℕ) → Comes old octets mid between a b → Comes mid between new rest b c
+    → Comes old octets new rest a c
 comes_then old mid new octets between rest a b c first later = record {
   more = first.more ++ later.more;
   grows = later.grows ∙ ap (λ (z : List ℕ). z ++ later.more) first.grows ∙ append_assoc a first.more later.more;
@@ -20,7 +25,8 @@ comes_then old mid new octets between rest a b c first later = record {
   point_is = first.point_is ∙ later.point_is;
 }
 
-module _ (old new : Live) (piece : List ℕ) (count : ℕ) (update : Option Update) (replies replies' : List ℕ) (config_is : new.config ≡ old.config) (peer_is : new.peer ≡ old.peer) where
+module _ (old new : Live) (piece : List ℕ) (count : ℕ) (update : Option Update) (replies replies' : List ℕ) (config_is : new.config ≡ old.config)
+    (peer_is : new.peer ≡ old.peer) where
   abbrev machine : Machine
   machine = receiver old.config old.peer
 
@@ -64,7 +70,8 @@ module _ (old new : Live) (piece : List ℕ) (count : ℕ) (update : Option Upda
   comes_fed (stops why) h did r = absurd did
 
 -- the rest that a session, which goes on, has taken a part of
-pub comes_all : (old mid new : Live) (octets rest a b c : List ℕ) → Comes old octets mid rest a b → MessageComes mid new rest b c None → new.closed ≡ None → Comes old octets new [] a c
+pub comes_all : (old mid new : Live) (octets rest a b c : List ℕ) → Comes old octets mid rest a b → MessageComes mid new rest b c None
+    → new.closed ≡ None → Comes old octets new [] a c
 comes_all old mid new octets rest a b c first last alive =
     let l = last alive in
     subst (λ (s : Live). Comes old octets s [] a c) (sym l.1)
@@ -80,11 +87,13 @@ comes_shut session why shut alive = absurd (never (sym shut ∙ alive))
 
 -- an update that was applied leaves the session as it is
 pub comes_applied : (peer : ℕ) (old mid new : Live) (table table' : Held) (piece a b c : List ℕ) (count : ℕ) (update : Update) (open_ : Bool) → open_ ≡ true
-    → TakesUpdate peer update mid new table table' b c open_ → mid.closed ≡ None → Comes old piece mid (drop count piece) a b → MessageComes old new piece a c (Some count)
+    → TakesUpdate peer update mid new table table' b c open_ → mid.closed ≡ None → Comes old piece mid (drop count piece) a b
+    → MessageComes old new piece a c (Some count)
 comes_applied peer old mid new table table' piece a b c count update open_ goes t alive first =
     let stays = t.stays goes in (
       ap (λ (s : Live). s.closed) stays.0 ∙ alive,
-      subst (λ (s : Live). Comes old piece s (drop count piece) a c) (sym stays.0) (subst (λ (z : List ℕ). Comes old piece mid (drop count piece) a z) (sym stays.2) first),
+      subst (λ (s : Live). Comes old piece s (drop count piece) a c) (sym stays.0)
+          (subst (λ (z : List ℕ). Comes old piece mid (drop count piece) a z) (sym stays.2) first),
     )
 
 -- nothing is left of the piece

@@ -1,6 +1,9 @@
 -- Keys that are mentioned and left, each counted once, are as many as the entries of a peer.
 use Rattle.std.{proofs.Common.{Less, Ordering}, specs.Set.{distinct_count}}
-use Rattle.fs_desk.proofs.Words.{◌≡◌, inl, inr, Bool, true, false, true≢false, ◌&&◌, ◌||◌, cond, List, [], ◌∷◌, length, map, filter, flat_map, refl, sym, ap, ap₂, ◌∙◌, length-map, list_any-append, sorted_head, sorted_tail, length-from_keys, IsEquivalence, list_any, AllByRecursion, IsDistinct, IsStrictlySortedBy, and_both, and_first, and_second, or_either, or_first, or_second, same_tests, any_filter, each_weaker}
+use Rattle.fs_desk.proofs.Words.{◌≡◌, inl, inr, Bool, true, false, true≢false, ◌&&◌, ◌||◌, cond, List, [], ◌∷◌, length, map, filter, flat_map, refl}
+use Rattle.fs_desk.proofs.Words.{sym, ap, ap₂, ◌∙◌, length-map, list_any-append, sorted_head, sorted_tail, length-from_keys, IsEquivalence, list_any}
+use Rattle.fs_desk.proofs.Words.{AllByRecursion, IsDistinct, IsStrictlySortedBy, and_both, and_first, and_second, or_either, or_first, or_second}
+use Rattle.fs_desk.proofs.Words.{same_tests, any_filter, each_weaker}
 
 -- whether some element passes, in other words
 pub any_on : {A : Type 0} (p q : A → Bool) (xs : List A) → ((x : A) → p x ≡ q x) → list_any p xs ≡ list_any q xs
@@ -39,11 +42,14 @@ module _ {K E : Type 0} (same : K → K → Bool) (laws : IsEquivalence same) (k
   any_own q entries = any_map (same q) key (filter mine entries) ∙ any_filter mine (λ e. same q (key e)) entries
 
   -- entries in the order of another key, by which the peer's keys are apart
-  module _ {C : Type 0} (R : C → C → Ordering) (code : E → C) (apart : (r s : E) → mine r ≡ true → mine s ≡ true → R (code r) (code s) ≡ Less → same (key r) (key s) ≡ false) where
-    later : (r : E) (rest : List E) → mine r ≡ true → AllByRecursion (λ c. R (code r) c ≡ Less) (map code rest) → AllByRecursion (λ k. same (key r) k ≡ false) (keys rest)
+  module _ {C : Type 0} (R : C → C → Ordering) (code : E → C) (apart : (r s : E) → mine r ≡ true → mine s ≡ true → R (code r) (code s) ≡ Less
+      → same (key r) (key s) ≡ false) where
+    later : (r : E) (rest : List E) → mine r ≡ true → AllByRecursion (λ c. R (code r) c ≡ Less) (map code rest)
+        → AllByRecursion (λ k. same (key r) k ≡ false) (keys rest)
     later r [] h all = tt
     later r (s ∷ rest) h all = at (mine s) refl (later r rest h all.1) where
-      at : (b : Bool) → mine s ≡ b → AllByRecursion (λ k. same (key r) k ≡ false) (keys rest) → AllByRecursion (λ k. same (key r) k ≡ false) (map key (cond b (s ∷ filter mine rest) (filter mine rest)))
+      at : (b : Bool) → mine s ≡ b → AllByRecursion (λ k. same (key r) k ≡ false) (keys rest)
+          → AllByRecursion (λ k. same (key r) k ≡ false) (map key (cond b (s ∷ filter mine rest) (filter mine rest)))
       at true k others = (apart r s h k all.0, others)
       at false k others = others
 

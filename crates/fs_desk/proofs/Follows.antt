@@ -1,5 +1,10 @@
 -- A session that is fed octet by octet and the session of all octets that the peer sent.
-use Rattle.fs_desk.proofs.{Words.{◌≡◌, ℕ, List, [], ◌∷◌, ◌++◌, length, drop, Option, Some, None, true, refl, ap, sym, ◌∙◌, append_assoc, append-nil, subst, arith, drop_all, Config, Peer, pending, Update, Closed, Phase, Step, waits, takes, stops, fresh, at_start, Last, still, closed, with_update, session_from, Live, live, step_of, Does, step_with, bounded, bounded_from, first_over, is_over, routes_left, too_many, with_updates, Follows, IsOver, AreWithin, completed, session_takes, session_stops, session_waits}, Bounding.{next_passes, over_stays, bounded_within, bounded_over}}
+use Rattle.fs_desk.proofs.Words.{◌≡◌, ℕ, List, [], ◌∷◌, ◌++◌, length, drop, Option, Some, None, true, refl, ap, sym, ◌∙◌, append_assoc, append-nil}
+use Rattle.fs_desk.proofs.Words.{subst, arith, drop_all, Config, Peer, pending, Update, Closed, Phase, Step, waits, takes, stops, fresh, at_start}
+use Rattle.fs_desk.proofs.Words.{Last, still, closed, with_update, session_from, Live, live, step_of, Does, step_with, bounded, bounded_from}
+use Rattle.fs_desk.proofs.Words.{first_over, is_over, routes_left, too_many, with_updates, Follows, IsOver, AreWithin, completed, session_takes}
+use Rattle.fs_desk.proofs.Words.{session_stops, session_waits}
+use Rattle.fs_desk.proofs.Bounding.{next_passes, over_stays, bounded_within, bounded_over}
 
 -- an update that a call answered, as a list
 abbrev as_list : Option Update → List Update
@@ -109,7 +114,8 @@ module _ (config : Config) (peer : Peer) (octets rest : List ℕ) (old new : Liv
       subst (λ (q : Peer). Does (step_of config q old.phase (pending old.framing ++ rest)) old new rest count update) f.peer_is with_config in
       by_step f alive (c ∙ f.config_is) (p ∙ f.peer_is) (step_of config peer old.phase (pending old.framing ++ rest)) refl with_peer
 
-pub over_more : (config : Config) (peer : Peer) (octets piece : List ℕ) (why : Closed) → IsOver config peer octets why → IsOver config peer (octets ++ piece) why
+pub over_more : (config : Config) (peer : Peer) (octets piece : List ℕ) (why : Closed) → IsOver config peer octets why
+    → IsOver config peer (octets ++ piece) why
 over_more config peer octets piece why o = record {
   updates = o.updates;
   stays = λ more. ap (λ (z : List ℕ). bounded_from config peer z) (append_assoc octets piece more) ∙ o.stays (piece ++ more);
@@ -136,7 +142,8 @@ follows_closed config peer octets rest old updates why f w h =
 
 -- the limit was passed at the last update
 pub follows_over : (config : Config) (peer : Peer) (octets rest : List ℕ) (session : Live) (updates : List Update) (update : Update)
-    → Follows config peer octets rest session (updates ++ update ∷ []) → AreWithin peer updates → is_over peer.max_routes (routes_left (updates ++ update ∷ [])) ≡ true
+    → Follows config peer octets rest session (updates ++ update ∷ []) → AreWithin peer updates
+    → is_over peer.max_routes (routes_left (updates ++ update ∷ [])) ≡ true
     → (more : List ℕ) → first_over peer.max_routes (session_from config peer at_start (octets ++ more)).0 ≡ Some (updates ++ update ∷ [])
 follows_over config peer octets rest session updates update f w h more =
     ap (λ (r : List Update × Last). first_over peer.max_routes r.0) (f.goes more)
@@ -144,12 +151,14 @@ follows_over config peer octets rest session updates update f w h more =
 
 -- where the session closes
 pub follows_ceased : (config : Config) (peer : Peer) (octets rest : List ℕ) (session : Live) (updates : List Update) (update : Update)
-    → Follows config peer octets rest session (updates ++ update ∷ []) → AreWithin peer updates → is_over peer.max_routes (routes_left (updates ++ update ∷ [])) ≡ true
+    → Follows config peer octets rest session (updates ++ update ∷ []) → AreWithin peer updates
+    → is_over peer.max_routes (routes_left (updates ++ update ∷ [])) ≡ true
     → IsOver config peer octets too_many
 follows_ceased config peer octets rest session updates update f w h = record {
   updates = updates ++ update ∷ [];
   stays = λ more.
-      bounded_over peer.max_routes (session_from config peer at_start (octets ++ more)).0 (updates ++ update ∷ []) (session_from config peer at_start (octets ++ more)).1
+      bounded_over peer.max_routes (session_from config peer at_start (octets ++ more)).0 (updates ++ update ∷ [])
+      (session_from config peer at_start (octets ++ more)).1
       (follows_over config peer octets rest session updates update f w h more);
 }
 

@@ -1,11 +1,17 @@
 -- What a piece makes of the session that a desk keeps of a peer.
-use Rattle.fs_desk.proofs.{Words.{◌≡◌, ◌==◌, ℕ, Bool, true, false, List, [], ◌∷◌, ◌++◌, Option, Some, None, ap, sym, ◌∙◌, subst, append-nil, nat_cmp, set_value, is_at, peer_of, Config, Peer, eq_itself, if_true, pending, Noted, Held, Closed, Fault, Times, Handed, Point, handed, hand, runs_by, waits, Live, step_of, receiver, at_moment, runs_waits, Item, received, Desked, HandsPeer, IsHanded, PeerIs, PlayedBut, StandsAs, expired_after, session_at, life, Comes, IsFed, PieceComes, TakesPiece, comes_to, point_of}, Coming.{at_greatest}, Played.{StaysClosed, desk_fed, desk_of, session_value}}
+use Rattle.fs_desk.proofs.Words.{◌≡◌, ◌==◌, ℕ, Bool, true, false, List, [], ◌∷◌, ◌++◌, Option, Some, None, ap, sym, ◌∙◌, subst, append-nil, nat_cmp}
+use Rattle.fs_desk.proofs.Words.{set_value, is_at, peer_of, Config, Peer, eq_itself, if_true, pending, Noted, Held, Closed, Fault, Times, Handed}
+use Rattle.fs_desk.proofs.Words.{Point, handed, hand, runs_by, waits, Live, step_of, receiver, at_moment, runs_waits, Item, received, Desked}
+use Rattle.fs_desk.proofs.Words.{HandsPeer, IsHanded, PeerIs, PlayedBut, StandsAs, expired_after, session_at, life, Comes, IsFed, PieceComes}
+use Rattle.fs_desk.proofs.Words.{TakesPiece, comes_to, point_of}
+use Rattle.fs_desk.proofs.{Coming.{at_greatest}, Played.{StaysClosed, desk_fed, desk_of, session_value}}
 
 -- in the octets that wait of an open session no message stands whole
 abbrev Waits : Live → Type 0
 Waits session = step_of session.config session.peer session.phase (pending session.framing) ≡ waits
 
-open_waits : {expired : ℕ → Bool} (config : Config) (items : List Item) (n : ℕ) (session : Live) (desk : Desked) → session_at n desk.sessions ≡ Some session → session.closed ≡ None → PlayedBut expired config items desk → Waits session
+open_waits : {expired : ℕ → Bool} (config : Config) (items : List Item) (n : ℕ) (session : Live) (desk : Desked)
+    → session_at n desk.sessions ≡ Some session → session.closed ≡ None → PlayedBut expired config items desk → Waits session
 open_waits {expired} config items n session desk there alive p =
     by_expired (expired n) (subst (λ (x : Option Live). StandsAs (expired n) config (peer_of n config.peers) (life n items) x n desk.held) there (p.each n))
   where
@@ -31,7 +37,8 @@ stands_there : (session : Live) → session.closed ≡ None → Waits session �
 stands_there session alive waiting =
     ap (runs_by (receiver session.config session.peer) session.phase session.times) (append-nil (pending session.framing))
     ∙ runs_waits (receiver session.config session.peer) session.phase session.times (pending session.framing) waiting
-    ∙ ap (λ (c : Option Closed). let p : Point = record { waiting = pending session.framing; phase = session.phase; times = session.times; closed = c } in handed p [] []) (sym alive)
+    ∙ ap (λ (c : Option Closed). let p : Point =
+    record { waiting = pending session.framing; phase = session.phase; times = session.times; closed = c } in handed p [] []) (sym alive)
 
 -- what is handed to it at the greatest of its moments
 handed_there : (session : Live) (piece : List ℕ) → session.closed ≡ None
@@ -43,7 +50,8 @@ handed_there session piece alive =
     ]) alive
     ∙ ap (λ (t : Times). runs_by (receiver session.config session.peer) session.phase t (pending session.framing ++ piece)) (at_greatest session.times)
 
-is_handed : (old new : Live) (piece replies replies' : List ℕ) → old.closed ≡ None → Comes old piece new [] replies replies' → new.closed ≡ None → Waits new → IsHanded old new piece replies replies'
+is_handed : (old new : Live) (piece replies replies' : List ℕ) → old.closed ≡ None → Comes old piece new [] replies replies' → new.closed ≡ None
+    → Waits new → IsHanded old new piece replies replies'
 is_handed old new piece replies replies' before comes after waiting =
     let there : comes_to new [] ≡ handed (point_of new) [] [] = stands_there new after waiting in
     let made = handed_there old piece before in
@@ -51,29 +59,38 @@ is_handed old new piece replies replies' before comes after waiting =
       alive = before;
       point_is = sym (ap (λ (m : Handed). m.point) made ∙ comes.point_is ∙ ap (λ (m : Handed). m.point) there);
       grows = comes.grows
-          ∙ ap (λ (z : List ℕ). replies ++ z) (sym (append-nil comes.more) ∙ ap (λ (m : Handed). comes.more ++ m.text) (sym there) ∙ sym comes.text ∙ sym (ap (λ (m : Handed). m.text) made));
+          ∙ ap (λ (z : List ℕ). replies ++ z) (sym (append-nil comes.more) ∙ ap (λ (m : Handed). comes.more ++ m.text) (sym there) ∙ sym comes.text
+          ∙ sym (ap (λ (m : Handed). m.text) made));
     }
 
 one_session : (found session : Live) (o : Option Live) → o ≡ Some found → o ≡ Some session → found ≡ session
 one_session found session o e f = ap (λ (x : Option Live). elim x [ None ↦ found | Some l ↦ l ]) (sym e ∙ f)
 
-pub desk_handed : (noted noted' : Noted) (n : ℕ) (piece replies replies' : List ℕ) (session session' : Live) (own : Config) (table table' : Held) (sessions sessions' : List (ℕ × Live)) (old : Desked)
-    → old ≡ desk_of own table noted sessions → session_at n sessions ≡ Some session → TakesPiece n session session' table table' piece replies replies' → StaysClosed session session' table table' replies replies' → PieceComes session session' piece replies replies'
+pub desk_handed : (noted noted' : Noted) (n : ℕ) (piece replies replies' : List ℕ) (session session' : Live) (own : Config) (table table' : Held)
+    (sessions sessions' : List (ℕ × Live)) (old : Desked)
+    → old ≡ desk_of own table noted sessions → session_at n sessions ≡ Some session
+    → TakesPiece n session session' table table' piece replies replies' → StaysClosed session session' table table' replies replies'
+    → PieceComes session session' piece replies replies'
     → sessions' ≡ set_value (is_at (nat_cmp n)) sessions session' → HandsPeer n old (desk_of own table' noted' sessions') piece replies replies'
-desk_handed noted noted' n piece replies replies' session session' own table table' sessions sessions' old e there takes stays comes s expired config items found found' p here here' alive =
+desk_handed noted noted' n piece replies replies' session session' own table table' sessions sessions' old e there takes stays comes s expired config
+    items found found' p here here' alive =
     let first : found ≡ session = one_session found session (session_at n sessions) (ap (λ (d : Desked). session_at n d.sessions) (sym e) ∙ here) there in
-    let now_there : session_at n sessions' ≡ Some session' = session_value n n session session' sessions sessions' there s ∙ if_true (n == n) _ _ (eq_itself n) in
+    let now_there : session_at n sessions' ≡ Some session' = session_value n n session session' sessions sessions' there s
+    ∙ if_true (n == n) _ _ (eq_itself n) in
     let last : found' ≡ session' = one_session found' session' (session_at n sessions') here' now_there in
     let after : session'.closed ≡ None = ap (λ (l : Live). l.closed) (sym last) ∙ alive in
     let both = comes after in
     let whole : PlayedBut (expired_after (received n piece) expired) config (items ++ received n piece ∷ []) (desk_of own table' noted' sessions') =
-    desk_fed {noted = noted} {noted' = noted'} config items n piece replies replies' session session' own table table' sessions sessions' old e there takes stays s p in
+    desk_fed {noted = noted} {noted' = noted'} config items n piece replies replies' session session' own table table' sessions sessions' old e there
+    takes stays s p in
     subst (λ (l : Live). IsHanded l found' piece replies replies') (sym first)
     (subst (λ (l : Live). IsHanded session l piece replies replies') (sym last)
-    (is_handed session session' piece replies replies' both.0 both.1 after (open_waits config (items ++ received n piece ∷ []) n session' (desk_of own table' noted' sessions') now_there after whole)))
+    (is_handed session session' piece replies replies' both.0 both.1 after
+    (open_waits config (items ++ received n piece ∷ []) n session' (desk_of own table' noted' sessions') now_there after whole)))
 
 -- a peer that is down has no session
-pub desk_unhanded : (noted noted' : Noted) (n : ℕ) (piece replies : List ℕ) (own : Config) (table table' : Held) (sessions sessions' : List (ℕ × Live)) (old : Desked) → old ≡ desk_of own table noted sessions → session_at n sessions ≡ None
+pub desk_unhanded : (noted noted' : Noted) (n : ℕ) (piece replies : List ℕ) (own : Config) (table table' : Held)
+    (sessions sessions' : List (ℕ × Live)) (old : Desked) → old ≡ desk_of own table noted sessions → session_at n sessions ≡ None
     → HandsPeer n old (desk_of own table' noted' sessions') piece replies replies
 desk_unhanded noted noted' n piece replies own table table' sessions sessions' old e none expired config items found found' p here here' alive =
     absurd (never (sym (ap (λ (d : Desked). session_at n d.sessions) (sym e) ∙ here) ∙ none))

@@ -1,5 +1,9 @@
 -- Updates that list nothing, and the octets of such: the table and what is noted stay.
-use Rattle.fs_desk.proofs.{Words.{◌≡◌, inl, inr, ℕ, List, [], ◌∷◌, ◌++◌, drop, Bool, true, false, if◌then◌else◌, ◌==◌, Option, Some, None, refl, nat_cmp, set_value, is_at, eq_itself, if_true, Config, ap, sym, ◌∙◌, subst, AllByRecursion, Update, given_prefixes, unicast_in, flows_in, Live, Does, step_with, held_count, Closed, Ended, Desked, standing_by, session_at, standing_at_desk, AreIdle, IsIdle, KeepsAll, LosesNothing, completed, Watched}, Follows.{completed_fed}, Played.{desk_of, session_value}}
+use Rattle.fs_desk.proofs.Words.{◌≡◌, inl, inr, ℕ, List, [], ◌∷◌, ◌++◌, drop, Bool, true, false, if◌then◌else◌, ◌==◌, Option, Some, None, refl}
+use Rattle.fs_desk.proofs.Words.{nat_cmp, set_value, is_at, eq_itself, if_true, Config, ap, sym, ◌∙◌, subst, AllByRecursion, Update, given_prefixes}
+use Rattle.fs_desk.proofs.Words.{unicast_in, flows_in, Live, Does, step_with, held_count, Closed, Ended, Desked, standing_by, session_at}
+use Rattle.fs_desk.proofs.Words.{standing_at_desk, AreIdle, IsIdle, KeepsAll, LosesNothing, completed, Watched}
+use Rattle.fs_desk.proofs.{Follows.{completed_fed}, Played.{desk_of, session_value}}
 use Rattle.fs_speaker.specs.declared.Standing.TheVariants.{Live as LiveIn}
 
 pub more_than_none : {A : Type 0} (xs : List A) (x : A) → xs ++ x ∷ [] ≡ [] → ⊥
@@ -41,18 +45,22 @@ lists_nothing update idle =
     }
 
 -- after one message without an update the rest lists nothing either
-pub idle_none : (old new : Live) (piece : List ℕ) (count : ℕ) → new.config ≡ old.config → new.peer ≡ old.peer → Does (step_with old piece) old new piece count None → AreIdle old piece → AreIdle new (drop count piece)
+pub idle_none : (old new : Live) (piece : List ℕ) (count : ℕ) → new.config ≡ old.config → new.peer ≡ old.peer
+    → Does (step_with old piece) old new piece count None → AreIdle old piece → AreIdle new (drop count piece)
 idle_none old new piece count c p did idle = subst (AllByRecursion IsIdle) (completed_fed old new piece count None c p did) idle
 
 -- and after one with an update, which lists nothing
-pub idle_update : (old new : Live) (piece : List ℕ) (count : ℕ) (update : Update) → new.config ≡ old.config → new.peer ≡ old.peer → Does (step_with old piece) old new piece count (Some update) → AreIdle old piece
+pub idle_update : (old new : Live) (piece : List ℕ) (count : ℕ) (update : Update) → new.config ≡ old.config → new.peer ≡ old.peer
+    → Does (step_with old piece) old new piece count (Some update) → AreIdle old piece
     → IsIdle update × AreIdle new (drop count piece)
 idle_update old new piece count update c p did idle =
-    let all : AllByRecursion IsIdle (update ∷ completed new (drop count piece)) = subst (AllByRecursion IsIdle) (completed_fed old new piece count (Some update) c p did) idle in
+    let all : AllByRecursion IsIdle (update ∷ completed new (drop count piece)) =
+    subst (AllByRecursion IsIdle) (completed_fed old new piece count (Some update) c p did) idle in
     (all.0, all.1)
 
 -- where the session has closed the peer held nothing
-pub held_nothing : (peer : ℕ) (session : Live) (table : Watched) (why : Closed) → session.closed ≡ Some why → KeepsAll peer session table → held_count peer table.held ≡ 0
+pub held_nothing : (peer : ℕ) (session : Live) (table : Watched) (why : Closed) → session.closed ≡ Some why → KeepsAll peer session table
+    → held_count peer table.held ≡ 0
 held_nothing peer session table why shut (inl alive) = absurd (never (sym shut ∙ alive))
   where
     never : Some why ≡ None → ⊥
@@ -60,7 +68,8 @@ held_nothing peer session table why shut (inl alive) = absurd (never (sym shut �
 held_nothing peer session table why shut (inr zero_is) = zero_is
 
 -- so of a desk's session
-pub keeps_all : (peer : ℕ) (old new : Desked) (session session' : Live) (table : Watched) → session_at peer old.sessions ≡ Some session → session_at peer new.sessions ≡ Some session'
+pub keeps_all : (peer : ℕ) (old new : Desked) (session session' : Live) (table : Watched) → session_at peer old.sessions ≡ Some session
+    → session_at peer new.sessions ≡ Some session'
     → table.held ≡ old.held → session.closed ≡ None → LosesNothing peer old new → KeepsAll peer session' table
 keeps_all peer old new session session' table there there' same alive loses = by session'.closed refl loses
   where
@@ -93,5 +102,6 @@ desk_notes_none n session session' own table table' sessions sessions' old e the
     by (Some why) h = ap (λ (w : Watched). w.changes) (shut why h)
     by None h =
         open_ h
-        (keeps_all n old (desk_of own table'.held table'.changes sessions') session session' table (ap (λ (d : Desked). session_at n d.sessions) e ∙ there) now_there
+        (keeps_all n old (desk_of own table'.held table'.changes sessions') session session' table (ap (λ (d : Desked). session_at n d.sessions) e
+        ∙ there) now_there
         (ap (λ (d : Desked). d.held) (sym e)) h loses)

@@ -1,4 +1,6 @@
-use Rattle.fs_desk.proofs.Words.{◌≡◌, List, [], ◌∷◌, Bool, true, false, not, cond, Option, Some, None, if◌then◌else◌, refl, ap, sym, ◌∙◌, map, filter, find, true≢false, Ordering, Less, Equal, Greater, is_eq, match_ordering, ordering_reverse, IsTotalOrder, alike_right, AllByRecursion, each_mapped, each_of_map, each_weaker, each_filtered, IsStrictlySortedBy, equal_of_is_eq}
+use Rattle.fs_desk.proofs.Words.{◌≡◌, List, [], ◌∷◌, Bool, true, false, not, cond, Option, Some, None, if◌then◌else◌, refl, ap, sym, ◌∙◌, map, filter}
+use Rattle.fs_desk.proofs.Words.{find, true≢false, Ordering, Less, Equal, Greater, is_eq, match_ordering, ordering_reverse, IsTotalOrder, alike_right}
+use Rattle.fs_desk.proofs.Words.{AllByRecursion, each_mapped, each_of_map, each_weaker, each_filtered, IsStrictlySortedBy, equal_of_is_eq}
 
 -- Lists that are kept in the order of a key, one element a key: what putting, taking away and looking up do.
 
@@ -39,10 +41,13 @@ module _ {X K : Type 0} (key : X → K) (R : K → K → Ordering) where
       where
         by : (r : Ordering) → R (key x) (key y) ≡ r
             → at_key k (put_by x ys) ≡ (if is_eq (R k (key x)) then Some x else at_key k ys)
-            → at_key k (match_ordering r (x ∷ y ∷ ys) (x ∷ ys) (y ∷ put_by x ys)) ≡ cond (is_eq (R k (key x))) (Some x) (cond (is_eq (R k (key y))) (Some y) (at_key k ys))
+            → at_key k (match_ordering r (x ∷ y ∷ ys) (x ∷ ys) (y ∷ put_by x ys))
+            ≡ cond (is_eq (R k (key x))) (Some x) (cond (is_eq (R k (key y))) (Some y) (at_key k ys))
         by Less h later = refl
-        by Equal h later = twice (is_eq (R k (key x))) x y (at_key k ys) ∙ ap (λ b. cond (is_eq (R k (key x))) (Some x) (cond b (Some y) (at_key k ys))) (same_side k x y h)
-        by Greater h later = ap (λ rest. cond (is_eq (R k (key y))) (Some y) rest) later ∙ swapped (is_eq (R k (key x))) (is_eq (R k (key y))) x y (at_key k ys) (apart k x y h)
+        by Equal h later = twice (is_eq (R k (key x))) x y (at_key k ys)
+            ∙ ap (λ b. cond (is_eq (R k (key x))) (Some x) (cond b (Some y) (at_key k ys))) (same_side k x y h)
+        by Greater h later = ap (λ rest. cond (is_eq (R k (key y))) (Some y) rest) later
+            ∙ swapped (is_eq (R k (key x))) (is_eq (R k (key y))) x y (at_key k ys) (apart k x y h)
 
     kept_out : (b c d : Bool) (x : X) (rest old : Option X) → (c ≡ true → b ≡ d) → rest ≡ (if b then old else None)
         → cond d (cond c (Some x) rest) rest ≡ (if b then cond c (Some x) old else None)
@@ -55,7 +60,8 @@ module _ {X K : Type 0} (key : X → K) (R : K → K → Ordering) where
     kept_out false false true x rest old f h = h
     kept_out false false false x rest old f h = h
 
-    at_kept : (k : K) (x : X) (b : Bool) (xs : List X) → at_key k (cond b (x ∷ xs) xs) ≡ cond b (cond (is_eq (R k (key x))) (Some x) (at_key k xs)) (at_key k xs)
+    at_kept : (k : K) (x : X) (b : Bool) (xs : List X)
+        → at_key k (cond b (x ∷ xs) xs) ≡ cond b (cond (is_eq (R k (key x))) (Some x) (at_key k xs)) (at_key k xs)
     at_kept k x true xs = refl
     at_kept k x false xs = refl
 
@@ -87,11 +93,13 @@ module _ {X K : Type 0} (key : X → K) (R : K → K → Ordering) where
     abbrev pub IsListed : List X → Type 0
     IsListed xs = IsStrictlySortedBy R (map key xs)
 
-    above_put : (k : K) (x : X) (xs : List X) → R k (key x) ≡ Less → AllByRecursion (λ q. R k q ≡ Less) (map key xs) → AllByRecursion (λ q. R k q ≡ Less) (map key (put_by x xs))
+    above_put : (k : K) (x : X) (xs : List X) → R k (key x) ≡ Less → AllByRecursion (λ q. R k q ≡ Less) (map key xs)
+        → AllByRecursion (λ q. R k q ≡ Less) (map key (put_by x xs))
     above_put k x [] h a = (h, tt)
     above_put k x (y ∷ ys) h a = by (R (key x) (key y)) (above_put k x ys h a.1)
       where
-        by : (r : Ordering) → AllByRecursion (λ q. R k q ≡ Less) (map key (put_by x ys)) → AllByRecursion (λ q. R k q ≡ Less) (map key (match_ordering r (x ∷ y ∷ ys) (x ∷ ys) (y ∷ put_by x ys)))
+        by : (r : Ordering) → AllByRecursion (λ q. R k q ≡ Less) (map key (put_by x ys))
+            → AllByRecursion (λ q. R k q ≡ Less) (map key (match_ordering r (x ∷ y ∷ ys) (x ∷ ys) (y ∷ put_by x ys)))
         by Less later = (h, a)
         by Equal later = (h, a.1)
         by Greater later = (a.0, later)
@@ -115,8 +123,10 @@ module _ {X K : Type 0} (key : X → K) (R : K → K → Ordering) where
         by Equal h later = (above_same (key x) (key y) ys h s.0, s.1)
         by Greater h later = (above_put (key y) x ys (less_back (key x) (key y) h) s.0, later)
 
-    above_filter : (p : X → Bool) (k : K) (xs : List X) → AllByRecursion (λ q. R k q ≡ Less) (map key xs) → AllByRecursion (λ q. R k q ≡ Less) (map key (filter p xs))
-    above_filter p k xs a = each_mapped key (λ q. R k q ≡ Less) (filter p xs) (each_filtered (λ x. R k (key x) ≡ Less) p xs (each_of_map key (λ q. R k q ≡ Less) xs a))
+    above_filter : (p : X → Bool) (k : K) (xs : List X) → AllByRecursion (λ q. R k q ≡ Less) (map key xs)
+        → AllByRecursion (λ q. R k q ≡ Less) (map key (filter p xs))
+    above_filter p k xs a = each_mapped key (λ q. R k q ≡ Less) (filter p xs)
+        (each_filtered (λ x. R k (key x) ≡ Less) p xs (each_of_map key (λ q. R k q ≡ Less) xs a))
 
     pub listed-filter : (p : X → Bool) (xs : List X) → IsListed xs → IsListed (filter p xs)
     unfolding IsStrictlySortedBy

@@ -1,5 +1,7 @@
 -- Two lists in the order of a key that give the same at each key are one list.
-use Rattle.fs_desk.proofs.Words.{◌≡◌, List, [], ◌∷◌, Bool, true, false, cond, Option, Some, None, option_map, refl, ap, sym, ◌∙◌, map, find, true≢false, Ordering, Less, Equal, Greater, is_eq, ordering_reverse, IsTotalOrder, AllByRecursion, IsStrictlySortedBy, sorted_head, sorted_tail}
+use Rattle.fs_desk.proofs.Words.{◌≡◌, List, [], ◌∷◌, Bool, true, false, cond, Option, Some, None, option_map, refl, ap, sym, ◌∙◌, map, find}
+use Rattle.fs_desk.proofs.Words.{true≢false, Ordering, Less, Equal, Greater, is_eq, ordering_reverse, IsTotalOrder, AllByRecursion}
+use Rattle.fs_desk.proofs.Words.{IsStrictlySortedBy, sorted_head, sorted_tail}
 use Rattle.std.proofs.lemmas.Cmp.{tied_itself, alike_right}
 
 module _ {A K V : Type 0} (key : A → K) (value : A → V) (R : K → K → Ordering) where
@@ -8,7 +10,8 @@ module _ {A K V : Type 0} (key : A → K) (value : A → V) (R : K → K → Ord
   value_at k xs = option_map value (find (λ x. is_eq (R k (key x))) xs)
 
   -- with one more element in front, by how its key compares
-  more : (k : K) (x : A) (xs : List A) (b : Bool) → is_eq (R k (key x)) ≡ b → value_at k (x ∷ xs) ≡ option_map value (cond b (Some x) (find (λ x. is_eq (R k (key x))) xs))
+  more : (k : K) (x : A) (xs : List A) (b : Bool) → is_eq (R k (key x)) ≡ b
+      → value_at k (x ∷ xs) ≡ option_map value (cond b (Some x) (find (λ x. is_eq (R k (key x))) xs))
   more k x xs b h = ap (λ c. option_map value (cond c (Some x) (find (λ x. is_eq (R k (key x))) xs))) h
 
   absent : (k : K) (xs : List A) → AllByRecursion (λ p. R k p ≡ Less) (map key xs) → value_at k xs ≡ None
@@ -50,7 +53,8 @@ module _ {A K V : Type 0} (key : A → K) (value : A → V) (R : K → K → Ord
     same_value a b found = cc
 
     module _ (whole : (x y : A) → R (key x) (key y) ≡ Equal → value x ≡ value y → x ≡ y) where
-      pub one_list : (xs ys : List A) → IsStrictlySortedBy R (map key xs) → IsStrictlySortedBy R (map key ys) → ((k : K) → value_at k xs ≡ value_at k ys) → xs ≡ ys
+      pub one_list : (xs ys : List A) → IsStrictlySortedBy R (map key xs) → IsStrictlySortedBy R (map key ys)
+          → ((k : K) → value_at k xs ≡ value_at k ys) → xs ≡ ys
       one_list [] [] s t e = refl
       one_list [] (y ∷ ys) s t e = absurd (none_some (value_at (key y) (y ∷ ys)) (value y) (present y ys) (sym (e (key y))))
       one_list (x ∷ xs) [] s t e = absurd (none_some (value_at (key x) (x ∷ xs)) (value x) (present x xs) (e (key x)))

@@ -1,5 +1,7 @@
 -- The keys of unicast and flow routes as tests.
-use Rattle.fs_desk.proofs.Words.{◌≡◌, ◌==◌, ℕ, Bool, true, false, ◌&&◌, refl, ap, ap₂, sym, ◌∙◌, nat_cmp, is_eq, IsTotalOrder, then_total, on_total, nat_cmp_total, tied_then, afi_of, prefix_cmp, prefix_matches_eq, Family, Prefix, Ruled, shown, rule_cmp, rule_total, place_cmp, Place, flow_key_cmp, FlowKey, is_prefix, is_eq_of_nats}
+use Rattle.fs_desk.proofs.Words.{◌≡◌, ◌==◌, ℕ, Bool, true, false, ◌&&◌, refl, ap, ap₂, sym, ◌∙◌, nat_cmp, is_eq, IsTotalOrder, then_total, on_total}
+use Rattle.fs_desk.proofs.Words.{nat_cmp_total, tied_then, afi_of, prefix_cmp, prefix_matches_eq, Family, Prefix, Ruled, shown, rule_cmp, rule_total}
+use Rattle.fs_desk.proofs.Words.{place_cmp, Place, flow_key_cmp, FlowKey, is_prefix, is_eq_of_nats}
 use Rattle.fs_base.specs.declared.prefix.Family.TheVariants.{V4, V6}
 use denote.Enum.Bare.{sameb}
 use Rattle.fs_base.specs.contracts.prefix.Family.{the_type}

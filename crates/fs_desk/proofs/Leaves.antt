@@ -1,5 +1,8 @@
 -- What a desk that followed a tape holds is what the tape leaves.
-use Rattle.fs_desk.proofs.{Words.{◌≡◌, ◌∙◌, ℕ, Bool, true, false, if◌then◌else◌, List, [], Option, Some, None, ap, sym, subst, peer_of, Config, Peer, eq_itself, Update, Held, still, at_start, Live, Closed, Item, Desked, session_at, PeerIs, PlayedBut, Played, StandsAs, bounded_from, IsFed, IsLeft, Leaves, LeavesBut, counted, updates_of, updates_but, life}, Follows.{follows_session, over_session}}
+use Rattle.fs_desk.proofs.Words.{◌≡◌, ◌∙◌, ℕ, Bool, true, false, if◌then◌else◌, List, [], Option, Some, None, ap, sym, subst, peer_of, Config, Peer}
+use Rattle.fs_desk.proofs.Words.{eq_itself, Update, Held, still, at_start, Live, Closed, Item, Desked, session_at, PeerIs, PlayedBut, Played}
+use Rattle.fs_desk.proofs.Words.{StandsAs, bounded_from, IsFed, IsLeft, Leaves, LeavesBut, counted, updates_of, updates_but, life}
+use Rattle.fs_desk.proofs.Follows.{follows_session, over_session}
 
 -- the updates that a session counts are those of all octets that it was fed with
 fed_updates : (config : Config) (peer : Peer) (octets : List ℕ) (session : Live) (why : Option Closed) (updates : List Update)
@@ -23,12 +26,14 @@ left_of config (Some peer) (Some octets) (Some session) number held k =
     subst (λ (updates : List Update). IsLeft number updates held) (sym (fed_updates config peer octets session session.closed k.updates k.fed)) k.left
 
 left_but : (config : Config) (items : List Item) (number : ℕ) (held : Held) (b : Bool) (session : Option Live)
-    → StandsAs b config (peer_of number config.peers) (life number items) session number held → IsLeft number (if b then [] else updates_of config items number) held
+    → StandsAs b config (peer_of number config.peers) (life number items) session number held
+    → IsLeft number (if b then [] else updates_of config items number) held
 left_but config items number held true None k = absurd k
 left_but config items number held true (Some session) k = k.1
 left_but config items number held false session k = left_of config (peer_of number config.peers) (life number items) session number held k
 
-pub played_leaves_but : {expired : ℕ → Bool} (config : Config) (items : List Item) (desk : Desked) → PlayedBut expired config items desk → LeavesBut expired config items desk.held
+pub played_leaves_but : {expired : ℕ → Bool} (config : Config) (items : List Item) (desk : Desked) → PlayedBut expired config items desk
+    → LeavesBut expired config items desk.held
 played_leaves_but {expired} config items desk p =
     let left : (number : ℕ) → IsLeft number (updates_but expired config items number) desk.held =
     λ number. left_but config items number desk.held (expired number) (session_at number desk.sessions) (p.each number) in

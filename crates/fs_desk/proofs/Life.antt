@@ -1,4 +1,6 @@
-use Rattle.fs_desk.proofs.Words.{◌≡◌, ℕ, List, [], ◌∷◌, ◌++◌, Bool, true, false, ◌||◌, Option, Some, None, if◌then◌else◌, option_map, refl, ap, sym, ◌∙◌, true≢false, append_assoc, append-nil, list_any, list_any-append, or_none, Item, bounds_life, sent_in, sent_by, begins_life, life}
+use Rattle.fs_desk.proofs.Words.{◌≡◌, ℕ, List, [], ◌∷◌, ◌++◌, Bool, true, false, ◌||◌, Option, Some, None, if◌then◌else◌, option_map, refl, ap, sym}
+use Rattle.fs_desk.proofs.Words.{◌∙◌, true≢false, append_assoc, append-nil, list_any, list_any-append, or_none, Item, bounds_life, sent_in, sent_by}
+use Rattle.fs_desk.proofs.Words.{begins_life, life}
 
 -- What one more item of a tape changes of a peer's life.
 
@@ -23,7 +25,8 @@ pub life-bound : (peer : ℕ) (items : List Item) (item : Item) → bounds_life 
     → life peer (items ++ item ∷ []) ≡ (if begins_life peer item then Some [] else None)
 life-bound peer [] item e = refl
 life-bound peer (first ∷ items) item e =
-    ap (λ b. if b then life peer (items ++ item ∷ []) else if begins_life peer first then Some (sent_by peer (items ++ item ∷ [])) else None) (any-more (bounds_life peer) items item)
+    ap (λ b. if b then life peer (items ++ item ∷ []) else if begins_life peer first then Some (sent_by peer (items ++ item ∷ [])) else None)
+    (any-more (bounds_life peer) items item)
     ∙ bounded (list_any (bounds_life peer) items) (bounds_life peer item) _ _ e
     ∙ life-bound peer items item e
 
@@ -32,7 +35,8 @@ pub life-more : (peer : ℕ) (items : List Item) (item : Item) → bounds_life p
     → life peer (items ++ item ∷ []) ≡ option_map (λ octets. octets ++ sent_in peer item) (life peer items)
 life-more peer [] item e f = ap (λ b. if b then Some [] else None) f
 life-more peer (first ∷ items) item e f =
-    ap (λ b. if b then life peer (items ++ item ∷ []) else if begins_life peer first then Some (sent_by peer (items ++ item ∷ [])) else None) (any-more (bounds_life peer) items item)
+    ap (λ b. if b then life peer (items ++ item ∷ []) else if begins_life peer first then Some (sent_by peer (items ++ item ∷ [])) else None)
+    (any-more (bounds_life peer) items item)
     ∙ at (list_any (bounds_life peer) items) (bounds_life peer item) (begins_life peer first) e (life-more peer items item e f) (sent-more peer items item)
   where
     at : (b c u : Bool) → c ≡ false → life peer (items ++ item ∷ []) ≡ option_map (λ octets. octets ++ sent_in peer item) (life peer items)

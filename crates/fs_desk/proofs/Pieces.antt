@@ -1,5 +1,14 @@
 -- One session and the table, through a piece of the peer's octets.
-use Rattle.fs_desk.proofs.{Words.{◌≡◌, inl, inr, ℕ, List, [], ◌∷◌, ◌++◌, drop, flat_map, not, Bool, Option, Some, None, refl, ap, sym, ◌∙◌, subst, append-nil, is_some, true, false, true≢false, AllByRecursion, Config, Peer, IsPrefix, Update, gives_prefixes, false_of_not, true_of_not, each_append, some_there, Held, held_count, Closed, Memory, CloseIs, Live, Does, step_with, Changes, nothing, told, told_of, IsListed, is_over, routes_left, too_many, bounded_replies_from, wants_memory, Follows, AreWithin, TakesUpdate, IsFed, HasReplied, IsLeft, Spares, IsUp, HasTaken, MessageTaken, TakesMessage, HasRepliedMore, close_is}, Bounding.{next_within}, Follows.{follows_piece, follows_fed, follows_closed, follows_ceased, over_more}, Replying.{replied_exactly, replied_over}, RoutesLeft.{counted_left}, TableChanges.{lost_to}, Updates.{left_more, left_nothing, spares_others, spares_none, spares_then}}
+use Rattle.fs_desk.proofs.Words.{◌≡◌, inl, inr, ℕ, List, [], ◌∷◌, ◌++◌, drop, flat_map, not, Bool, Option, Some, None, refl, ap, sym, ◌∙◌, subst}
+use Rattle.fs_desk.proofs.Words.{append-nil, is_some, true, false, true≢false, AllByRecursion, Config, Peer, IsPrefix, Update, gives_prefixes}
+use Rattle.fs_desk.proofs.Words.{false_of_not, true_of_not, each_append, some_there, Held, held_count, Closed, Memory, CloseIs, Live, Does, step_with}
+use Rattle.fs_desk.proofs.Words.{Changes, nothing, told, told_of, IsListed, is_over, routes_left, too_many, bounded_replies_from, wants_memory}
+use Rattle.fs_desk.proofs.Words.{Follows, AreWithin, TakesUpdate, IsFed, HasReplied, IsLeft, Spares, IsUp, HasTaken, MessageTaken, TakesMessage}
+use Rattle.fs_desk.proofs.Words.{HasRepliedMore, close_is}
+use Rattle.fs_desk.proofs.Bounding.{next_within}
+use Rattle.fs_desk.proofs.Follows.{follows_piece, follows_fed, follows_closed, follows_ceased, over_more}
+use Rattle.fs_desk.proofs.{Replying.{replied_exactly, replied_over}, RoutesLeft.{counted_left}, TableChanges.{lost_to}}
+use Rattle.fs_desk.proofs.Updates.{left_more, left_nothing, spares_others, spares_none, spares_then}
 use Rattle.fs_rules.proofs.Apart.{each_front, each_back}
 
 -- a message without an update was taken
@@ -15,37 +24,48 @@ fed_none peer old new table piece count did alive c p = λ config whose octets u
 }
 
 -- an update more, of prefixes
-prefixes_more : (updates : List Update) (update : Update) → AllByRecursion IsPrefix (flat_map gives_prefixes updates) → AllByRecursion IsPrefix (gives_prefixes update)
+prefixes_more : (updates : List Update) (update : Update) → AllByRecursion IsPrefix (flat_map gives_prefixes updates)
+    → AllByRecursion IsPrefix (gives_prefixes update)
     → AllByRecursion IsPrefix (flat_map gives_prefixes (updates ++ update ∷ []))
 prefixes_more [] update all own = each_append IsPrefix (gives_prefixes update) [] own tt
 prefixes_more (u ∷ updates) update all own =
-    each_append IsPrefix (gives_prefixes u) (flat_map gives_prefixes (updates ++ update ∷ [])) (each_front IsPrefix (gives_prefixes u) (flat_map gives_prefixes updates) all)
+    each_append IsPrefix (gives_prefixes u) (flat_map gives_prefixes (updates ++ update ∷ []))
+    (each_front IsPrefix (gives_prefixes u) (flat_map gives_prefixes updates) all)
     (prefixes_more updates update (each_back IsPrefix (gives_prefixes u) (flat_map gives_prefixes updates) all) own)
 
 -- behind an update that was applied the peer holds as many routes as the updates leave
 pub held_left : (peer : ℕ) (updates : List Update) (update : Update) (old new : Live) (table table' : Held) (replies replies' : List ℕ) (open_ : Bool)
-    → TakesUpdate peer update old new table table' replies replies' open_ → (whose : Peer) → AreWithin whose updates → IsListed table → IsLeft peer updates table → old.peer ≡ whose
+    → TakesUpdate peer update old new table table' replies replies' open_ → (whose : Peer) → AreWithin whose updates → IsListed table
+    → IsLeft peer updates table → old.peer ≡ whose
     → open_ ≡ not (is_over whose.max_routes (routes_left (updates ++ update ∷ [])))
 held_left peer updates update old new table table' replies replies' open_ t whose w l k p =
     t.within
     ∙ ap (λ (q : Peer). not (is_over q.max_routes (held_count peer t.applied))) p
     ∙ ap (λ (n : ℕ). not (is_over whose.max_routes n))
-    (counted_left peer (updates ++ update ∷ []) t.applied (t.changes.listed l) (left_more peer updates update table t.applied k t.changes l) (prefixes_more updates update w.prefixes t.prefixes))
+    (counted_left peer (updates ++ update ∷ []) t.applied (t.changes.listed l) (left_more peer updates update table t.applied k t.changes l)
+    (prefixes_more updates update w.prefixes t.prefixes))
 
 -- what a message does with which this update was found
 pub found_does : {A : Type 0} (old mid : Live) (piece : List ℕ) (count : ℕ) (found : Option Update) (update : Update) → found ≡ Some update
-    → (old.closed ≡ None → Does (step_with old piece) old mid piece count found × A) → old.closed ≡ None → Does (step_with old piece) old mid piece count (Some update) × A
-found_does old mid piece count found update is exact h = (subst (λ (u : Option Update). Does (step_with old piece) old mid piece count u) is (exact h).0, (exact h).1)
+    → (old.closed ≡ None → Does (step_with old piece) old mid piece count found × A) → old.closed ≡ None
+    → Does (step_with old piece) old mid piece count (Some update) × A
+found_does old mid piece count found update is exact h =
+    (subst (λ (u : Option Update). Does (step_with old piece) old mid piece count u) is (exact h).0, (exact h).1)
 
 -- a message with an update was taken, and the table has it
-pub fed_update : {A : Type 0} (peer : ℕ) (old mid new : Live) (table table' : Held) (replies replies' piece : List ℕ) (count : ℕ) (update : Update) (open_ : Bool) → open_ ≡ true
-    → (found : Option Update) → found ≡ Some update → (old.closed ≡ None → Does (step_with old piece) old mid piece count found × A) → mid.closed ≡ None → mid.config ≡ old.config → mid.peer ≡ old.peer
+pub fed_update : {A : Type 0} (peer : ℕ) (old mid new : Live) (table table' : Held) (replies replies' piece : List ℕ) (count : ℕ) (update : Update)
+    (open_ : Bool) → open_ ≡ true
+    → (found : Option Update) → found ≡ Some update → (old.closed ≡ None → Does (step_with old piece) old mid piece count found × A)
+    → mid.closed ≡ None → mid.config ≡ old.config → mid.peer ≡ old.peer
     → TakesUpdate peer update mid new table table' replies replies' open_
     → TakesMessage peer old new table table' piece (Some count)
 fed_update peer old mid new table table' replies replies' piece count update open_ goes found is exact alive c p t = λ config whose octets updates f w l k.
-    let follows : Follows config whose octets (drop count piece) mid (updates ++ update ∷ []) = follows_fed config whose octets piece old mid updates count (Some update) f alive c p (found_does old mid piece count found update is exact f.alive).0 in
+    let follows : Follows config whose octets (drop count piece) mid (updates ++ update ∷ []) =
+    follows_fed config whose octets piece old mid updates count (Some update) f alive c p
+    (found_does old mid piece count found update is exact f.alive).0 in
     let small : is_over whose.max_routes (routes_left (updates ++ update ∷ [])) ≡ false =
-    false_of_not (is_over whose.max_routes (routes_left (updates ++ update ∷ []))) (sym (held_left peer updates update mid new table table' replies replies' open_ t whose w l k (p ∙ f.peer_is)) ∙ goes) in
+    false_of_not (is_over whose.max_routes (routes_left (updates ++ update ∷ [])))
+    (sym (held_left peer updates update mid new table table' replies replies' open_ t whose w l k (p ∙ f.peer_is)) ∙ goes) in
     record {
       updates = updates ++ update ∷ [];
       follows = subst (λ (s : Live). Follows config whose octets (drop count piece) s (updates ++ update ∷ [])) (sym (t.stays goes).0) follows;
@@ -55,21 +75,27 @@ fed_update peer old mid new table table' replies replies' piece count update ope
     }
 
 -- a message with an update was taken that passes the limit: the session is closed, and the table has nothing of the peer
-pub fed_ceased : {A : Type 0} (peer : ℕ) (old mid new : Live) (table table' : Held) (replies replies' piece : List ℕ) (count : ℕ) (update : Update) (open_ : Bool) → open_ ≡ false
-    → (found : Option Update) → found ≡ Some update → (old.closed ≡ None → Does (step_with old piece) old mid piece count found × A) → mid.closed ≡ None → mid.config ≡ old.config → mid.peer ≡ old.peer
+pub fed_ceased : {A : Type 0} (peer : ℕ) (old mid new : Live) (table table' : Held) (replies replies' piece : List ℕ) (count : ℕ) (update : Update)
+    (open_ : Bool) → open_ ≡ false
+    → (found : Option Update) → found ≡ Some update → (old.closed ≡ None → Does (step_with old piece) old mid piece count found × A)
+    → mid.closed ≡ None → mid.config ≡ old.config → mid.peer ≡ old.peer
     → TakesUpdate peer update mid new table table' replies replies' open_
     → TakesMessage peer old new table table' piece None
 fed_ceased peer old mid new table table' replies replies' piece count update open_ ends found is exact alive c p t = λ config whose octets updates f w l k.
-    let follows : Follows config whose octets (drop count piece) mid (updates ++ update ∷ []) = follows_fed config whose octets piece old mid updates count (Some update) f alive c p (found_does old mid piece count found update is exact f.alive).0 in
+    let follows : Follows config whose octets (drop count piece) mid (updates ++ update ∷ []) =
+    follows_fed config whose octets piece old mid updates count (Some update) f alive c p
+    (found_does old mid piece count found update is exact f.alive).0 in
     let over : is_over whose.max_routes (routes_left (updates ++ update ∷ [])) ≡ true =
-    true_of_not (is_over whose.max_routes (routes_left (updates ++ update ∷ []))) (sym (held_left peer updates update mid new table table' replies replies' open_ t whose w l k (p ∙ f.peer_is)) ∙ ends) in
+    true_of_not (is_over whose.max_routes (routes_left (updates ++ update ∷ [])))
+    (sym (held_left peer updates update mid new table table' replies replies' open_ t whose w l k (p ∙ f.peer_is)) ∙ ends) in
     let gone : Changes peer nothing nothing t.applied table' = lost_to peer t.applied table' (t.ceases ends).1 in
     inr (record {
       why = too_many;
       closed = (t.ceases ends).0;
       over = follows_ceased config whose octets (drop count piece) mid updates update follows w over;
       left = left_nothing peer t.applied table' gone (t.changes.listed l);
-      spares = spares_then peer table t.applied table' (spares_others peer (told update) (told_of update) table t.applied t.changes l) (spares_others peer nothing nothing t.applied table' gone (t.changes.listed l));
+      spares = spares_then peer table t.applied table' (spares_others peer (told update) (told_of update) table t.applied t.changes l)
+          (spares_others peer nothing nothing t.applied table' gone (t.changes.listed l));
     })
 
 -- the session was closed, and the table has nothing of the peer
@@ -91,7 +117,8 @@ pub taken_none : (config : Config) (whose : Peer) (peer : ℕ) (octets piece : L
     → HasTaken config whose peer (octets ++ piece) piece session table table
 taken_none config whose peer octets piece session table s open_ l = record {
   updates = s.updates;
-  follows = follows_piece config whose octets piece session s.updates (subst (λ (o : Option Closed). IsFed config whose octets session o s.updates) open_ s.fed).0;
+  follows = follows_piece config whose octets piece session s.updates
+      (subst (λ (o : Option Closed). IsFed config whose octets session o s.updates) open_ s.fed).0;
   within = (subst (λ (o : Option Closed). IsFed config whose octets session o s.updates) open_ s.fed).1;
   left = s.left;
   spares = spares_none peer table l;
@@ -111,7 +138,8 @@ taken_more_of config whose peer octets rest session new table now table' count r
     }
 
 pub taken_all : (config : Config) (whose : Peer) (peer : ℕ) (octets rest : List ℕ) (session new : Live) (table now table' : Held) (said first replies' : List ℕ)
-    → HasTaken config whose peer octets rest session table now → HasRepliedMore config whose octets new said first replies' → TakesMessage peer session new now table' rest None
+    → HasTaken config whose peer octets rest session table now → HasRepliedMore config whose octets new said first replies'
+    → TakesMessage peer session new now table' rest None
     → IsUp config whose peer octets new table' × Spares peer table table'
 taken_all config whose peer octets rest session new table now table' said first replies' r t feeds =
     by (feeds config whose octets r.updates r.follows r.within r.spares.listed r.left)
@@ -127,7 +155,8 @@ taken_all config whose peer octets rest session new table now table' said first 
     by : MessageTaken config whose octets peer session new now table' rest None → IsUp config whose peer octets new table' × Spares peer table table'
     by (inl e) =
         let f : Follows config whose octets [] session r.updates = subst (λ (z : List ℕ). Follows config whose octets z session r.updates) e.0 r.follows in
-        let fed : IsFed config whose octets session session.closed r.updates = subst (λ (o : Option Closed). IsFed config whose octets session o r.updates) (sym f.alive) (f, r.within) in (
+        let fed : IsFed config whose octets session session.closed r.updates =
+        subst (λ (o : Option Closed). IsFed config whose octets session o r.updates) (sym f.alive) (f, r.within) in (
           stands r.updates
               (subst (λ (v : Live). IsFed config whose octets v v.closed r.updates) (sym e.1) fed)
               (subst (λ (h : Held). IsLeft peer r.updates h) (sym e.2) r.left),

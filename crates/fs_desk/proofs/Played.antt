@@ -1,11 +1,22 @@
 -- The desk behind one more item of the tape.
-use Rattle.fs_desk.proofs.{Words.{◌≡◌, ◌==◌, ℕ, List, [], ◌∷◌, ◌++◌, Bool, true, false, not, ◌&&◌, cond, Option, Some, None, if◌then◌else◌, option_map, refl, ap, sym, ◌∙◌, subst, append-nil, arith, unwrap_or, IsSome, nat_tests, nat_cmp, is_eq, IsTotalOrder, nat_cmp_total, eq_by_cmp_equiv, IsStrictlySortedBy, remove_entry, set_value, keys_of, insert_entry, is_at, lookup-remove_entry, lookup-set_value, keys-set_value, IsDistinct-from_sorted, peer_of, Config, Peer, eq_itself, equal_of_eq, equal_of_is_eq, is_eq_of_nats, if_true, if_false, Noted, Held, Closed, fresh, Live, live, begins, Item, came_up, received, was_lost, bounds_life, begins_life, sent_in, life, Changes, nothing, IsListed, bounded_replies_from, IsLeft, Spares, IsUp, TakesPiece, Desked, KeepsOthers, session_at, PeerIs, StandsAs, HasExpired, PlayedBut, Played, Replied, RepliedBy, expired_after, lookup-insert_entry, sorted-insert_entry, sorted-remove_entry}, Life.{life-bound, life-more}, Follows.{follows_none, within_none}, Replying.{replied_none}, Updates.{left_nothing, left_spared, spares_none, spares_others}}
+use Rattle.fs_desk.proofs.Words.{◌≡◌, ◌==◌, ℕ, List, [], ◌∷◌, ◌++◌, Bool, true, false, not, ◌&&◌, cond, Option, Some, None, if◌then◌else◌, option_map}
+use Rattle.fs_desk.proofs.Words.{refl, ap, sym, ◌∙◌, subst, append-nil, arith, unwrap_or, IsSome, nat_tests, nat_cmp, is_eq, IsTotalOrder}
+use Rattle.fs_desk.proofs.Words.{nat_cmp_total, eq_by_cmp_equiv, IsStrictlySortedBy, remove_entry, set_value, keys_of, insert_entry, is_at}
+use Rattle.fs_desk.proofs.Words.{lookup-remove_entry, lookup-set_value, keys-set_value, IsDistinct-from_sorted, peer_of, Config, Peer, eq_itself}
+use Rattle.fs_desk.proofs.Words.{equal_of_eq, equal_of_is_eq, is_eq_of_nats, if_true, if_false, Noted, Held, Closed, fresh, Live, live, begins, Item}
+use Rattle.fs_desk.proofs.Words.{came_up, received, was_lost, bounds_life, begins_life, sent_in, life, Changes, nothing, IsListed}
+use Rattle.fs_desk.proofs.Words.{bounded_replies_from, IsLeft, Spares, IsUp, TakesPiece, Desked, KeepsOthers, session_at, PeerIs, StandsAs}
+use Rattle.fs_desk.proofs.Words.{HasExpired, PlayedBut, Played, Replied, RepliedBy, expired_after, lookup-insert_entry, sorted-insert_entry}
+use Rattle.fs_desk.proofs.Words.{sorted-remove_entry}
+use Rattle.fs_desk.proofs.{Life.{life-bound, life-more}, Follows.{follows_none, within_none}, Replying.{replied_none}}
+use Rattle.fs_desk.proofs.Updates.{left_nothing, left_spared, spares_none, spares_others}
 
 same_swapped : (m n : ℕ) (b : Bool) → (m == n) ≡ b → (n == m) ≡ b
 same_swapped m n b h = grind (arith, nat_tests, h)
 
 -- of the peer's session, with another put in its place or taken away
-session_put : (m n : ℕ) (session : Live) (sessions : List (ℕ × Live)) → session_at m (insert_entry nat_cmp sessions n session) ≡ (if m == n then Some session else session_at m sessions)
+session_put : (m n : ℕ) (session : Live) (sessions : List (ℕ × Live))
+    → session_at m (insert_entry nat_cmp sessions n session) ≡ (if m == n then Some session else session_at m sessions)
 session_put m n session sessions =
     lookup-insert_entry nat_cmp nat_cmp_total m n session sessions
     ∙ ap (λ (b : Bool). if b then Some session else session_at m sessions) (is_eq_of_nats m n)
@@ -13,7 +24,8 @@ session_put m n session sessions =
 session_gone : (m n : ℕ) (sessions : List (ℕ × Live)) → IsStrictlySortedBy nat_cmp (keys_of sessions)
     → session_at m (remove_entry (is_at (nat_cmp n)) sessions) ≡ (if m == n then None else session_at m sessions)
 session_gone m n sessions s =
-    lookup-remove_entry (eq_by_cmp_equiv nat_cmp_total) (is_at (nat_cmp n)) (λ x y h. ap is_eq (IsTotalOrder.congr nat_cmp_total n x y (equal_of_is_eq (nat_cmp n x) h))) m sessions
+    lookup-remove_entry (eq_by_cmp_equiv nat_cmp_total) (is_at (nat_cmp n))
+    (λ x y h. ap is_eq (IsTotalOrder.congr nat_cmp_total n x y (equal_of_is_eq (nat_cmp n x) h))) m sessions
     (IsDistinct-from_sorted nat_cmp (keys_of sessions) s)
     ∙ ap (λ (b : Bool). cond b None (session_at m sessions)) (is_eq_of_nats n m ∙ same_swapped m n (m == n) refl)
 
@@ -31,7 +43,8 @@ peer_spared config peer l l' s s' n m old new e f spares apart p =
     at None (Some x) None k = absurd k
     at (Some q) (Some x) None k = absurd k
     at None (Some x) (Some y) k = absurd k
-    at (Some q) (Some x) (Some y) k = record { updates = k.updates; fed = k.fed; replied = k.replied; left = left_spared n m k.updates old new spares apart k.left }
+    at (Some q) (Some x) (Some y) k =
+        record { updates = k.updates; fed = k.fed; replied = k.replied; left = left_spared n m k.updates old new spares apart k.left }
 
 -- likewise where its session has expired
 pub stands_spared : (config : Config) (peer : Option Peer) (b b' : Bool) (l l' : Option (List ℕ)) (s s' : Option Live) (n m : ℕ) (old new : Held)
@@ -57,7 +70,8 @@ none_expired true bounds e = ap not e
 none_expired false bounds e = refl
 
 -- an item of another peer doesn't touch a life
-life_other : (m : ℕ) (items : List Item) (item : Item) → bounds_life m item ≡ false → begins_life m item ≡ false → sent_in m item ≡ [] → life m (items ++ item ∷ []) ≡ life m items
+life_other : (m : ℕ) (items : List Item) (item : Item) → bounds_life m item ≡ false → begins_life m item ≡ false → sent_in m item ≡ []
+    → life m (items ++ item ∷ []) ≡ life m items
 life_other m items item t u s =
     life-more m items item t u
     ∙ ap (λ (z : List ℕ). option_map (λ octets. octets ++ z) (life m items)) s
@@ -88,14 +102,18 @@ played_lost {expired} config items n old new t c s p = record {
   config_is = c ∙ p.config_is;
   held_is = t.config_is ∙ p.held_is;
   listed = t.listed p.listed;
-  sessions = subst (λ (z : List (ℕ × Live)). IsStrictlySortedBy nat_cmp (keys_of z)) (sym s) (sorted-remove_entry nat_cmp nat_cmp_total (is_at (nat_cmp n)) old.sessions p.sessions);
-  each = each_peer (λ m. StandsAs (expired_after (was_lost n) expired m) config (peer_of m config.peers) (life m (items ++ was_lost n ∷ [])) (session_at m new.sessions) m new.held) n
-      (subst (λ (b : Bool). StandsAs b config (peer_of n config.peers) (life n (items ++ was_lost n ∷ [])) (session_at n new.sessions) n new.held) (sym (none_expired (expired n) (n == n) (eq_itself n)))
+  sessions = subst (λ (z : List (ℕ × Live)). IsStrictlySortedBy nat_cmp (keys_of z)) (sym s)
+      (sorted-remove_entry nat_cmp nat_cmp_total (is_at (nat_cmp n)) old.sessions p.sessions);
+  each = each_peer (λ m. StandsAs (expired_after (was_lost n) expired m) config (peer_of m config.peers) (life m (items ++ was_lost n ∷ []))
+      (session_at m new.sessions) m new.held) n
+      (subst (λ (b : Bool). StandsAs b config (peer_of n config.peers) (life n (items ++ was_lost n ∷ [])) (session_at n new.sessions) n new.held)
+      (sym (none_expired (expired n) (n == n) (eq_itself n)))
       (subst (λ (x : Option (List ℕ)). PeerIs config (peer_of n config.peers) x (session_at n new.sessions) n new.held) (sym (lost_life n items))
       (subst (λ (x : Option Live). PeerIs config (peer_of n config.peers) None x n new.held)
       (sym (ap (session_at n) s ∙ session_gone n n old.sessions p.sessions ∙ if_true (n == n) _ _ (eq_itself n)))
       (left_nothing n old.held new.held t p.listed))))
-      (λ m e. stands_spared config (peer_of m config.peers) (expired m) (expired_after (was_lost n) expired m) (life m items) (life m (items ++ was_lost n ∷ [])) (session_at m old.sessions) (session_at m new.sessions) n m old.held new.held
+      (λ m e. stands_spared config (peer_of m config.peers) (expired m) (expired_after (was_lost n) expired m) (life m items)
+      (life m (items ++ was_lost n ∷ [])) (session_at m old.sessions) (session_at m new.sessions) n m old.held new.held
       (stays_expired (expired m) (n == m) (same_swapped m n false e))
       (life_other m items (was_lost n) (same_swapped m n false e) refl refl)
       (ap (session_at m) s ∙ session_gone m n old.sessions p.sessions ∙ if_false (m == n) _ _ e)
@@ -111,18 +129,24 @@ left_down config (Some peer) (Some s) n held k = absurd k
 pub played_up : (expired : ℕ → Bool) (config : Config) (items : List Item) (n : ℕ) (peer : Peer) (session : Live) (mid new : Desked)
     → peer_of n config.peers ≡ Some peer → session ≡ live config peer fresh
     → new.config ≡ mid.config → new.held ≡ mid.held → new.sessions ≡ insert_entry nat_cmp mid.sessions n session
-    → PlayedBut (expired_after (was_lost n) expired) config (items ++ was_lost n ∷ []) mid → PlayedBut (expired_after (came_up n) expired) config (items ++ came_up n ∷ []) new
+    → PlayedBut (expired_after (was_lost n) expired) config (items ++ was_lost n ∷ []) mid
+    → PlayedBut (expired_after (came_up n) expired) config (items ++ came_up n ∷ []) new
 played_up expired config items n peer session mid new q v c h s p = record {
   config_is = c ∙ p.config_is;
   held_is = ap (λ (z : Held). z.config) h ∙ p.held_is;
   listed = subst (λ (z : Held). IsListed z) (sym h) p.listed;
-  sessions = subst (λ (z : List (ℕ × Live)). IsStrictlySortedBy nat_cmp (keys_of z)) (sym s) (sorted-insert_entry nat_cmp nat_cmp_total n session mid.sessions p.sessions);
-  each = each_peer (λ m. StandsAs (expired_after (came_up n) expired m) config (peer_of m config.peers) (life m (items ++ came_up n ∷ [])) (session_at m new.sessions) m new.held) n at
-      (λ m e. subst (λ (z : Held). StandsAs (expired_after (came_up n) expired m) config (peer_of m config.peers) (life m (items ++ came_up n ∷ [])) (session_at m new.sessions) m z) (sym h)
-      (subst (λ (x : Option Live). StandsAs (expired_after (came_up n) expired m) config (peer_of m config.peers) (life m (items ++ came_up n ∷ [])) x m mid.held)
+  sessions = subst (λ (z : List (ℕ × Live)). IsStrictlySortedBy nat_cmp (keys_of z)) (sym s)
+      (sorted-insert_entry nat_cmp nat_cmp_total n session mid.sessions p.sessions);
+  each = each_peer (λ m. StandsAs (expired_after (came_up n) expired m) config (peer_of m config.peers) (life m (items ++ came_up n ∷ []))
+      (session_at m new.sessions) m new.held) n at
+      (λ m e. subst (λ (z : Held). StandsAs (expired_after (came_up n) expired m) config (peer_of m config.peers) (life m (items ++ came_up n ∷ []))
+      (session_at m new.sessions) m z) (sym h)
+      (subst (λ (x : Option Live). StandsAs (expired_after (came_up n) expired m) config (peer_of m config.peers)
+      (life m (items ++ came_up n ∷ [])) x m mid.held)
       (sym (ap (session_at m) s ∙ session_put m n session mid.sessions ∙ if_false (m == n) _ _ e))
       (subst (λ (x : Option (List ℕ)). StandsAs (expired_after (came_up n) expired m) config (peer_of m config.peers) x (session_at m mid.sessions) m mid.held)
-      (life_other m items (was_lost n) (same_swapped m n false e) refl refl ∙ sym (life_other m items (came_up n) (same_swapped m n false e) (same_swapped m n false e) refl))
+      (life_other m items (was_lost n) (same_swapped m n false e) refl refl
+      ∙ sym (life_other m items (came_up n) (same_swapped m n false e) (same_swapped m n false e) refl))
       (p.each m))));
 }
   where
@@ -132,12 +156,15 @@ played_up expired config items n peer session mid new q v c h s p = record {
     down : IsLeft n [] mid.held
     down = left_down config (peer_of n config.peers) (session_at n mid.sessions) n mid.held
         (subst (λ (x : Option (List ℕ)). PeerIs config (peer_of n config.peers) x (session_at n mid.sessions) n mid.held) (lost_life n items)
-        (subst (λ (b : Bool). StandsAs b config (peer_of n config.peers) (life n (items ++ was_lost n ∷ [])) (session_at n mid.sessions) n mid.held) over (p.each n)))
+        (subst (λ (b : Bool). StandsAs b config (peer_of n config.peers) (life n (items ++ was_lost n ∷ [])) (session_at n mid.sessions) n mid.held)
+        over (p.each n)))
 
     first : IsUp config peer n [] session mid.held
-    first = subst (λ (z : Live). IsUp config peer n [] z mid.held) (sym v) (record { updates = []; fed = (follows_none config peer, within_none peer); replied = replied_none config peer; left = down })
+    first = subst (λ (z : Live). IsUp config peer n [] z mid.held) (sym v)
+        (record { updates = []; fed = (follows_none config peer, within_none peer); replied = replied_none config peer; left = down })
 
-    at : StandsAs (expired_after (came_up n) expired n) config (peer_of n config.peers) (life n (items ++ came_up n ∷ [])) (session_at n new.sessions) n new.held
+    at : StandsAs (expired_after (came_up n) expired n) config (peer_of n config.peers) (life n (items ++ came_up n ∷ []))
+        (session_at n new.sessions) n new.held
     at =
         subst (λ (b : Bool). StandsAs b config (peer_of n config.peers) (life n (items ++ came_up n ∷ [])) (session_at n new.sessions) n new.held) (sym over)
         (subst (λ (z : Held). PeerIs config (peer_of n config.peers) (life n (items ++ came_up n ∷ [])) (session_at n new.sessions) n z) (sym h)
@@ -163,7 +190,8 @@ has_closed session n held sessions there k =
 
 -- the session of a peer that is up took a piece
 pub played_octets : {expired : ℕ → Bool} (config : Config) (items : List Item) (n : ℕ) (piece before now : List ℕ) (session session' : Live) (old new : Desked)
-    → session_at n old.sessions ≡ Some session → TakesPiece n session session' old.held new.held piece before now → StaysClosed session session' old.held new.held before now
+    → session_at n old.sessions ≡ Some session → TakesPiece n session session' old.held new.held piece before now
+    → StaysClosed session session' old.held new.held before now
     → new.config ≡ old.config → ((m : ℕ) → session_at m new.sessions ≡ (if m == n then Some session' else session_at m old.sessions))
     → IsStrictlySortedBy nat_cmp (keys_of new.sessions)
     → PlayedBut expired config items old → PlayedBut (expired_after (received n piece) expired) config (items ++ received n piece ∷ []) new
@@ -180,15 +208,19 @@ played_octets {expired} config items n piece before now session session' old new
       held_is = spares.config_is ∙ p.held_is;
       listed = spares.listed;
       sessions = sorted;
-      each = each_peer (λ m. StandsAs (expired_after (received n piece) expired m) config (peer_of m config.peers) (life m behind) (session_at m new.sessions) m new.held) n
-          (subst (λ (b : Bool). StandsAs b config (peer_of n config.peers) (life n behind) (session_at n new.sessions) n new.held) (sym (stays_expired (expired n) false refl)) own)
-          (λ m e. stands_spared config (peer_of m config.peers) (expired m) (expired_after (received n piece) expired m) (life m items) (life m behind) (session_at m old.sessions) (session_at m new.sessions) n m old.held new.held
+      each = each_peer (λ m. StandsAs (expired_after (received n piece) expired m) config (peer_of m config.peers) (life m behind)
+          (session_at m new.sessions) m new.held) n
+          (subst (λ (b : Bool). StandsAs b config (peer_of n config.peers) (life n behind) (session_at n new.sessions) n new.held)
+          (sym (stays_expired (expired n) false refl)) own)
+          (λ m e. stands_spared config (peer_of m config.peers) (expired m) (expired_after (received n piece) expired m) (life m items)
+          (life m behind) (session_at m old.sessions) (session_at m new.sessions) n m old.held new.held
           (stays_expired (expired m) false refl)
           (life_other m items (received n piece) refl refl (if_false (n == m) piece [] (same_swapped m n false e)))
           (s m ∙ if_false (m == n) _ _ e) spares e (p.each m));
     }
 
-    by : expired n ≡ false → (q : Option Peer) (l : Option (List ℕ)) → peer_of n config.peers ≡ q → life n items ≡ l → PeerIs config q l (Some session) n old.held
+    by : expired n ≡ false → (q : Option Peer) (l : Option (List ℕ)) → peer_of n config.peers ≡ q → life n items ≡ l
+        → PeerIs config q l (Some session) n old.held
         → PlayedBut (expired_after (received n piece) expired) config behind new
     by x None None f g k = absurd k
     by x (Some peer) None f g k = absurd k
@@ -221,15 +253,18 @@ played_octets {expired} config items n piece before now session session' old new
         (subst (λ (h : Held). Spares n old.held h) (sym same.1.0) (spares_none n old.held p.listed))
 
 -- the session of a peer that is up replied to a piece
-pub played_replied : {expired : ℕ → Bool} (config : Config) (items : List Item) (n : ℕ) (piece before now : List ℕ) (session session' : Live) (desk : Desked) (table' : Held)
-    → session_at n desk.sessions ≡ Some session → TakesPiece n session session' desk.held table' piece before now → StaysClosed session session' desk.held table' before now
+pub played_replied : {expired : ℕ → Bool} (config : Config) (items : List Item) (n : ℕ) (piece before now : List ℕ) (session session' : Live)
+    (desk : Desked) (table' : Held)
+    → session_at n desk.sessions ≡ Some session → TakesPiece n session session' desk.held table' piece before now
+    → StaysClosed session session' desk.held table' before now
     → PlayedBut expired config items desk → RepliedBy (expired n) config n (life n items) piece before now
 played_replied {expired} config items n piece before now session session' desk table' there takes stays p = by_expired (expired n) (p.each n)
   where
     of : List ℕ → Option Peer → List ℕ
     of octets q = elim q [ None ↦ [] | Some peer ↦ bounded_replies_from config peer octets ]
 
-    by : (q : Option Peer) (l : Option (List ℕ)) → peer_of n config.peers ≡ q → PeerIs config q l (Some session) n desk.held → Replied config n l piece before now
+    by : (q : Option Peer) (l : Option (List ℕ)) → peer_of n config.peers ≡ q → PeerIs config q l (Some session) n desk.held
+        → Replied config n l piece before now
     by None None f k = absurd k
     by (Some peer) None f k = absurd k
     by None (Some octets) f k = absurd k
@@ -237,9 +272,11 @@ played_replied {expired} config items n piece before now session session' desk t
         let r = (takes config peer octets p.listed k).1.1 in
         (r.0, r.1, ap (of (octets ++ piece)) f ∙ r.2 ∙ ap (λ (z : List ℕ). z ++ r.0) (sym (ap (of octets) f)))
 
-    by_expired : (b : Bool) → StandsAs b config (peer_of n config.peers) (life n items) (session_at n desk.sessions) n desk.held → RepliedBy b config n (life n items) piece before now
+    by_expired : (b : Bool) → StandsAs b config (peer_of n config.peers) (life n items) (session_at n desk.sessions) n desk.held
+        → RepliedBy b config n (life n items) piece before now
     by_expired true k = (stays (has_closed session n desk.held (session_at n desk.sessions) there k)).1.1
-    by_expired false k = by (peer_of n config.peers) (life n items) refl (subst (λ (x : Option Live). PeerIs config (peer_of n config.peers) (life n items) x n desk.held) there k)
+    by_expired false k = by (peer_of n config.peers) (life n items) refl
+        (subst (λ (x : Option Live). PeerIs config (peer_of n config.peers) (life n items) x n desk.held) there k)
 
 no_life : (config : Config) (peer : Option Peer) (l : Option (List ℕ)) (n : ℕ) (held : Held) → PeerIs config peer l None n held → l ≡ None
 no_life config peer None n held k = refl
@@ -250,28 +287,33 @@ no_session : (config : Config) (peer : Option Peer) (b : Bool) (l : Option (List
 no_session config peer true l n held k = absurd k
 no_session config peer false l n held k = no_life config peer l n held k
 
-is_down : {expired : ℕ → Bool} (config : Config) (items : List Item) (n : ℕ) (desk : Desked) → session_at n desk.sessions ≡ None → PlayedBut expired config items desk → life n items ≡ None
+is_down : {expired : ℕ → Bool} (config : Config) (items : List Item) (n : ℕ) (desk : Desked) → session_at n desk.sessions ≡ None
+    → PlayedBut expired config items desk → life n items ≡ None
 is_down {expired} config items n desk none p =
     no_session config (peer_of n config.peers) (expired n) (life n items) n desk.held
     (subst (λ (x : Option Live). StandsAs (expired n) config (peer_of n config.peers) (life n items) x n desk.held) none (p.each n))
 
 -- the octets of a peer that is down are skipped
 pub played_skipped : {expired : ℕ → Bool} (config : Config) (items : List Item) (n : ℕ) (piece : List ℕ) (desk : Desked)
-    → session_at n desk.sessions ≡ None → PlayedBut expired config items desk → PlayedBut (expired_after (received n piece) expired) config (items ++ received n piece ∷ []) desk
+    → session_at n desk.sessions ≡ None → PlayedBut expired config items desk
+    → PlayedBut (expired_after (received n piece) expired) config (items ++ received n piece ∷ []) desk
 played_skipped {expired} config items n piece desk none p = record {
   config_is = p.config_is;
   held_is = p.held_is;
   listed = p.listed;
   sessions = p.sessions;
-  each = λ m. subst (λ (b : Bool). StandsAs b config (peer_of m config.peers) (life m (items ++ received n piece ∷ [])) (session_at m desk.sessions) m desk.held) (sym (stays_expired (expired m) false refl))
-      (subst (λ (x : Option (List ℕ)). StandsAs (expired m) config (peer_of m config.peers) x (session_at m desk.sessions) m desk.held) (sym (skipped m)) (p.each m));
+  each = λ m. subst (λ (b : Bool). StandsAs b config (peer_of m config.peers) (life m (items ++ received n piece ∷ []))
+      (session_at m desk.sessions) m desk.held) (sym (stays_expired (expired m) false refl))
+      (subst (λ (x : Option (List ℕ)). StandsAs (expired m) config (peer_of m config.peers) x (session_at m desk.sessions) m desk.held)
+      (sym (skipped m)) (p.each m));
 }
   where
     own : life n (items ++ received n piece ∷ []) ≡ life n items
     own = received_life n items piece ∙ ap (option_map (λ z. z ++ piece)) (is_down config items n desk none p) ∙ sym (is_down config items n desk none p)
 
     skipped : (m : ℕ) → life m (items ++ received n piece ∷ []) ≡ life m items
-    skipped = each_peer (λ m. life m (items ++ received n piece ∷ []) ≡ life m items) n own (λ m e. life_other m items (received n piece) refl refl (if_false (n == m) piece [] (same_swapped m n false e)))
+    skipped = each_peer (λ m. life m (items ++ received n piece ∷ []) ≡ life m items) n own
+        (λ m e. life_other m items (received n piece) refl refl (if_false (n == m) piece [] (same_swapped m n false e)))
 
 -- and not answered
 pub played_silent : {expired : ℕ → Bool} (config : Config) (items : List Item) (n : ℕ) (piece before : List ℕ) (desk : Desked)
@@ -283,7 +325,9 @@ played_silent {expired} config items n piece before desk none p = by (expired n)
     by false = subst (λ (l : Option (List ℕ)). Replied config n l piece before before) (sym (is_down config items n desk none p)) refl
 
 -- before the first item
-pub played_none : (config : Config) (noted : Noted) (desk : Desked) → desk ≡ record { config = config; held = record { config = config; unicast = []; flows = [] }; changes = noted; sessions = [] } → Played config [] desk
+pub played_none : (config : Config) (noted : Noted) (desk : Desked)
+    → desk ≡ record { config = config; held = record { config = config; unicast = []; flows = [] }; changes = noted; sessions = [] }
+    → Played config [] desk
 unfolding IsStrictlySortedBy
 played_none config noted desk e = subst (λ (d : Desked). Played config [] d) (sym e) first
   where
@@ -297,36 +341,53 @@ played_none config noted desk e = subst (λ (d : Desked). Played config [] d) (s
     }
 
 -- of the desk's parts
-pub desk_lost : {noted noted' : Noted} {expired : ℕ → Bool} (config : Config) (items : List Item) (n : ℕ) (own : Config) (table table' : Held) (sessions sessions' : List (ℕ × Live)) (old : Desked)
-    → old ≡ record { config = own; held = table; changes = noted; sessions = sessions } → Changes n nothing nothing table table' → sessions' ≡ remove_entry (is_at (nat_cmp n)) sessions
-    → PlayedBut expired config items old → PlayedBut (expired_after (was_lost n) expired) config (items ++ was_lost n ∷ []) (record { config = own; held = table'; changes = noted'; sessions = sessions' })
+pub desk_lost : {noted noted' : Noted} {expired : ℕ → Bool} (config : Config) (items : List Item) (n : ℕ) (own : Config) (table table' : Held)
+    (sessions sessions' : List (ℕ × Live)) (old : Desked)
+    → old ≡ record { config = own; held = table; changes = noted; sessions = sessions } → Changes n nothing nothing table table'
+    → sessions' ≡ remove_entry (is_at (nat_cmp n)) sessions
+    → PlayedBut expired config items old
+    → PlayedBut (expired_after (was_lost n) expired) config (items ++ was_lost n ∷ [])
+    (record { config = own; held = table'; changes = noted'; sessions = sessions' })
 desk_lost {noted} {noted'} {expired} config items n own table table' sessions sessions' old e t s p =
-    played_lost config items n (record { config = own; held = table; changes = noted; sessions = sessions }) (record { config = own; held = table'; changes = noted'; sessions = sessions' }) t refl s
+    played_lost config items n (record { config = own; held = table; changes = noted; sessions = sessions })
+    (record { config = own; held = table'; changes = noted'; sessions = sessions' }) t refl s
     (subst (λ (d : Desked). PlayedBut expired config items d) e p)
 
-pub desk_octets : {noted noted' : Noted} {expired : ℕ → Bool} (config : Config) (items : List Item) (n : ℕ) (piece before now : List ℕ) (session session' : Live) (own : Config) (table table' : Held) (sessions sessions' : List (ℕ × Live)) (old : Desked)
+pub desk_octets : {noted noted' : Noted} {expired : ℕ → Bool} (config : Config) (items : List Item) (n : ℕ) (piece before now : List ℕ)
+    (session session' : Live) (own : Config) (table table' : Held) (sessions sessions' : List (ℕ × Live)) (old : Desked)
     → old ≡ record { config = own; held = table; changes = noted; sessions = sessions }
     → session_at n sessions ≡ Some session → TakesPiece n session session' table table' piece before now → StaysClosed session session' table table' before now
     → ((m : ℕ) → session_at m sessions' ≡ (if m == n then Some session' else session_at m sessions))
     → (IsStrictlySortedBy nat_cmp (keys_of sessions) → IsStrictlySortedBy nat_cmp (keys_of sessions'))
-    → PlayedBut expired config items old → PlayedBut (expired_after (received n piece) expired) config (items ++ received n piece ∷ []) (record { config = own; held = table'; changes = noted'; sessions = sessions' })
+    → PlayedBut expired config items old
+    → PlayedBut (expired_after (received n piece) expired) config (items ++ received n piece ∷ [])
+    (record { config = own; held = table'; changes = noted'; sessions = sessions' })
 desk_octets {noted} {noted'} {expired} config items n piece before now session session' own table table' sessions sessions' old e there takes stays s sorted p =
-    let q : PlayedBut expired config items (record { config = own; held = table; changes = noted; sessions = sessions }) = subst (λ (d : Desked). PlayedBut expired config items d) e p in
-    played_octets config items n piece before now session session' (record { config = own; held = table; changes = noted; sessions = sessions }) (record { config = own; held = table'; changes = noted'; sessions = sessions' }) there takes stays refl s (sorted q.sessions) q
+    let q : PlayedBut expired config items (record { config = own; held = table; changes = noted; sessions = sessions }) =
+    subst (λ (d : Desked). PlayedBut expired config items d) e p in
+    played_octets config items n piece before now session session' (record { config = own; held = table; changes = noted; sessions = sessions })
+    (record { config = own; held = table'; changes = noted'; sessions = sessions' }) there takes stays refl s (sorted q.sessions) q
 
-pub desk_skipped : {noted : Noted} {expired : ℕ → Bool} (config : Config) (items : List Item) (n : ℕ) (piece : List ℕ) (own : Config) (table : Held) (sessions sessions' : List (ℕ × Live)) (old : Desked)
+pub desk_skipped : {noted : Noted} {expired : ℕ → Bool} (config : Config) (items : List Item) (n : ℕ) (piece : List ℕ) (own : Config) (table : Held)
+    (sessions sessions' : List (ℕ × Live)) (old : Desked)
     → old ≡ record { config = own; held = table; changes = noted; sessions = sessions } → session_at n sessions ≡ None → sessions' ≡ sessions
-    → PlayedBut expired config items old → PlayedBut (expired_after (received n piece) expired) config (items ++ received n piece ∷ []) (record { config = own; held = table; changes = noted; sessions = sessions' })
+    → PlayedBut expired config items old
+    → PlayedBut (expired_after (received n piece) expired) config (items ++ received n piece ∷ [])
+    (record { config = own; held = table; changes = noted; sessions = sessions' })
 desk_skipped {noted} {expired} config items n piece own table sessions sessions' old e none same p =
-    subst (λ (z : List (ℕ × Live)). PlayedBut (expired_after (received n piece) expired) config (items ++ received n piece ∷ []) (record { config = own; held = table; changes = noted; sessions = z })) (sym same)
-    (played_skipped config items n piece (record { config = own; held = table; changes = noted; sessions = sessions }) none (subst (λ (d : Desked). PlayedBut expired config items d) e p))
+    subst (λ (z : List (ℕ × Live)). PlayedBut (expired_after (received n piece) expired) config (items ++ received n piece ∷ [])
+    (record { config = own; held = table; changes = noted; sessions = z })) (sym same)
+    (played_skipped config items n piece (record { config = own; held = table; changes = noted; sessions = sessions }) none
+    (subst (λ (d : Desked). PlayedBut expired config items d) e p))
 
-pub played_new : {noted : Noted} (config : Config) (table : Held) (sessions : List (ℕ × Live)) → table ≡ record { config = config; unicast = []; flows = [] } → sessions ≡ []
+pub played_new : {noted : Noted} (config : Config) (table : Held) (sessions : List (ℕ × Live))
+    → table ≡ record { config = config; unicast = []; flows = [] } → sessions ≡ []
     → Played config [] (record { config = config; held = table; changes = noted; sessions = sessions })
 played_new {noted} config table sessions e f =
     played_none config noted (record { config = config; held = table; changes = noted; sessions = sessions })
     (ap (λ (h : Held). let d : Desked = record { config = config; held = h; changes = noted; sessions = sessions } in d) e
-    ∙ ap (λ (s : List (ℕ × Live)). let d : Desked = record { config = config; held = record { config = config; unicast = []; flows = [] }; changes = noted; sessions = s } in d) f)
+    ∙ ap (λ (s : List (ℕ × Live)). let d : Desked =
+    record { config = config; held = record { config = config; unicast = []; flows = [] }; changes = noted; sessions = s } in d) f)
 
 begun : (own : Config) (o : Option Peer) (session : Live) → option_map (λ (peer : Peer). live own peer fresh) o ≡ Some session
     → (peer : Peer) × (o ≡ Some peer) × (session ≡ live own peer fresh)
@@ -334,28 +395,38 @@ begun own None session h = absurd cc
 begun own (Some peer) session h = (peer, refl, ap (λ (s : Option Live). unwrap_or s session) (sym h))
 
 -- a new session of a lost peer is kept
-pub desk_up : {noted : Noted} (expired : ℕ → Bool) (config : Config) (items : List Item) (n : ℕ) (session : Live) (own : Config) (table : Held) (sessions sessions' : List (ℕ × Live)) (mid : Desked)
-    → mid ≡ record { config = own; held = table; changes = noted; sessions = sessions } → begins own n ≡ Some session → sessions' ≡ insert_entry nat_cmp sessions n session
-    → PlayedBut (expired_after (was_lost n) expired) config (items ++ was_lost n ∷ []) mid → PlayedBut (expired_after (came_up n) expired) config (items ++ came_up n ∷ []) (record { config = own; held = table; changes = noted; sessions = sessions' })
+pub desk_up : {noted : Noted} (expired : ℕ → Bool) (config : Config) (items : List Item) (n : ℕ) (session : Live) (own : Config) (table : Held)
+    (sessions sessions' : List (ℕ × Live)) (mid : Desked)
+    → mid ≡ record { config = own; held = table; changes = noted; sessions = sessions } → begins own n ≡ Some session
+    → sessions' ≡ insert_entry nat_cmp sessions n session
+    → PlayedBut (expired_after (was_lost n) expired) config (items ++ was_lost n ∷ []) mid
+    → PlayedBut (expired_after (came_up n) expired) config (items ++ came_up n ∷ [])
+    (record { config = own; held = table; changes = noted; sessions = sessions' })
 desk_up {noted} expired config items n session own table sessions sessions' mid e b s p =
-    let q : PlayedBut (expired_after (was_lost n) expired) config (items ++ was_lost n ∷ []) (record { config = own; held = table; changes = noted; sessions = sessions }) = subst (λ (d : Desked). PlayedBut (expired_after (was_lost n) expired) config (items ++ was_lost n ∷ []) d) e p in
+    let q : PlayedBut (expired_after (was_lost n) expired) config (items ++ was_lost n ∷ [])
+    (record { config = own; held = table; changes = noted; sessions = sessions }) =
+    subst (λ (d : Desked). PlayedBut (expired_after (was_lost n) expired) config (items ++ was_lost n ∷ []) d) e p in
     let found = begun own (peer_of n own.peers) session b in
-    played_up expired config items n found.0 session (record { config = own; held = table; changes = noted; sessions = sessions }) (record { config = own; held = table; changes = noted; sessions = sessions' })
+    played_up expired config items n found.0 session (record { config = own; held = table; changes = noted; sessions = sessions })
+    (record { config = own; held = table; changes = noted; sessions = sessions' })
     (ap (λ (c : Config). peer_of n c.peers) (sym q.config_is) ∙ found.1)
     (found.2 ∙ ap (λ (c : Config). live c found.0 fresh) q.config_is)
     refl refl s q
 
 -- and it has heard nothing yet
-pub desk_begun : (n : ℕ) (session : Live) (own own' : Config) (sessions sessions' : List (ℕ × Live)) → own ≡ own' → begins own n ≡ Some session → sessions' ≡ insert_entry nat_cmp sessions n session
+pub desk_begun : (n : ℕ) (session : Live) (own own' : Config) (sessions sessions' : List (ℕ × Live)) → own ≡ own' → begins own n ≡ Some session
+    → sessions' ≡ insert_entry nat_cmp sessions n session
     → session_at n sessions' ≡ begins own' n
 desk_begun n session own own' sessions sessions' e b s =
-    ap (session_at n) s ∙ session_put n n session sessions ∙ if_true (n == n) (Some session) (session_at n sessions) (eq_itself n) ∙ sym b ∙ ap (λ (c : Config). begins c n) e
+    ap (session_at n) s ∙ session_put n n session sessions ∙ if_true (n == n) (Some session) (session_at n sessions) (eq_itself n) ∙ sym b
+    ∙ ap (λ (c : Config). begins c n) e
 
 -- a session's value is written back in its place
 session_set : (m n : ℕ) (session : Live) (sessions : List (ℕ × Live)) → IsSome (session_at n sessions)
     → session_at m (set_value (is_at (nat_cmp n)) sessions session) ≡ (if m == n then Some session else session_at m sessions)
 session_set m n session sessions there =
-    lookup-set_value (eq_by_cmp_equiv nat_cmp_total) (is_at (nat_cmp n)) (λ x y h. ap is_eq (IsTotalOrder.congr nat_cmp_total n x y (equal_of_is_eq (nat_cmp n x) h))) m session sessions there
+    lookup-set_value (eq_by_cmp_equiv nat_cmp_total) (is_at (nat_cmp n))
+    (λ x y h. ap is_eq (IsTotalOrder.congr nat_cmp_total n x y (equal_of_is_eq (nat_cmp n x) h))) m session sessions there
     ∙ ap (λ (b : Bool). cond b (Some session) (session_at m sessions)) (is_eq_of_nats n m ∙ same_swapped m n (m == n) refl)
 
 is_there : (o : Option Live) (session : Live) → o ≡ Some session → IsSome o
@@ -372,26 +443,33 @@ pub sorted_value : (n : ℕ) (session' : Live) (sessions sessions' : List (ℕ �
 sorted_value n session' sessions sessions' s sorted =
     subst (λ (ks : List ℕ). IsStrictlySortedBy nat_cmp ks) (sym (ap keys_of s ∙ keys-set_value (is_at (nat_cmp n)) sessions session')) sorted
 
-pub desk_fed : {noted noted' : Noted} {expired : ℕ → Bool} (config : Config) (items : List Item) (n : ℕ) (piece before now : List ℕ) (session session' : Live) (own : Config) (table table' : Held) (sessions sessions' : List (ℕ × Live)) (old : Desked)
+pub desk_fed : {noted noted' : Noted} {expired : ℕ → Bool} (config : Config) (items : List Item) (n : ℕ) (piece before now : List ℕ)
+    (session session' : Live) (own : Config) (table table' : Held) (sessions sessions' : List (ℕ × Live)) (old : Desked)
     → old ≡ record { config = own; held = table; changes = noted; sessions = sessions }
     → session_at n sessions ≡ Some session → TakesPiece n session session' table table' piece before now
     → StaysClosed session session' table table' before now
     → sessions' ≡ set_value (is_at (nat_cmp n)) sessions session'
-    → PlayedBut expired config items old → PlayedBut (expired_after (received n piece) expired) config (items ++ received n piece ∷ []) (record { config = own; held = table'; changes = noted'; sessions = sessions' })
+    → PlayedBut expired config items old
+    → PlayedBut (expired_after (received n piece) expired) config (items ++ received n piece ∷ [])
+    (record { config = own; held = table'; changes = noted'; sessions = sessions' })
 desk_fed {noted} {noted'} {expired} config items n piece before now session session' own table table' sessions sessions' old e there takes stays s p =
     desk_octets {noted = noted} {noted' = noted'} config items n piece before now session session' own table table' sessions sessions' old e there takes stays
     (λ m. session_value m n session session' sessions sessions' there s)
     (sorted_value n session' sessions sessions' s)
     p
 
-pub desk_replied : {noted : Noted} {expired : ℕ → Bool} (config : Config) (items : List Item) (n : ℕ) (piece before now : List ℕ) (session session' : Live) (own : Config) (table table' : Held) (sessions : List (ℕ × Live)) (old : Desked)
-    → old ≡ record { config = own; held = table; changes = noted; sessions = sessions } → session_at n sessions ≡ Some session → TakesPiece n session session' table table' piece before now → StaysClosed session session' table table' before now
+pub desk_replied : {noted : Noted} {expired : ℕ → Bool} (config : Config) (items : List Item) (n : ℕ) (piece before now : List ℕ)
+    (session session' : Live) (own : Config) (table table' : Held) (sessions : List (ℕ × Live)) (old : Desked)
+    → old ≡ record { config = own; held = table; changes = noted; sessions = sessions } → session_at n sessions ≡ Some session
+    → TakesPiece n session session' table table' piece before now → StaysClosed session session' table table' before now
     → PlayedBut expired config items old → RepliedBy (expired n) config n (life n items) piece before now
 desk_replied {noted} {expired} config items n piece before now session session' own table table' sessions old e there takes stays p =
-    played_replied config items n piece before now session session' (record { config = own; held = table; changes = noted; sessions = sessions }) table' there takes stays
+    played_replied config items n piece before now session session' (record { config = own; held = table; changes = noted; sessions = sessions })
+    table' there takes stays
     (subst (λ (d : Desked). PlayedBut expired config items d) e p)
 
-pub desk_silent : {noted : Noted} {expired : ℕ → Bool} (config : Config) (items : List Item) (n : ℕ) (piece before : List ℕ) (own : Config) (table : Held) (sessions : List (ℕ × Live)) (old : Desked)
+pub desk_silent : {noted : Noted} {expired : ℕ → Bool} (config : Config) (items : List Item) (n : ℕ) (piece before : List ℕ) (own : Config)
+    (table : Held) (sessions : List (ℕ × Live)) (old : Desked)
     → old ≡ record { config = own; held = table; changes = noted; sessions = sessions } → session_at n sessions ≡ None
     → PlayedBut expired config items old → RepliedBy (expired n) config n (life n items) piece before before
 desk_silent {noted} {expired} config items n piece before own table sessions old e none p =
@@ -402,7 +480,8 @@ abbrev pub desk_of : Config → Held → Noted → List (ℕ × Live) → Desked
 desk_of own table noted sessions = record { config = own; held = table; changes = noted; sessions = sessions }
 
 -- the sessions stayed as they were
-pub desk_stays : {noted : Noted} {expired : ℕ → Bool} (config : Config) (items : List Item) (own : Config) (table : Held) (sessions sessions' : List (ℕ × Live)) (old : Desked)
+pub desk_stays : {noted : Noted} {expired : ℕ → Bool} (config : Config) (items : List Item) (own : Config) (table : Held)
+    (sessions sessions' : List (ℕ × Live)) (old : Desked)
     → old ≡ record { config = own; held = table; changes = noted; sessions = sessions } → sessions' ≡ sessions
     → PlayedBut expired config items old → PlayedBut expired config items (record { config = own; held = table; changes = noted; sessions = sessions' })
 desk_stays {noted} {expired} config items own table sessions sessions' old e s p =
@@ -418,14 +497,16 @@ others_gone noted' n own table table' sessions sessions' old e s = λ expired co
     ∙ if_false (number == n) None (session_at number sessions) apart
     ∙ sym (ap (λ (d : Desked). session_at number d.sessions) e)
 
-pub others_put : {noted : Noted} (noted' : Noted) (n : ℕ) (session : Live) (own : Config) (table table' : Held) (sessions sessions' : List (ℕ × Live)) (old mid : Desked)
+pub others_put : {noted : Noted} (noted' : Noted) (n : ℕ) (session : Live) (own : Config) (table table' : Held) (sessions sessions' : List (ℕ × Live))
+    (old mid : Desked)
     → mid ≡ desk_of own table noted sessions → sessions' ≡ insert_entry nat_cmp sessions n session
     → KeepsOthers n old mid → KeepsOthers n old (desk_of own table' noted' sessions')
 others_put noted' n session own table table' sessions sessions' old mid e s before = λ expired config items played number apart.
     ap (session_at number) s ∙ session_put number n session sessions ∙ if_false (number == n) (Some session) (session_at number sessions) apart
     ∙ sym (ap (λ (d : Desked). session_at number d.sessions) e) ∙ before expired config items played number apart
 
-pub others_set : {noted : Noted} (noted' : Noted) (n : ℕ) (session session' : Live) (own : Config) (table table' : Held) (sessions sessions' : List (ℕ × Live)) (old : Desked)
+pub others_set : {noted : Noted} (noted' : Noted) (n : ℕ) (session session' : Live) (own : Config) (table table' : Held)
+    (sessions sessions' : List (ℕ × Live)) (old : Desked)
     → old ≡ desk_of own table noted sessions → session_at n sessions ≡ Some session → sessions' ≡ set_value (is_at (nat_cmp n)) sessions session'
     → KeepsOthers n old (desk_of own table' noted' sessions')
 others_set noted' n session session' own table table' sessions sessions' old e there s = λ expired config items played number apart.

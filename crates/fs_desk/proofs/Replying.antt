@@ -1,5 +1,10 @@
 -- What a session replies when it is fed octet by octet, and all that is replied to the octets that the peer sent.
-use Rattle.fs_desk.proofs.{Words.{◌≡◌, ℕ, List, [], ◌∷◌, ◌++◌, true, drop, Option, Some, None, ap, sym, ◌∙◌, append_assoc, append-nil, subst, Config, Peer, pending, Update, Established, Closed, Phase, Step, waits, takes, stops, fresh, reply_to, reply_at, at_start, Last, session_from, Live, live, step_of, Does, reply_of, step_with, session_waits, first_over, is_over, routes_left, too_many, bounded_replies_from, replies_to_limit, Follows, AreWithin, IsFed, said_in, IsReplying, HasReplied}, Follows.{nothing_waits, all_gone, closed_small, follows_over, follows_small}, Saying.{takes_says, takes_update}}
+use Rattle.fs_desk.proofs.Words.{◌≡◌, ℕ, List, [], ◌∷◌, ◌++◌, true, drop, Option, Some, None, ap, sym, ◌∙◌, append_assoc, append-nil, subst, Config}
+use Rattle.fs_desk.proofs.Words.{Peer, pending, Update, Established, Closed, Phase, Step, waits, takes, stops, fresh, reply_to, reply_at, at_start}
+use Rattle.fs_desk.proofs.Words.{Last, session_from, Live, live, step_of, Does, reply_of, step_with, session_waits, first_over, is_over, routes_left}
+use Rattle.fs_desk.proofs.Words.{too_many, bounded_replies_from, replies_to_limit, Follows, AreWithin, IsFed, said_in, IsReplying, HasReplied}
+use Rattle.fs_desk.proofs.Follows.{nothing_waits, all_gone, closed_small, follows_over, follows_small}
+use Rattle.fs_desk.proofs.Saying.{takes_says, takes_update}
 use Rattle.fs_speaker.{specs.Replies.{replies_from}, proofs.ReplySteps.{replies_takes, replies_stops, replies_waits}}
 
 -- a session that doesn't pass its limit is replied to as without it, and one that passes it up to that update
@@ -8,7 +13,8 @@ pub replies_within : (config : Config) (peer : Peer) (octets : List ℕ) → fir
 replies_within config peer octets h =
     ap (λ (o : Option (List Update)). elim o as (λ _. List ℕ) [ None ↦ replies_from config peer at_start octets | Some front ↦ replies_to_limit config ]) h
 
-pub replies_over : (config : Config) (peer : Peer) (octets : List ℕ) (front : List Update) → first_over peer.max_routes (session_from config peer at_start octets).0 ≡ Some front
+pub replies_over : (config : Config) (peer : Peer) (octets : List ℕ) (front : List Update)
+    → first_over peer.max_routes (session_from config peer at_start octets).0 ≡ Some front
     → bounded_replies_from config peer octets ≡ replies_to_limit config
 replies_over config peer octets front h =
     ap (λ (o : Option (List Update)). elim o as (λ _. List ℕ) [ None ↦ replies_from config peer at_start octets | Some front ↦ replies_to_limit config ]) h
@@ -16,7 +22,8 @@ replies_over config peer octets front h =
 -- a session that has not begun has said nothing
 said_none : (config : Config) (peer : Peer) → bounded_replies_from config peer [] ≡ []
 said_none config peer =
-    replies_within config peer [] (ap (λ (r : List Update × Last). first_over peer.max_routes r.0) (session_waits config peer at_start [] (nothing_waits config peer at_start)))
+    replies_within config peer [] (ap (λ (r : List Update × Last). first_over peer.max_routes r.0)
+    (session_waits config peer at_start [] (nothing_waits config peer at_start)))
     ∙ replies_waits config peer at_start [] (nothing_waits config peer at_start)
 
 pub replied_none : (config : Config) (peer : Peer)
@@ -86,7 +93,8 @@ module _ (config : Config) (peer : Peer) (octets rest : List ℕ) (old : Live) (
   fed_established new count update f waits h did = absurd (let none : Some update ≡ None = did.3 in cc)
   fed_established new count update f (takes next taken behind) h did =
       ap (λ (t : Phase). t.state) did.3
-      ∙ takes_update config peer old.phase next update (pending old.framing ++ rest) behind (step_is f (takes next taken behind) h ∙ ap (λ (o : Option Update). takes next o behind) (sym did.4))
+      ∙ takes_update config peer old.phase next update (pending old.framing ++ rest) behind (step_is f (takes next taken behind) h
+      ∙ ap (λ (o : Option Update). takes next o behind) (sym did.4))
   fed_established new count update f (stops why) h did = absurd did
 
   -- what closes is answered, and nothing more is
@@ -100,7 +108,8 @@ module _ (config : Config) (peer : Peer) (octets rest : List ℕ) (old : Live) (
 
 -- an update that passes the limit is answered, and nothing more is
 pub replying_ceased : (config : Config) (peer : Peer) (octets rest : List ℕ) (session : Live) (updates : List Update) (update : Update) (said : List ℕ)
-    → Follows config peer octets rest session (updates ++ update ∷ []) → AreWithin peer updates → is_over peer.max_routes (routes_left (updates ++ update ∷ [])) ≡ true
+    → Follows config peer octets rest session (updates ++ update ∷ []) → AreWithin peer updates
+    → is_over peer.max_routes (routes_left (updates ++ update ∷ [])) ≡ true
     → said ≡ said_in config session.phase.state → session.phase.state ≡ Established
     → (more : List ℕ) → bounded_replies_from config peer (octets ++ more) ≡ said ++ reply_at too_many
 replying_ceased config peer octets rest session updates update said f w h s e more =

@@ -1,5 +1,10 @@
 -- Tapes that leave the same routes leave one list of held routes.
-use Rattle.fs_desk.{proofs.{Words.{◌≡◌, ℕ, List, [], ◌∷◌, Bool, true, false, cond, Some, option_map, refl, ap, sym, ◌∙◌, subst, map, find, Equal, is_eq, nat_cmp, IsStrictlySortedBy, keys_of, prefix_cmp, Config, Path, Prefix, Ruled, rule_cmp, place_cmp, Route, Place, place_total, FlowRoute, Held, Item, life, peer_of, Desked, IsListed, Leaves, LeavesBut, Played, PlayedBut, StandsAs, session_at, standing_at_desk, flow_key, flow_key_cmp, given_of, unicast_at, flow_at, Given}, KeyedSame.{value_at, one_list}, Keys.{flow_key_total}, Leaves.{played_leaves_but}, Standing.{desk_stands_but}}, specs.Laws.{LeaveSame}}
+use Rattle.fs_desk.proofs.Words.{◌≡◌, ℕ, List, [], ◌∷◌, Bool, true, false, cond, Some, option_map, refl, ap, sym, ◌∙◌, subst, map, find, Equal, is_eq}
+use Rattle.fs_desk.proofs.Words.{nat_cmp, IsStrictlySortedBy, keys_of, prefix_cmp, Config, Path, Prefix, Ruled, rule_cmp, place_cmp, Route, Place}
+use Rattle.fs_desk.proofs.Words.{place_total, FlowRoute, Held, Item, life, peer_of, Desked, IsListed, Leaves, LeavesBut, Played, PlayedBut, StandsAs}
+use Rattle.fs_desk.proofs.Words.{session_at, standing_at_desk, flow_key, flow_key_cmp, given_of, unicast_at, flow_at, Given}
+use Rattle.fs_desk.proofs.{KeyedSame.{value_at, one_list}, Keys.{flow_key_total}, Leaves.{played_leaves_but}, Standing.{desk_stands_but}}
+use Rattle.fs_desk.specs.Laws.{LeaveSame}
 use Rattle.fs_base.proofs.SamePrefix.{same_from_cmp}
 use Rattle.fs_order.proofs.{Same.{first_equal, second_equal}, Pairs.{equal_numbers}}
 
@@ -64,7 +69,8 @@ one_flows : (xs ys : List FlowRoute) → IsStrictlySortedBy flow_key_cmp (map fl
 one_flows xs ys s t e = one_list flow_key given_of flow_key_cmp flow_key_total one_flow xs ys s t (λ k. e k.0 k.1)
 
 -- of two lists of routes that are told alike at each key
-same_held : (held held' : Held) → held.config ≡ held'.config → IsListed held → IsListed held' → ((place : Place) → unicast_at place held.unicast ≡ unicast_at place held'.unicast)
+same_held : (held held' : Held) → held.config ≡ held'.config → IsListed held → IsListed held'
+    → ((place : Place) → unicast_at place held.unicast ≡ unicast_at place held'.unicast)
     → ((rule : Ruled) (peer : ℕ) → flow_at rule peer held.flows ≡ flow_at rule peer held'.flows) → held ≡ held'
 same_held held held' configs l l' at_places of_rules =
     let unicast : held.unicast ≡ held'.unicast = one_unicast held.unicast held'.unicast l.unicast l'.unicast at_places in
@@ -73,27 +79,32 @@ same_held held held' configs l l' at_places of_rules =
     ∙ ap (λ (u : List Route). held_with held'.config u held.flows) unicast
     ∙ ap (λ (l : List FlowRoute). held_with held'.config held'.unicast l) flows
 
-pub one_held : (config : Config) (items other : List Item) (held held' : Held) → LeaveSame config items other → Leaves config items held → Leaves config other held' → held ≡ held'
+pub one_held : (config : Config) (items other : List Item) (held held' : Held) → LeaveSame config items other → Leaves config items held
+    → Leaves config other held' → held ≡ held'
 one_held config items other held held' same l l' =
     same_held held held' (l.config_is ∙ sym l'.config_is) l.listed l'.listed (λ place. l.unicast place ∙ same.unicast place ∙ sym (l'.unicast place))
     (λ rule peer. l.flows rule peer ∙ same.flows rule peer ∙ sym (l'.flows rule peer))
 
 -- and of two desks that stand as the same items leave them
-pub same_desk : (expired : ℕ → Bool) (config : Config) (items : List Item) (desk other : Desked) → PlayedBut expired config items desk → PlayedBut expired config items other
+pub same_desk : (expired : ℕ → Bool) (config : Config) (items : List Item) (desk other : Desked) → PlayedBut expired config items desk
+    → PlayedBut expired config items other
     → (desk.held ≡ other.held) × ((number : ℕ) → standing_at_desk desk number ≡ standing_at_desk other number)
 same_desk expired config items desk other p q =
     let l : LeavesBut expired config items desk.held = played_leaves_but config items desk p in
     let m : LeavesBut expired config items other.held = played_leaves_but config items other q in (
-      same_held desk.held other.held (l.config_is ∙ sym m.config_is) l.listed m.listed (λ place. l.unicast place ∙ sym (m.unicast place)) (λ rule peer. l.flows rule peer ∙ sym (m.flows rule peer)),
+      same_held desk.held other.held (l.config_is ∙ sym m.config_is) l.listed m.listed (λ place. l.unicast place
+          ∙ sym (m.unicast place)) (λ rule peer. l.flows rule peer ∙ sym (m.flows rule peer)),
       λ number. desk_stands_but config items desk number p ∙ sym (desk_stands_but config items other number q),
     )
 
 -- where the clock has closed no session
-pub expired_none : (expired : ℕ → Bool) (config : Config) (items : List Item) (desk : Desked) → PlayedBut expired config items desk → ((number : ℕ) → expired number ≡ false) → Played config items desk
+pub expired_none : (expired : ℕ → Bool) (config : Config) (items : List Item) (desk : Desked) → PlayedBut expired config items desk
+    → ((number : ℕ) → expired number ≡ false) → Played config items desk
 expired_none expired config items desk p none = record {
   config_is = p.config_is;
   held_is = p.held_is;
   listed = p.listed;
   sessions = p.sessions;
-  each = λ number. subst (λ (b : Bool). StandsAs b config (peer_of number config.peers) (life number items) (session_at number desk.sessions) number desk.held) (none number) (p.each number);
+  each = λ number. subst (λ (b : Bool). StandsAs b config (peer_of number config.peers) (life number items)
+      (session_at number desk.sessions) number desk.held) (none number) (p.each number);
 }

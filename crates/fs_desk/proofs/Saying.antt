@@ -1,6 +1,10 @@
 -- What an open session has said tells its state: it has answered the OPEN once it has taken it, and nothing else.
-use Rattle.fs_desk.proofs.Words.{◌≡◌, ◌==◌, ℕ, List, ◌++◌, Bool, true, false, if◌then◌else◌, Option, Some, None, Result, Ok, Err, refl, sym, append-nil, subst, Config, Peer, Update, WaitOpen, WaitKeep, Established, Closed, Phase, phase, taken, not_taken, notified, opened, updates, transition_at, transition_by, Step, waits, takes, stops, step_at, rest_step, reply_to, receiver, reads_update, step_of, said_in}
-use Rattle.fs_message.specs.{declared.{fault.MessageFault.{MessageFault}, open_.Open.{Open}}, Notice.{notice_of}, Open.{open_of}, Stream.{Message, first_message, wrong_at}}
+use Rattle.fs_desk.proofs.Words.{◌≡◌, ◌==◌, ℕ, List, ◌++◌, Bool, true, false, if◌then◌else◌, Option, Some, None, Result, Ok, Err, refl, sym}
+use Rattle.fs_desk.proofs.Words.{append-nil, subst, Config, Peer, Update, WaitOpen, WaitKeep, Established, Closed, Phase, phase, taken, not_taken}
+use Rattle.fs_desk.proofs.Words.{notified, opened, updates, transition_at, transition_by, Step, waits, takes, stops, step_at, rest_step, reply_to}
+use Rattle.fs_desk.proofs.Words.{receiver, reads_update, step_of, said_in}
+use Rattle.fs_message.specs.declared.{fault.MessageFault.{MessageFault}, open_.Open.{Open}}
+use Rattle.fs_message.specs.{Notice.{notice_of}, Open.{open_of}, Stream.{Message, first_message, wrong_at}}
 use Rattle.fs_attrs.specs.declared.update.UpdateFault.{UpdateFault}
 use Rattle.fs_speaker.specs.declared.State.{State, TheVariants.{Closed as IsClosed}}
 
@@ -45,9 +49,11 @@ state_says config peer Established four hold message =
     (either_says config peer Established (message.kind == 4) stays other says (either_says config peer Established (message.kind == 5) stays not_taken says tt))
 state_says config peer IsClosed four hold message = tt
 
-message_says : (config : Config) (peer : Peer) (now : Phase) (message : Message) → SaysResult config peer now.state (transition_by (receiver config peer) now message)
+message_says : (config : Config) (peer : Peer) (now : Phase) (message : Message)
+    → SaysResult config peer now.state (transition_by (receiver config peer) now message)
 message_says config peer now message =
-    either_says config peer now.state (message.kind == 3) (Err (notified (notice_of message.body))) (transition_at (receiver config peer) now.state now.four now.hold message)
+    either_says config peer now.state (message.kind == 3) (Err (notified (notice_of message.body)))
+    (transition_at (receiver config peer) now.state now.four now.hold message)
     tt (state_says config peer now.state now.four now.hold message)
 
 abbrev SaysStep : Config → Peer → State → Step → Type 0
@@ -68,15 +74,18 @@ step_says : (config : Config) (peer : Peer) (now : Phase) (octets : List ℕ) �
 step_says config peer now octets = by (first_message octets)
   where
     by : (first : Option (Message × List ℕ))
-        → SaysStep config peer now.state (elim first [ Some found ↦ step_at (transition_by (receiver config peer) now found.0) found.1 | None ↦ rest_step (wrong_at octets) ])
+        → SaysStep config peer now.state
+        (elim first [ Some found ↦ step_at (transition_by (receiver config peer) now found.0) found.1 | None ↦ rest_step (wrong_at octets) ])
     by None = rest_says config peer now.state (wrong_at octets)
     by (Some found) = at_says config peer now.state (transition_by (receiver config peer) now found.0) found.1 (message_says config peer now found.0)
 
 -- of a step that took a message
-pub takes_says : (config : Config) (peer : Peer) (now next : Phase) (update : Option Update) (octets behind : List ℕ) → step_of config peer now octets ≡ takes next update behind
+pub takes_says : (config : Config) (peer : Peer) (now next : Phase) (update : Option Update) (octets behind : List ℕ)
+    → step_of config peer now octets ≡ takes next update behind
     → said_in config next.state ≡ said_in config now.state ++ reply_to config now.state
 takes_says config peer now next update octets behind h = (subst (SaysStep config peer now.state) h (step_says config peer now octets)).said
 
-pub takes_update : (config : Config) (peer : Peer) (now next : Phase) (update : Update) (octets behind : List ℕ) → step_of config peer now octets ≡ takes next (Some update) behind
+pub takes_update : (config : Config) (peer : Peer) (now next : Phase) (update : Update) (octets behind : List ℕ)
+    → step_of config peer now octets ≡ takes next (Some update) behind
     → next.state ≡ Established
 takes_update config peer now next update octets behind h = (subst (SaysStep config peer now.state) h (step_says config peer now octets)).by_update update refl

@@ -1,5 +1,9 @@
 -- How it stands with a peer: the sessions that a desk keeps beside those of the tape's octets.
-use Rattle.fs_desk.proofs.{Words.{◌≡◌, ℕ, Bool, true, false, if◌then◌else◌, List, [], Option, Some, None, refl, ap, sym, ◌∙◌, peer_of, Config, Peer, Update, Held, Closed, Fault, Last, still, at_start, Item, life, Desked, session_at, PeerIs, PlayedBut, Played, StandsAs, standing_but, standing_of, standing_at_desk, bounded_from, bounded_session, IsFed, Down, Ended, standing_at, standing_by}, Follows.{follows_session, over_session}}
+use Rattle.fs_desk.proofs.Words.{◌≡◌, ℕ, Bool, true, false, if◌then◌else◌, List, [], Option, Some, None, refl, ap, sym, ◌∙◌, peer_of, Config, Peer}
+use Rattle.fs_desk.proofs.Words.{Update, Held, Closed, Fault, Last, still, at_start, Item, life, Desked, session_at, PeerIs, PlayedBut, Played}
+use Rattle.fs_desk.proofs.Words.{StandsAs, standing_but, standing_of, standing_at_desk, bounded_from, bounded_session, IsFed, Down, Ended}
+use Rattle.fs_desk.proofs.Words.{standing_at, standing_by}
+use Rattle.fs_desk.proofs.Follows.{follows_session, over_session}
 use Rattle.fs_speaker.specs.{Session.{Live as Session}, declared.Standing.{Standing, TheVariants.{Live as LiveIn}}}
 
 -- what a session came to is what the desk keeps of it
@@ -28,7 +32,8 @@ peer_stands config number held (Some peer) (Some octets) None is own = absurd is
 peer_stands config number held None (Some octets) (Some session) is own = absurd is
 
 expired_stands : (config : Config) (items : List Item) (number : ℕ) (held : Held) (b : Bool) (session : Option Session)
-    → StandsAs b config (peer_of number config.peers) (life number items) session number held → standing_by session ≡ (if b then Ended (Fault 4 0) else standing_of config items number)
+    → StandsAs b config (peer_of number config.peers) (life number items) session number held
+    → standing_by session ≡ (if b then Ended (Fault 4 0) else standing_of config items number)
 expired_stands config items number held true None k = absurd k
 expired_stands config items number held true (Some session) k =
     ap (λ (c : Option Closed). elim c [ Some why ↦ Ended why | None ↦ LiveIn session.phase.state ]) k.0
@@ -41,9 +46,11 @@ pub desk_stands_but : {expired : ℕ → Bool} (config : Config) (items : List I
 desk_stands_but {expired} config items desk number played =
     expired_stands config items number desk.held (expired number) (session_at number desk.sessions) (played.each number)
 
-pub desk_stands : (config : Config) (items : List Item) (desk : Desked) (number : ℕ) → Played config items desk → standing_at_desk desk number ≡ standing_of config items number
+pub desk_stands : (config : Config) (items : List Item) (desk : Desked) (number : ℕ) → Played config items desk
+    → standing_at_desk desk number ≡ standing_of config items number
 desk_stands config items desk number played = desk_stands_but config items desk number played
 
-pub standing_played : (expired : ℕ → Bool) (config : Config) (items : List Item) (desk : Desked) (number : ℕ) (at : Standing) → at ≡ standing_at_desk desk number
+pub standing_played : (expired : ℕ → Bool) (config : Config) (items : List Item) (desk : Desked) (number : ℕ) (at : Standing)
+    → at ≡ standing_at_desk desk number
     → PlayedBut expired config items desk → at ≡ standing_but expired config items number
 standing_played expired config items desk number at e played = e ∙ desk_stands_but config items desk number played

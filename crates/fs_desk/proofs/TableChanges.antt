@@ -1,5 +1,14 @@
 -- What each call of the table changes.
-use Rattle.fs_desk.proofs.{Words.{◌≡◌, ◌==◌, ℕ, List, [], ◌∷◌, Bool, true, false, not, ◌&&◌, ◌||◌, cond, Option, Some, None, if◌then◌else◌, map, option_map, refl, ap, sym, subst, ◌∙◌, true≢false, arith, nat_tests, Ordering, Less, Equal, Greater, is_eq, ordering_reverse, match_ordering, IsTotalOrder, eq_by_cmp_equiv, IsStrictlySortedBy, remove_entry, keys_of, insert_entry, is_at, lookup-remove_entry, IsDistinct-from_sorted, Path, Prefix, equal_of_is_eq, Ruled, shown, rule_cmp, place_cmp, Route, Place, place_total, FlowRoute, Held, put_route, without_route, without_peer, without_peer_unicast, without_peer_flows, unicast_at, flow_at, flow_key, flow_key_cmp, FlowKey, given_of, is_prefix, is_rule, Changes, same, nothing, taken_of, given_at, rules_taken, rules_given, given_or, lookup-insert_entry, sorted-insert_entry, sorted-remove_entry}, KeyedLists.{at_key, put_by, at_key-put_by, at_key-without, at_key-filter, listed-put_by, listed-filter}, Keys.{flow_key_total, place_same, key_same}}
+use Rattle.fs_desk.proofs.Words.{◌≡◌, ◌==◌, ℕ, List, [], ◌∷◌, Bool, true, false, not, ◌&&◌, ◌||◌, cond, Option, Some, None, if◌then◌else◌, map}
+use Rattle.fs_desk.proofs.Words.{option_map, refl, ap, sym, subst, ◌∙◌, true≢false, arith, nat_tests, Ordering, Less, Equal, Greater, is_eq}
+use Rattle.fs_desk.proofs.Words.{ordering_reverse, match_ordering, IsTotalOrder, eq_by_cmp_equiv, IsStrictlySortedBy, remove_entry, keys_of}
+use Rattle.fs_desk.proofs.Words.{insert_entry, is_at, lookup-remove_entry, IsDistinct-from_sorted, Path, Prefix, equal_of_is_eq, Ruled, shown}
+use Rattle.fs_desk.proofs.Words.{rule_cmp, place_cmp, Route, Place, place_total, FlowRoute, Held, put_route, without_route, without_peer}
+use Rattle.fs_desk.proofs.Words.{without_peer_unicast, without_peer_flows, unicast_at, flow_at, flow_key, flow_key_cmp, FlowKey, given_of, is_prefix}
+use Rattle.fs_desk.proofs.Words.{is_rule, Changes, same, nothing, taken_of, given_at, rules_taken, rules_given, given_or, lookup-insert_entry}
+use Rattle.fs_desk.proofs.Words.{sorted-insert_entry, sorted-remove_entry}
+use Rattle.fs_desk.proofs.KeyedLists.{at_key, put_by, at_key-put_by, at_key-without, at_key-filter, listed-put_by, listed-filter}
+use Rattle.fs_desk.proofs.Keys.{flow_key_total, place_same, key_same}
 
 reverse_eq : (r : Ordering) → is_eq (ordering_reverse r) ≡ is_eq r
 reverse_eq Less = refl
@@ -26,7 +35,8 @@ changes_taken peer prefix held place e = record {
   config_is = refl;
   listed = λ l. record { unicast = sorted-remove_entry place_cmp place_total (is_at (place_cmp place)) held.unicast l.unicast; flows = l.flows };
   unicast = λ l q.
-      lookup-remove_entry (eq_by_cmp_equiv place_total) (is_at (place_cmp place)) (λ x y h. ap is_eq (IsTotalOrder.congr place_total place x y (equal_of_is_eq (place_cmp place x) h))) q held.unicast
+      lookup-remove_entry (eq_by_cmp_equiv place_total) (is_at (place_cmp place))
+      (λ x y h. ap is_eq (IsTotalOrder.congr place_total place x y (equal_of_is_eq (place_cmp place x) h))) q held.unicast
       (IsDistinct-from_sorted place_cmp (keys_of held.unicast) l.unicast)
       ∙ ap (λ (b : Bool). cond b None (unicast_at q held.unicast)) (place_swapped place q ∙ place_same q place)
       ∙ ap (λ (p : Place). cond (is_prefix q.prefix (shown p.prefix) && (q.peer == p.peer)) None (unicast_at q held.unicast)) e
@@ -34,7 +44,8 @@ changes_taken peer prefix held place e = record {
   flows = λ l rule other. untouched (other == peer) (flow_at rule other held.flows);
 }
 
-given_choice : (a b : Bool) (path : Path) (before : Option Path) → (if (a && b) then Some path else before) ≡ (if b then (if (a || false) then Some path else before) else before)
+given_choice : (a b : Bool) (path : Path) (before : Option Path)
+    → (if (a && b) then Some path else before) ≡ (if b then (if (a || false) then Some path else before) else before)
 given_choice true true path before = refl
 given_choice true false path before = refl
 given_choice false true path before = refl
@@ -54,7 +65,8 @@ changes_given peer prefix path held place e = record {
 }
 
 rule_taken_choice : (a b : Bool) (found : Option FlowRoute)
-    → option_map given_of (if (a && b) then None else found) ≡ (if b then (if (a || false) then None else option_map given_of found) else option_map given_of found)
+    → option_map given_of (if (a && b) then None else found)
+    ≡ (if b then (if (a || false) then None else option_map given_of found) else option_map given_of found)
 rule_taken_choice true true found = refl
 rule_taken_choice true false found = refl
 rule_taken_choice false true found = refl
@@ -64,7 +76,11 @@ pub changes_rule_taken : (peer : ℕ) (rule : Ruled) (held : Held)
     → Changes peer same (rules_taken (rule ∷ [])) held (record held { flows = without_route rule peer held.flows })
 changes_rule_taken peer rule held = record {
   config_is = refl;
-  listed = λ l. record { unicast = l.unicast; flows = listed-filter flow_key flow_key_cmp flow_key_total (λ r. not (is_eq (flow_key_cmp (rule, peer) (flow_key r)))) held.flows l.flows };
+  listed = λ l. record {
+    unicast = l.unicast;
+    flows =
+        listed-filter flow_key flow_key_cmp flow_key_total (λ r. not (is_eq (flow_key_cmp (rule, peer) (flow_key r)))) held.flows l.flows;
+  };
   unicast = λ l place. untouched (place.peer == peer) (unicast_at place held.unicast);
   flows = λ l other from.
       ap (option_map given_of) (at_key-without flow_key flow_key_cmp flow_key_total (other, from) (rule, peer) held.flows)
@@ -90,7 +106,8 @@ changes_rule_given r held = record {
   config_is = refl;
   listed = λ l. record {
     unicast = l.unicast;
-    flows = subst (λ (flows : List FlowRoute). IsStrictlySortedBy flow_key_cmp (map flow_key flows)) (sym (put_same r held.flows)) (listed-put_by flow_key flow_key_cmp flow_key_total r held.flows l.flows);
+    flows = subst (λ (flows : List FlowRoute). IsStrictlySortedBy flow_key_cmp (map flow_key flows)) (sym (put_same r held.flows))
+        (listed-put_by flow_key flow_key_cmp flow_key_total r held.flows l.flows);
   };
   unicast = λ l place. untouched (place.peer == r.peer) (unicast_at place held.unicast);
   flows = λ l other from.
@@ -113,7 +130,8 @@ as_element place (e ∷ es) = at (is_eq (place_cmp place e.0)) (as_element place
     at true h = refl
     at false h = h
 
-mapped_choice : (b : Bool) (found : Option Route) → option_map (λ (e : Route). e.1) (if not b then found else None) ≡ (if b then None else option_map (λ (e : Route). e.1) found)
+mapped_choice : (b : Bool) (found : Option Route)
+    → option_map (λ (e : Route). e.1) (if not b then found else None) ≡ (if b then None else option_map (λ (e : Route). e.1) found)
 mapped_choice true found = refl
 mapped_choice false found = refl
 
@@ -141,22 +159,28 @@ changes_lost peer held = record {
   };
   unicast = λ l place.
       as_element place (without_peer_unicast peer held.unicast)
-      ∙ ap (option_map (λ (e : Route). e.1)) (at_key-filter (λ (e : Route). e.0) place_cmp place_total (λ (p : Place). not (p.peer == peer)) (same_peer peer) place held.unicast)
+      ∙ ap (option_map (λ (e : Route). e.1))
+      (at_key-filter (λ (e : Route). e.0) place_cmp place_total (λ (p : Place). not (p.peer == peer)) (same_peer peer) place held.unicast)
       ∙ mapped_choice (place.peer == peer) (at_key (λ (e : Route). e.0) place_cmp place held.unicast)
       ∙ ap (λ (o : Option Path). if (place.peer == peer) then None else o) (sym (as_element place held.unicast));
   flows = λ l rule other.
-      ap (option_map given_of) (at_key-filter flow_key flow_key_cmp flow_key_total (λ (k : FlowKey). not (k.1 == peer)) (same_from peer) (rule, other) held.flows)
+      ap (option_map given_of) (at_key-filter flow_key flow_key_cmp flow_key_total (λ (k : FlowKey). not (k.1 == peer)) (same_from peer) (
+        rule,
+        other,
+      ) held.flows)
       ∙ lost_flow (other == peer) (at_key flow_key flow_key_cmp (rule, other) held.flows);
 }
 
 -- the same, of the table behind the call
 pub taken_to : (peer : ℕ) (prefix : Prefix) (held new : Held) (place : Place) → place ≡ record { prefix = prefix; peer = peer }
     → new ≡ record held { unicast = remove_entry (is_at (place_cmp place)) held.unicast } → Changes peer (taken_of (shown prefix ∷ [])) same held new
-taken_to peer prefix held new place e h = subst (λ (n : Held). Changes peer (taken_of (shown prefix ∷ [])) same held n) (sym h) (changes_taken peer prefix held place e)
+taken_to peer prefix held new place e h =
+    subst (λ (n : Held). Changes peer (taken_of (shown prefix ∷ [])) same held n) (sym h) (changes_taken peer prefix held place e)
 
 pub given_to : (peer : ℕ) (prefix : Prefix) (path : Path) (held new : Held) (place : Place) → place ≡ record { prefix = prefix; peer = peer }
     → new ≡ record held { unicast = insert_entry place_cmp held.unicast place path } → Changes peer (given_at (shown prefix ∷ []) path) same held new
-given_to peer prefix path held new place e h = subst (λ (n : Held). Changes peer (given_at (shown prefix ∷ []) path) same held n) (sym h) (changes_given peer prefix path held place e)
+given_to peer prefix path held new place e h =
+    subst (λ (n : Held). Changes peer (given_at (shown prefix ∷ []) path) same held n) (sym h) (changes_given peer prefix path held place e)
 
 pub rule_taken_to : (peer : ℕ) (rule : Ruled) (held new : Held)
     → new ≡ record held { flows = without_route rule peer held.flows } → Changes peer same (rules_taken (rule ∷ [])) held new

@@ -1,4 +1,7 @@
-use Rattle.fs_desk.proofs.Words.{◌≡◌, ◌==◌, ℕ, List, [], ◌∷◌, ◌++◌, Bool, true, false, ◌||◌, Option, Some, None, if◌then◌else◌, option_and_then, is_some, refl, ap, sym, ◌∙◌, arith, nat_tests, list_any, Path, Prefix, eq_itself, if_true, if_false, Ruled, shown, Update, takes_prefixes, takes_rules, Held, IsListed, last_such, is_prefix, gives_at, tells_of, unicast_left, is_rule, Given, rule_given, tells_of_rule, given_with, flow_left, Changes, nothing, told, told_of, IsLeft, Spares}
+use Rattle.fs_desk.proofs.Words.{◌≡◌, ◌==◌, ℕ, List, [], ◌∷◌, ◌++◌, Bool, true, false, ◌||◌, Option, Some, None, if◌then◌else◌, option_and_then}
+use Rattle.fs_desk.proofs.Words.{is_some, refl, ap, sym, ◌∙◌, arith, nat_tests, list_any, Path, Prefix, eq_itself, if_true, if_false, Ruled, shown}
+use Rattle.fs_desk.proofs.Words.{Update, takes_prefixes, takes_rules, Held, IsListed, last_such, is_prefix, gives_at, tells_of, unicast_left, is_rule}
+use Rattle.fs_desk.proofs.Words.{Given, rule_given, tells_of_rule, given_with, flow_left, Changes, nothing, told, told_of, IsLeft, Spares}
 
 -- What one more update leaves a peer holding, and what a change of the table leaves.
 
@@ -121,7 +124,8 @@ other_place : (n m p : ℕ) → (p == m) ≡ true → (m == n) ≡ false → (p 
 other_place n m p h e = grind (arith, nat_tests)
 
 -- what another peer holds stays
-pub left_spared : (peer other : ℕ) (updates : List Update) (old new : Held) → Spares peer old new → (other == peer) ≡ false → IsLeft other updates old → IsLeft other updates new
+pub left_spared : (peer other : ℕ) (updates : List Update) (old new : Held) → Spares peer old new → (other == peer) ≡ false → IsLeft other updates old
+    → IsLeft other updates new
 left_spared peer other updates old new s apart k = record {
   unicast = λ place h. s.unicast place (other_place peer other place.peer h apart) ∙ k.unicast place h;
   flows = λ rule. s.flows rule other apart ∙ k.flows rule;

@@ -1,11 +1,14 @@
 -- What the desk keeps, and what the items that were played make of it.
-use Rattle.std.specs.{Prelude.{◌≡◌, ◌≢◌, ◌==◌, ◌⊎◌, ◌&&◌, ◌||◌, not, if◌then◌else◌, ℕ, List, [], ◌∷◌, ◌++◌, Bool, true, false, Option, Some, None}, Ordering.{nat_cmp}, List.Sorted.{IsStrictlySortedBy}, Map.{lookup, keys_of}, BTreeMap.{is_at}}
+use Rattle.std.specs.Prelude.{◌≡◌, ◌≢◌, ◌==◌, ◌⊎◌, ◌&&◌, ◌||◌, not, if◌then◌else◌, ℕ, List, [], ◌∷◌, ◌++◌, Bool, true, false, Option, Some, None}
+use Rattle.std.specs.{Ordering.{nat_cmp}, List.Sorted.{IsStrictlySortedBy}, Map.{lookup, keys_of}, BTreeMap.{is_at}}
 use Rattle.fs_base.specs.{Config.{peer_of}, declared.config.{Config.{Config}, Peer.{Peer}}}
 use Rattle.fs_rules.specs.{Changes.{Covers, Noted}, Table.{Held, held_count}}
-use Rattle.fs_speaker.specs.{declared.{Standing.{Standing, TheVariants.{Down, Ended}}, Closed.{Closed, TheVariants.{Fault}}}, Handed.{hand}, Session.{Live, still}, Side.{receiver}, State.{standing_at, standing_by}}
+use Rattle.fs_speaker.specs.declared.{Standing.{Standing, TheVariants.{Down, Ended}}, Closed.{Closed, TheVariants.{Fault}}}
+use Rattle.fs_speaker.specs.{Handed.{hand}, Session.{Live, still}, Side.{receiver}, State.{standing_at, standing_by}}
 use Rattle.fs_session.specs.declared.transition.Phase.{Phase}
 use Rattle.fs_tape.specs.Tape.{Item}
-use Rattle.fs_desk.specs.{Life.{bounds_life, life}, Leaves.{IsListed, nobody}, Limit.{bounded_session, bounded_replies}, Receive.{IsLeft, IsUp, point_of}, HoldTimer.{TicksSession}, Idle.{AreIdle}}
+use Rattle.fs_desk.specs.{Life.{bounds_life, life}, Leaves.{IsListed, nobody}, Limit.{bounded_session, bounded_replies}}
+use Rattle.fs_desk.specs.{Receive.{IsLeft, IsUp, point_of}, HoldTimer.{TicksSession}, Idle.{AreIdle}}
 
 -- the configuration, the routes held, where the admitted rules may have changed, and the sessions of the peers that are
 -- up

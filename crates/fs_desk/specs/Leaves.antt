@@ -1,5 +1,7 @@
 -- The routes that a tape leaves held.
-use Rattle.std.specs.{Prelude.{◌≡◌, ℕ, List, [], find, map, Bool, false, if◌then◌else◌, Option, Some, None, option_map}, Ordering.{nat_cmp, ordering_then}, declared.cmp.Ordering.{Ordering}, List.Sorted.{IsStrictlySortedBy}, Map.{lookup, keys_of}, BTreeMap.{is_at}}
+use Rattle.std.specs.Prelude.{◌≡◌, ℕ, List, [], find, map, Bool, false, if◌then◌else◌, Option, Some, None, option_map}
+use Rattle.std.specs.{Ordering.{nat_cmp, ordering_then}, declared.cmp.Ordering.{Ordering}, List.Sorted.{IsStrictlySortedBy}, Map.{lookup, keys_of}}
+use Rattle.std.specs.BTreeMap.{is_at}
 use Rattle.fs_base.specs.declared.{config.Config.{Config}, path.Path.{Path}}
 use Rattle.fs_nlri.specs.Parts.{Ruled}
 use Rattle.fs_order.specs.Comparison.{rule_cmp}

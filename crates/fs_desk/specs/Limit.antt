@@ -1,9 +1,11 @@
 -- The limit of routes per peer: how many routes the updates of a peer leave it holding, and its session, which closes
 -- where they are more than it may hold.
-use Rattle.std.specs.{Prelude.{ℕ, ◌+◌, nat_lt, List, [], ◌∷◌, ◌++◌, map, filter, find, flat_map, Bool, false, Option, Some, None, is_some}, Set.{distinct_count}}
+use Rattle.std.specs.Prelude.{ℕ, ◌+◌, nat_lt, List, [], ◌∷◌, ◌++◌, map, filter, find, flat_map, Bool, false, Option, Some, None, is_some}
+use Rattle.std.specs.Set.{distinct_count}
 use Rattle.fs_base.specs.{Config.{peer_of}, declared.config.{Config.{Config}, Peer.{Peer}}}
 use Rattle.fs_attrs.specs.{declared.update.Update.{Update}, Update.{gives_prefixes, gives_rules}}
-use Rattle.fs_speaker.specs.{declared.{Closed.{Closed, TheVariants.{Fault}}, State.TheVariants.{WaitOpen}}, Replies.{replies_from}, Session.{at_start, Last, still, closed, session_from}, Side.{reply_to, reply_at}}
+use Rattle.fs_speaker.specs.declared.{Closed.{Closed, TheVariants.{Fault}}, State.TheVariants.{WaitOpen}}
+use Rattle.fs_speaker.specs.{Replies.{replies_from}, Session.{at_start, Last, still, closed, session_from}, Side.{reply_to, reply_at}}
 use Rattle.fs_desk.specs.Updates.{same_prefix, path_left, is_rule, flow_left}
 
 -- how many routes the updates leave held: prefixes and rules, each counted once

@@ -6,8 +6,12 @@ use Rattle.fs_unicast.specs.declared.unicast.Place.{Place}
 use Rattle.fs_message.specs.Deframer.{pending}
 use Rattle.fs_attrs.specs.{declared.update.Update.{Update}, Lists.{IsPrefix}, Update.{gives_prefixes}}
 use Rattle.fs_rules.specs.Table.{Held, held_count, without_peer}
-use Rattle.fs_speaker.specs.{declared.{State.{State, TheVariants.{WaitOpen}}, Closed.{Closed, TheVariants.{Fault, Notified, NoFamily, Memory}}}, Handed.{Handed, Point, point, runs_by}, Line.{waits}, Session.{at_start, Last, closed, session_from, Live, step_of}, Replies.{replies_from}, Side.{receiver, reply_to, reply_at}}
-use Rattle.fs_desk.specs.{Apply.{Applies}, Leaves.{IsListed, unicast_at, flow_at}, Limit.{first_over, is_over, too_many, bounded_from, bounded_replies_from}, Updates.{unicast_left, flow_left}}
+use Rattle.fs_speaker.specs.declared.{State.{State, TheVariants.{WaitOpen}}, Closed.{Closed, TheVariants.{Fault, Notified, NoFamily, Memory}}}
+use Rattle.fs_speaker.specs.{Handed.{Handed, Point, point, runs_by}, Line.{waits}, Session.{at_start, Last, closed, session_from, Live, step_of}}
+use Rattle.fs_speaker.specs.{Replies.{replies_from}, Side.{receiver, reply_to, reply_at}}
+use Rattle.fs_desk.specs.{Apply.{Applies}, Leaves.{IsListed, unicast_at, flow_at}}
+use Rattle.fs_desk.specs.Limit.{first_over, is_over, too_many, bounded_from, bounded_replies_from}
+use Rattle.fs_desk.specs.Updates.{unicast_left, flow_left}
 
 -- a session that was closed for want of memory, and not by the peer's octets
 abbrev pub wants_memory : Closed → Bool

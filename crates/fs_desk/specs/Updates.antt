@@ -1,5 +1,6 @@
 -- What the updates of a peer leave it holding at one key.
-use Rattle.std.specs.{Prelude.{◌==◌, ◌&&◌, ◌||◌, ℕ, List, [], ◌∷◌, Bool, Option, Some, None, if◌then◌else◌, is_some, option_map, option_and_then}, List.{list_any}, Ordering.{is_eq}}
+use Rattle.std.specs.Prelude.{◌==◌, ◌&&◌, ◌||◌, ℕ, List, [], ◌∷◌, Bool, Option, Some, None, if◌then◌else◌, is_some, option_map, option_and_then}
+use Rattle.std.specs.{List.{list_any}, Ordering.{is_eq}}
 use Rattle.fs_base.specs.{Bits.{afi_of}, declared.{path.Path.{Path}, prefix.Prefix.{Prefix}}}
 use Rattle.fs_nlri.specs.{Parts.{Ruled}, Rule.{shown}}
 use Rattle.fs_order.specs.Comparison.{rule_cmp}

@@ -3,7 +3,8 @@
 ghost use Rattle.std.specs.{Prelude.{◌≡◌, ◌++◌, [], None, map, OnOk, if◌then◌else◌}, List.{AllByRecursion}};
 ghost use Rattle.fs_nlri.specs.Rule.{shown};
 ghost use Rattle.fs_attrs.specs.{Lists.{IsPrefix}, Update.{unicast_in, flows_in, gives_prefixes}};
-ghost use Rattle.fs_desk.specs.{Apply.{Applies, Announces, Changes, Withdraws, same, taken_of, given_at, rules_taken, rules_given}, Idle.{IsIdle}, Watched.{Tells}};
+ghost use Rattle.fs_desk.specs.Apply.{Applies, Announces, Changes, Withdraws, same, taken_of, given_at, rules_taken, rules_given};
+ghost use Rattle.fs_desk.specs.{Idle.{IsIdle}, Watched.{Tells}};
 
 use crate::watched::WatchedTable;
 use fs_actions::Actions;

@@ -38,7 +38,9 @@ impl<'a> Model for Desk<'a> {
 impl<'a> Desk<'a> {
     ghost use Rattle.fs_base.specs.{declared.config.Config.{Config}, Config.{peer_of}};
     ghost use Rattle.fs_tape.specs.Tape.{Item, came_up, received, was_lost};
-    ghost use Rattle.fs_desk.specs.{Desk.{ExpiresPlayed, ExpiresSo, HandsPeer, IdlesOctets, IdlesTick, KeepsOthers, Notes, Played, PlayedBut, Plays, RepliesBehind, StaysPlayed, TicksPeer, session_at, standing_at_desk, standing_but}, Leaves.{LeavesBut}};
+    ghost use Rattle.fs_desk.specs.Desk.{ExpiresPlayed, ExpiresSo, HandsPeer, IdlesOctets, IdlesTick, KeepsOthers, Notes, Played, PlayedBut, Plays};
+    ghost use Rattle.fs_desk.specs.Desk.{RepliesBehind, StaysPlayed, TicksPeer, session_at, standing_at_desk, standing_but};
+    ghost use Rattle.fs_desk.specs.Leaves.{LeavesBut};
     ghost use Rattle.fs_rules.specs.Table.{held_count};
     ghost use Rattle.fs_speaker.specs.Session.{begins};
 

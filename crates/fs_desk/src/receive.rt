@@ -2,7 +2,9 @@
 
 ghost use Rattle.std.specs.Prelude.{◌≡◌, ◌≤◌, ◌<◌, true, false, None, IfOk, IfSome, IsSome, OnOk, OnErr, length};
 ghost use Rattle.fs_rules.specs.Table.{held_count, without_peer};
-ghost use Rattle.fs_desk.specs.{Idle.{IdlesMessage, IdlesPiece, IdlesUpdate}, Receive.{ComesOpen, Extends, PieceComes, RepliesMessage, TakesMessage, TakesPiece, TakesUpdate, wants_memory}, Watched.{Tells}};
+ghost use Rattle.fs_desk.specs.Idle.{IdlesMessage, IdlesPiece, IdlesUpdate};
+ghost use Rattle.fs_desk.specs.Receive.{ComesOpen, Extends, PieceComes, RepliesMessage, TakesMessage, TakesPiece, TakesUpdate, wants_memory};
+ghost use Rattle.fs_desk.specs.Watched.{Tells};
 
 use crate::apply::apply;
 use crate::limit::is_over;

@@ -1,5 +1,10 @@
 -- Rules of different destinations are in the order of these.
-use Rattle.fs_flows.proofs.Words.{ℕ, zero, suc, drop, take, ◌≡◌, refl, sym, ap, ap₂, ◌∙◌, true, false, true≢false, List, [], ◌∷◌, ◌++◌, Option, Some, None, option_map, Ordering, Less, Equal, Greater, is_eq, nat_cmp, Result, Ok, Err, OnOk, OnErr, IfOk, AllByRecursion, keys_of, ordering_then, ordering_reverse, sorted_head, Family, V4, V6, Prefix, afi_of, prefix_cmp, each_weaker, each_both, each_append, Ruled, IsRule, shown, destination_prefix, destination_shown, rule_cmp, parts_cmp, rule_total, destination_cmp, Kept, RuleBefore, AllBefore, key_cmp, is_key, same_rule, Entry, kept_in, IsTo, ArePlaced, AreInOrder, IsSound}
+use Rattle.fs_flows.proofs.Words.{ℕ, zero, suc, drop, take, ◌≡◌, refl, sym, ap, ap₂, ◌∙◌, true, false, true≢false, List, [], ◌∷◌, ◌++◌, Option, Some}
+use Rattle.fs_flows.proofs.Words.{None, option_map, Ordering, Less, Equal, Greater, is_eq, nat_cmp, Result, Ok, Err, OnOk, OnErr, IfOk}
+use Rattle.fs_flows.proofs.Words.{AllByRecursion, keys_of, ordering_then, ordering_reverse, sorted_head, Family, V4, V6, Prefix, afi_of, prefix_cmp}
+use Rattle.fs_flows.proofs.Words.{each_weaker, each_both, each_append, Ruled, IsRule, shown, destination_prefix, destination_shown, rule_cmp}
+use Rattle.fs_flows.proofs.Words.{parts_cmp, rule_total, destination_cmp, Kept, RuleBefore, AllBefore, key_cmp, is_key, same_rule, Entry, kept_in}
+use Rattle.fs_flows.proofs.Words.{IsTo, ArePlaced, AreInOrder, IsSound}
 use Rattle.fs_order.proofs.{First.{destinations_first}, Same.{same_rules}}
 
 -- rules without a destination come last
@@ -15,12 +20,17 @@ to_shown None (Some q) = refl
 to_shown (Some p) None = refl
 to_shown (Some p) (Some q) = refl
 
-by_destination : (family : Family) (a b : Kept) → IsSound family a → IsSound family b → rule_cmp a.route.rule b.route.rule ≡ ordering_then (to_cmp (destination_prefix a.route.rule) (destination_prefix b.route.rule)) (rule_cmp a.route.rule b.route.rule)
+by_destination : (family : Family) (a b : Kept) → IsSound family a → IsSound family b
+    → rule_cmp a.route.rule b.route.rule ≡ ordering_then (to_cmp (destination_prefix a.route.rule) (destination_prefix b.route.rule))
+    (rule_cmp a.route.rule b.route.rule)
 by_destination family a b h k = destinations_first a.route.rule b.route.rule h.rule k.rule (h.family ∙ sym k.family)
-    ∙ ap (λ o. ordering_then o (rule_cmp a.route.rule b.route.rule)) (ap₂ destination_cmp (destination_shown a.route.rule h.rule) (destination_shown b.route.rule k.rule) ∙ to_shown (destination_prefix a.route.rule) (destination_prefix b.route.rule))
+    ∙ ap (λ o. ordering_then o (rule_cmp a.route.rule b.route.rule))
+    (ap₂ destination_cmp (destination_shown a.route.rule h.rule) (destination_shown b.route.rule k.rule)
+    ∙ to_shown (destination_prefix a.route.rule) (destination_prefix b.route.rule))
 
 -- the route with the earlier destination has the earlier rule
-pub earlier : (family : Family) (a b : Kept) (p q : Option Prefix) → IsSound family a → IsSound family b → IsTo p a → IsTo q b → to_cmp p q ≡ Less → rule_cmp a.route.rule b.route.rule ≡ Less
+pub earlier : (family : Family) (a b : Kept) (p q : Option Prefix) → IsSound family a → IsSound family b → IsTo p a → IsTo q b → to_cmp p q ≡ Less
+    → rule_cmp a.route.rule b.route.rule ≡ Less
 earlier family a b p q h k d e less = by_destination family a b h k ∙ ap (λ o. ordering_then o (rule_cmp a.route.rule b.route.rule)) (ap₂ to_cmp d e ∙ less)
 
 pub key_less : (a b : Kept) → RuleBefore a b → key_cmp a.route.rule a.route.peer b.route ≡ Less
@@ -61,18 +71,27 @@ drop_each P (suc n) (k ∷ ks) h = drop_each P n ks h.1
 abbrev pub IsBehind : Option Prefix → Kept → Type 0
 IsBehind p y = to_cmp p (destination_prefix y.route.rule) ≡ Less
 
-pub behind_each : (p : Prefix) (es : List Entry) (rest : List Kept) → AllByRecursion (λ q. prefix_cmp p q ≡ Less) (keys_of es) → ArePlaced es → AllByRecursion (IsTo None) rest → AllByRecursion (IsBehind (Some p)) (kept_in es rest)
+pub behind_each : (p : Prefix) (es : List Entry) (rest : List Kept) → AllByRecursion (λ q. prefix_cmp p q ≡ Less) (keys_of es) → ArePlaced es
+    → AllByRecursion (IsTo None) rest → AllByRecursion (IsBehind (Some p)) (kept_in es rest)
 behind_each p [] rest keys placed bare = each_weaker (IsTo None) (IsBehind (Some p)) (λ y h. ap (to_cmp (Some p)) h) rest bare
-behind_each p (e ∷ es) rest keys placed bare = each_append (IsBehind (Some p)) e.1 (kept_in es rest) (each_weaker (IsTo (Some e.0)) (IsBehind (Some p)) (λ y h. ap (to_cmp (Some p)) h ∙ keys.0) e.1 placed.0) (behind_each p es rest keys.1 placed.1 bare)
+behind_each p (e ∷ es) rest keys placed bare =
+    each_append (IsBehind (Some p)) e.1 (kept_in es rest)
+    (each_weaker (IsTo (Some e.0)) (IsBehind (Some p)) (λ y h. ap (to_cmp (Some p)) h ∙ keys.0) e.1 placed.0)
+    (behind_each p es rest keys.1 placed.1 bare)
 
 -- a route to p stands before each that is behind p
-pub before_behind : (family : Family) (p : Option Prefix) (k : Kept) → IsSound family k → IsTo p k → (ys : List Kept) → AllByRecursion (IsSound family) ys → AllByRecursion (IsBehind p) ys → AllByRecursion (RuleBefore k) ys
-before_behind family p k h d ys sound behind = each_both (IsSound family) (IsBehind p) (RuleBefore k) (λ y s b. earlier family k y p (destination_prefix y.route.rule) h s d refl b) ys sound behind
+pub before_behind : (family : Family) (p : Option Prefix) (k : Kept) → IsSound family k → IsTo p k → (ys : List Kept)
+    → AllByRecursion (IsSound family) ys → AllByRecursion (IsBehind p) ys → AllByRecursion (RuleBefore k) ys
+before_behind family p k h d ys sound behind =
+    each_both (IsSound family) (IsBehind p) (RuleBefore k) (λ y s b. earlier family k y p (destination_prefix y.route.rule) h s d refl b) ys sound
+    behind
 
 -- the first group stands before all behind it
-pub group_before : (family : Family) (e : Entry) (es : List Entry) (rest : List Kept) → AreInOrder (e ∷ es) → ArePlaced (e ∷ es) → AllByRecursion (IsTo None) rest → AllByRecursion (IsSound family) (e.1 ++ kept_in es rest) → AllBefore e.1 (kept_in es rest)
+pub group_before : (family : Family) (e : Entry) (es : List Entry) (rest : List Kept) → AreInOrder (e ∷ es) → ArePlaced (e ∷ es)
+    → AllByRecursion (IsTo None) rest → AllByRecursion (IsSound family) (e.1 ++ kept_in es rest) → AllBefore e.1 (kept_in es rest)
 group_before family e es rest ordered placed bare sound = each_both (IsSound family) (IsTo (Some e.0)) (λ x. AllByRecursion (RuleBefore x) (kept_in es rest))
-    (λ x s d. before_behind family (Some e.0) x s d (kept_in es rest) (each_back (IsSound family) e.1 (kept_in es rest) sound) behind) e.1 (each_front (IsSound family) e.1 (kept_in es rest) sound) placed.0 where
+    (λ x s d. before_behind family (Some e.0) x s d (kept_in es rest) (each_back (IsSound family) e.1 (kept_in es rest) sound) behind) e.1
+    (each_front (IsSound family) e.1 (kept_in es rest) sound) placed.0 where
       behind : AllByRecursion (IsBehind (Some e.0)) (kept_in es rest)
       behind = behind_each e.0 es rest (sorted_head prefix_cmp e.0 (keys_of es) ordered) placed.1 bare
 

@@ -1,5 +1,13 @@
 -- That routes stay grouped.
-use Rattle.fs_flows.proofs.{Words.{ℕ, ◌≡◌, ◌+◌, ◌≤◌, ◌<◌, ◌^◌, refl, sym, ap, subst, ◌∙◌, Bool, List, [], ◌∷◌, filter, length, Some, None, Ordering, Less, Equal, Greater, arith, AllByRecursion, length-map, keys_of, match_ordering, ordering_reverse, sorted_head, sorted_tail, Config, Family, Prefix, prefix_cmp, prefix_total, each_weaker, each_filtered, Route, Ruled, IsRule, destination_prefix, is_related, Kept, put_kept, mended, chosen, is_other_key, HaveRules, Entry, kept_in, IsTo, ArePlaced, AreInOrder, IsSound, IsGrouped, put_entry, keep_at, keep_each, Mends, MendsKept, Progress, chosen_in}, PuttingInGroups.{put_entries, put_rest, put_placed, each_entry, length-put}, TakingFromGroups.{kept_each, placed_each, placed_at, sorted_at, parts_sorted, taken_kept, taken_rest, length-filter}, Mending.{mended_in, marks_kept, right_where, mends_placed, mends_ordered, size_related}, ChosenParts.{chosen_groups}, Changed.{each-put}}
+use Rattle.fs_flows.proofs.Words.{ℕ, ◌≡◌, ◌+◌, ◌≤◌, ◌<◌, ◌^◌, refl, sym, ap, subst, ◌∙◌, Bool, List, [], ◌∷◌, filter, length, Some, None, Ordering}
+use Rattle.fs_flows.proofs.Words.{Less, Equal, Greater, arith, AllByRecursion, length-map, keys_of, match_ordering, ordering_reverse, sorted_head}
+use Rattle.fs_flows.proofs.Words.{sorted_tail, Config, Family, Prefix, prefix_cmp, prefix_total, each_weaker, each_filtered, Route, Ruled, IsRule}
+use Rattle.fs_flows.proofs.Words.{destination_prefix, is_related, Kept, put_kept, mended, chosen, is_other_key, HaveRules, Entry, kept_in, IsTo}
+use Rattle.fs_flows.proofs.Words.{ArePlaced, AreInOrder, IsSound, IsGrouped, put_entry, keep_at, keep_each, Mends, MendsKept, Progress, chosen_in}
+use Rattle.fs_flows.proofs.PuttingInGroups.{put_entries, put_rest, put_placed, each_entry, length-put}
+use Rattle.fs_flows.proofs.TakingFromGroups.{kept_each, placed_each, placed_at, sorted_at, parts_sorted, taken_kept, taken_rest, length-filter}
+use Rattle.fs_flows.proofs.Mending.{mended_in, marks_kept, right_where, mends_placed, mends_ordered, size_related}
+use Rattle.fs_flows.proofs.{ChosenParts.{chosen_groups}, Changed.{each-put}}
 
 sorted_entry : (p : Prefix) (k : Kept) (es : List Entry) → AreInOrder es → AreInOrder (put_entry p k es)
 sorted_entry p k [] h = parts_sorted p [] tt h
@@ -7,10 +15,15 @@ sorted_entry p k (e ∷ es) h = at (prefix_cmp p e.0) refl (sorted_entry p k es 
   heads : AllByRecursion (λ q. prefix_cmp e.0 q ≡ Less) (keys_of es)
   heads = sorted_head prefix_cmp e.0 (keys_of es) h
 
-  at : (o : Ordering) → prefix_cmp p e.0 ≡ o → AreInOrder (put_entry p k es) → AreInOrder (match_ordering o ((p, k ∷ []) ∷ e ∷ es) ((e.0, put_kept k e.1) ∷ es) (e ∷ put_entry p k es))
-  at Less less ih = parts_sorted p (e.0 ∷ keys_of es) (less, each_weaker (λ q. prefix_cmp e.0 q ≡ Less) (λ q. prefix_cmp p q ≡ Less) (λ q g. prefix_total.trans p e.0 q less g) (keys_of es) heads) h
+  at : (o : Ordering) → prefix_cmp p e.0 ≡ o → AreInOrder (put_entry p k es)
+      → AreInOrder (match_ordering o ((p, k ∷ []) ∷ e ∷ es) ((e.0, put_kept k e.1) ∷ es) (e ∷ put_entry p k es))
+  at Less less ih = parts_sorted p (e.0 ∷ keys_of es) (
+    less,
+    each_weaker (λ q. prefix_cmp e.0 q ≡ Less) (λ q. prefix_cmp p q ≡ Less) (λ q g. prefix_total.trans p e.0 q less g) (keys_of es) heads,
+  ) h
   at Equal same ih = h
-  at Greater more ih = parts_sorted e.0 (keys_of (put_entry p k es)) (each_entry (λ q. prefix_cmp e.0 q ≡ Less) p k es (prefix_total.antisymm e.0 p ∙ ap ordering_reverse more) heads) ih
+  at Greater more ih = parts_sorted e.0 (keys_of (put_entry p k es))
+      (each_entry (λ q. prefix_cmp e.0 q ≡ Less) p k es (prefix_total.antisymm e.0 p ∙ ap ordering_reverse more) heads) ih
 
 module _ {es : List Entry} {rest : List Kept} {bound : ℕ} (g : IsGrouped es rest bound) where
   -- at most one route more, or none
@@ -20,7 +33,8 @@ module _ {es : List Entry} {rest : List Kept} {bound : ℕ} (g : IsGrouped es re
   pub few_left : (keeps : Kept → Bool) (now : List Kept) → now ≡ filter keeps (kept_in es rest) → length now ≤ bound
   few_left keeps now e = omega (arith, ap length e, length-filter keeps (kept_in es rest), g.most)
 
-  module _ (family : Family) (k : Kept) (h : IsSound family k) (sound : AllByRecursion (IsSound family) (kept_in es rest)) {most : ℕ} (m : most ≡ bound + 1) (small : most < 2 ^ 64) where
+  module _ (family : Family) (k : Kept) (h : IsSound family k) (sound : AllByRecursion (IsSound family) (kept_in es rest)) {most : ℕ}
+      (m : most ≡ bound + 1) (small : most < 2 ^ 64) where
     pub grouped_put : (p : Prefix) → IsTo (Some p) k → {new : List Entry} → new ≡ put_entry p k es → IsGrouped new rest most
     grouped_put p d {new} e = record {
       ordered = subst AreInOrder (sym e) (sorted_entry p k es g.ordered);
@@ -40,12 +54,14 @@ module _ {es : List Entry} {rest : List Kept} {bound : ℕ} (g : IsGrouped es re
     }
 
   module _ (rule : Ruled) (peer : ℕ) (h : IsRule rule) (sound : HaveRules (kept_in es rest)) where
-    pub grouped_taken : (p : Prefix) → destination_prefix rule ≡ Some p → {new : List Entry} → new ≡ keep_at p (is_other_key rule peer) es → IsGrouped new rest bound
+    pub grouped_taken : (p : Prefix) → destination_prefix rule ≡ Some p → {new : List Entry} → new ≡ keep_at p (is_other_key rule peer) es
+        → IsGrouped new rest bound
     grouped_taken p d {new} e = record {
       ordered = subst AreInOrder (sym e) (sorted_at p (is_other_key rule peer) es g.ordered);
       placed = subst ArePlaced (sym e) (placed_at p (is_other_key rule peer) es g.placed);
       bare = g.bare;
-      most = few_left (is_other_key rule peer) (kept_in new rest) (ap (λ fs. kept_in fs rest) e ∙ taken_kept rule peer h p es rest d g.ordered g.placed g.bare sound);
+      most = few_left (is_other_key rule peer) (kept_in new rest) (ap (λ fs. kept_in fs rest) e
+          ∙ taken_kept rule peer h p es rest d g.ordered g.placed g.bare sound);
       small = g.small;
     }
 
@@ -72,9 +88,11 @@ module _ {es : List Entry} {rest : List Kept} {bound : ℕ} (g : IsGrouped es re
     }
 
   pub chosen_now : (family f : Family) {now : List Kept} → kept_in es rest ≡ now → AllByRecursion (IsSound f) now → chosen_in family es rest ≡ chosen family now
-  chosen_now family f v sound = chosen_groups family f es rest g.ordered g.placed g.bare (subst (AllByRecursion (IsSound f)) (sym v) sound) ∙ ap (chosen family) v
+  chosen_now family f v sound = chosen_groups family f es rest g.ordered g.placed g.bare (subst (AllByRecursion (IsSound f)) (sym v) sound)
+      ∙ ap (chosen family) v
 
-module _ (unicast : List Route) (config : Config) (p : Prefix) {old new : Progress} (rest : List Kept) (bound : ℕ) (g : IsGrouped old.groups rest bound) (m : Mends unicast config (is_related p) old new) where
+module _ (unicast : List Route) (config : Config) (p : Prefix) {old new : Progress} (rest : List Kept) (bound : ℕ)
+    (g : IsGrouped old.groups rest bound) (m : Mends unicast config (is_related p) old new) where
   pub mends_kept : MendsKept p unicast config (kept_in old.groups rest) (kept_in new.groups rest) old.noted new.noted old.steps new.steps
   mends_kept = record {
     kept = ap (λ fs. kept_in fs rest) m.entries ∙ mended_in unicast config p old.groups rest g.placed g.bare;

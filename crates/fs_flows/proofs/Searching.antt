@@ -1,7 +1,14 @@
 -- The walk over the keys that are related to a prefix: first those under it, one after the other, and behind them those
 -- that cover it.
 use Rattle.std.proofs.Common.{is_lt}
-use Rattle.fs_flows.proofs.{Words.{ℕ, ◌≡◌, ◌+◌, ◌<◌, ◌≤◌, ◌⊎◌, inl, inr, refl, sym, ap, subst, ◌∙◌, Bool, true, false, true≢false, ◌&&◌, ◌||◌, cond, List, [], ◌∷◌, Option, Some, None, Ordering, Less, Equal, Greater, is_eq, is_le, arith, list_any, AllByRecursion, is_at, range_contains, entries_between, Included, Excluded, Unbounded, keys_of, MatchOption, ordering_reverse, tied_itself, and_both, and_first, and_second, false_from, or_either, or_first, or_second, same_tests, and_true, Prefix, covers, prefix_cmp, prefix_total, covers_fact, covered_before, between_covered, same_family, covers_self, alike_covers, covers_same_length, same_from_cmp, each, each_weaker, filter_first, filter_empty, IsLeast, is_related, Entry, AreInOrder, AreNoShorter, is_before, IsNextAfter, IsNextRelated, Config, Route, Mends, Progress}, Mending.{Same, along_keys, mends_both, mends_on}}
+use Rattle.fs_flows.proofs.Words.{ℕ, ◌≡◌, ◌+◌, ◌<◌, ◌≤◌, ◌⊎◌, inl, inr, refl, sym, ap, subst, ◌∙◌, Bool, true, false, true≢false, ◌&&◌, ◌||◌, cond}
+use Rattle.fs_flows.proofs.Words.{List, [], ◌∷◌, Option, Some, None, Ordering, Less, Equal, Greater, is_eq, is_le, arith, list_any, AllByRecursion}
+use Rattle.fs_flows.proofs.Words.{is_at, range_contains, entries_between, Included, Excluded, Unbounded, keys_of, MatchOption, ordering_reverse}
+use Rattle.fs_flows.proofs.Words.{tied_itself, and_both, and_first, and_second, false_from, or_either, or_first, or_second, same_tests, and_true}
+use Rattle.fs_flows.proofs.Words.{Prefix, covers, prefix_cmp, prefix_total, covers_fact, covered_before, between_covered, same_family, covers_self}
+use Rattle.fs_flows.proofs.Words.{alike_covers, covers_same_length, same_from_cmp, each, each_weaker, filter_first, filter_empty, IsLeast, is_related}
+use Rattle.fs_flows.proofs.Words.{Entry, AreInOrder, AreNoShorter, is_before, IsNextAfter, IsNextRelated, Config, Route, Mends, Progress}
+use Rattle.fs_flows.proofs.Mending.{Same, along_keys, mends_both, mends_on}
 use Rattle.fs_unicast.proofs.Fronts.{upto_upto}
 use Rattle.fs_base.specs.Search.{IsFirst, IsFirstFrom}
 
@@ -56,13 +63,15 @@ pub first_in_range : (low : Prefix) (es : List Entry) → AreInOrder es → (fou
 first_in_range low es sorted found x rest e k = record {
   there = first.there;
   from = sym (and_true (is_le (prefix_cmp low x.0))) ∙ first.passes;
-  least = each_weaker (λ r. range_contains prefix_cmp (Included low) Unbounded r.0 ≡ true → is_le (prefix_cmp x.0 r.0) ≡ true) (λ r. is_le (prefix_cmp low r.0) ≡ true → is_le (prefix_cmp x.0 r.0) ≡ true)
+  least = each_weaker (λ r. range_contains prefix_cmp (Included low) Unbounded r.0 ≡ true
+      → is_le (prefix_cmp x.0 r.0) ≡ true) (λ r. is_le (prefix_cmp low r.0) ≡ true → is_le (prefix_cmp x.0 r.0) ≡ true)
       (λ r h f. h (and_true (is_le (prefix_cmp low r.0)) ∙ f)) es first.least;
 } where
   first : IsLeast prefix_cmp (range_contains prefix_cmp (Included low) Unbounded) es x.0
   first = filter_first prefix_cmp itself (range_contains prefix_cmp (Included low) Unbounded) es sorted x rest (sym e ∙ k)
 
-pub none_in_range : (low : Prefix) (es found : List Entry) → found ≡ entries_between prefix_cmp (Included low) Unbounded es → found ≡ [] → AllByRecursion (λ e. is_le (prefix_cmp low e.0) ≡ false) es
+pub none_in_range : (low : Prefix) (es found : List Entry) → found ≡ entries_between prefix_cmp (Included low) Unbounded es → found ≡ []
+    → AllByRecursion (λ e. is_le (prefix_cmp low e.0) ≡ false) es
 none_in_range low es found e k = each_weaker (λ r. range_contains prefix_cmp (Included low) Unbounded r.0 ≡ false) (λ r. is_le (prefix_cmp low r.0) ≡ false)
     (λ r h. sym (and_true (is_le (prefix_cmp low r.0))) ∙ h) es (filter_empty (λ r. range_contains prefix_cmp (Included low) Unbounded r.0) es (sym e ∙ k))
 
@@ -75,7 +84,8 @@ pub next_in_range : (low : Prefix) (es : List Entry) → AreInOrder es → (foun
 next_in_range low es sorted found x rest e k = record {
   there = first.there;
   from = beyond;
-  before = each_weaker (λ r. range_contains prefix_cmp (Excluded low) Unbounded r.0 ≡ true → is_le (prefix_cmp x.0 r.0) ≡ true) (λ r. is_lt (prefix_cmp r.0 x.0) ≡ is_le (prefix_cmp r.0 low))
+  before = each_weaker (λ r. range_contains prefix_cmp (Excluded low) Unbounded r.0 ≡ true
+      → is_le (prefix_cmp x.0 r.0) ≡ true) (λ r. is_lt (prefix_cmp r.0 x.0) ≡ is_le (prefix_cmp r.0 low))
       (λ r h. same_tests (is_lt (prefix_cmp r.0 x.0)) (is_le (prefix_cmp r.0 low)) (there r h) (back r)) es first.least;
 } where
   first : IsLeast prefix_cmp (range_contains prefix_cmp (Excluded low) Unbounded) es x.0
@@ -84,7 +94,8 @@ next_in_range low es sorted found x rest e k = record {
   beyond : is_lt (prefix_cmp low x.0) ≡ true
   beyond = sym (after_test low x.0) ∙ first.passes
 
-  there : (r : Entry) → (range_contains prefix_cmp (Excluded low) Unbounded r.0 ≡ true → is_le (prefix_cmp x.0 r.0) ≡ true) → is_lt (prefix_cmp r.0 x.0) ≡ true → is_le (prefix_cmp r.0 low) ≡ true
+  there : (r : Entry) → (range_contains prefix_cmp (Excluded low) Unbounded r.0 ≡ true → is_le (prefix_cmp x.0 r.0) ≡ true)
+      → is_lt (prefix_cmp r.0 x.0) ≡ true → is_le (prefix_cmp r.0 low) ≡ true
   there r h less = at (is_le (prefix_cmp r.0 low)) refl where
     at : (b : Bool) → is_le (prefix_cmp r.0 low) ≡ b → is_le (prefix_cmp r.0 low) ≡ true
     at true f = f
@@ -96,11 +107,13 @@ next_in_range low es sorted found x rest e k = record {
     at true g = g
     at false g = absurd (lt_not_le x.0 low beyond (upto_upto x.0 r.0 low (not_lt_le x.0 r.0 g) f))
 
-pub no_next_in_range : (low : Prefix) (es found : List Entry) → found ≡ entries_between prefix_cmp (Excluded low) Unbounded es → found ≡ [] → IsNextAfter es low None
+pub no_next_in_range : (low : Prefix) (es found : List Entry) → found ≡ entries_between prefix_cmp (Excluded low) Unbounded es → found ≡ []
+    → IsNextAfter es low None
 no_next_in_range low es found e k = record {
   there = tt;
   from = tt;
-  before = each_weaker (λ r. range_contains prefix_cmp (Excluded low) Unbounded r.0 ≡ false) (λ r. true ≡ is_le (prefix_cmp r.0 low)) (λ r h. sym (at r h)) es (filter_empty (λ r. range_contains prefix_cmp (Excluded low) Unbounded r.0) es (sym e ∙ k));
+  before = each_weaker (λ r. range_contains prefix_cmp (Excluded low) Unbounded r.0 ≡ false) (λ r. true ≡ is_le (prefix_cmp r.0 low))
+      (λ r h. sym (at r h)) es (filter_empty (λ r. range_contains prefix_cmp (Excluded low) Unbounded r.0) es (sym e ∙ k));
 } where
   at : (r : Entry) → range_contains prefix_cmp (Excluded low) Unbounded r.0 ≡ false → is_le (prefix_cmp r.0 low) ≡ true
   at r h = go (is_le (prefix_cmp r.0 low)) refl where
@@ -132,10 +145,16 @@ abbrev pub IsBehind : Prefix → Option Prefix → Type 0
 IsBehind n next = MatchOption next (Unit {0}) (λ m. is_lt (prefix_cmp n m) ≡ true)
 
 -- at the start none
-pub none_done : (p first : Prefix) (next : Option Prefix) (es : List Entry) → IsRange p first → IsFirstFrom (λ e. e.0) es first next → AllByRecursion (λ e. done p next e.0 ≡ false) es
-none_done p first None es law h = each_weaker (λ e. is_le (prefix_cmp first e.0) ≡ false) (λ e. done p None e.0 ≡ false) (λ e f. false_from (done p None e.0) (λ g. true≢false (sym (related_from p first e.0 law (and_first (is_related p e.0) true g)) ∙ f))) es h
-none_done p first (Some n) es law h = each_weaker (λ e. is_le (prefix_cmp first e.0) ≡ true → is_le (prefix_cmp n e.0) ≡ true) (λ e. done p (Some n) e.0 ≡ false)
-    (λ e f. false_from (done p (Some n) e.0) (λ g. lt_not_le n e.0 (and_second (is_related p e.0) (is_lt (prefix_cmp e.0 n)) g) (f (related_from p first e.0 law (and_first (is_related p e.0) (is_lt (prefix_cmp e.0 n)) g))))) es h.least
+pub none_done : (p first : Prefix) (next : Option Prefix) (es : List Entry) → IsRange p first → IsFirstFrom (λ e. e.0) es first next
+    → AllByRecursion (λ e. done p next e.0 ≡ false) es
+none_done p first None es law h =
+    each_weaker (λ e. is_le (prefix_cmp first e.0) ≡ false) (λ e. done p None e.0 ≡ false)
+    (λ e f. false_from (done p None e.0) (λ g. true≢false (sym (related_from p first e.0 law (and_first (is_related p e.0) true g)) ∙ f))) es h
+none_done p first (Some n) es law h =
+    each_weaker (λ e. is_le (prefix_cmp first e.0) ≡ true → is_le (prefix_cmp n e.0) ≡ true) (λ e. done p (Some n) e.0 ≡ false)
+    (λ e f. false_from (done p (Some n) e.0)
+    (λ g. lt_not_le n e.0 (and_second (is_related p e.0) (is_lt (prefix_cmp e.0 n)) g)
+    (f (related_from p first e.0 law (and_first (is_related p e.0) (is_lt (prefix_cmp e.0 n)) g))))) es h.least
 
 pub from_first : (p first : Prefix) (next : Option Prefix) (es : List Entry) → IsRange p first → IsFirstFrom (λ e. e.0) es first next → IsFrom p next
 from_first p first None es law h = tt
@@ -147,7 +166,10 @@ all_done p es = each (Same (done p None) (is_related p)) (λ e. and_true (is_rel
 
 -- one more
 apart_now : (p n : Prefix) (es : List Entry) → AllByRecursion (λ e. (done p (Some n) e.0 && is_at (prefix_cmp n) e.0) ≡ false) es
-apart_now p n es = each (λ e. (done p (Some n) e.0 && is_at (prefix_cmp n) e.0) ≡ false) (λ e. false_from (done p (Some n) e.0 && is_at (prefix_cmp n) e.0) (λ h. lt_not_le n e.0 (and_second (is_related p e.0) (is_lt (prefix_cmp e.0 n)) (and_first (done p (Some n) e.0) (is_at (prefix_cmp n) e.0) h)) (eq_le n e.0 (and_second (done p (Some n) e.0) (is_at (prefix_cmp n) e.0) h)))) es
+apart_now p n es = each (λ e. (done p (Some n) e.0 && is_at (prefix_cmp n) e.0) ≡ false)
+    (λ e. false_from (done p (Some n) e.0 && is_at (prefix_cmp n) e.0)
+    (λ h. lt_not_le n e.0 (and_second (is_related p e.0) (is_lt (prefix_cmp e.0 n)) (and_first (done p (Some n) e.0) (is_at (prefix_cmp n) e.0) h))
+    (eq_le n e.0 (and_second (done p (Some n) e.0) (is_at (prefix_cmp n) e.0) h)))) es
 
 equal_upto : (p q : Prefix) → is_eq (prefix_cmp p q) ≡ true → is_le (prefix_cmp q p) ≡ true
 equal_upto p q h = subst (λ r. is_le (prefix_cmp r p) ≡ true) (same_from_cmp p q h) (ap is_le (itself p))
@@ -155,38 +177,50 @@ equal_upto p q h = subst (λ r. is_le (prefix_cmp r p) ≡ true) (same_from_cmp 
 equal_back : (p q : Prefix) → is_eq (prefix_cmp p q) ≡ true → is_eq (prefix_cmp q p) ≡ true
 equal_back p q h = subst (λ r. is_eq (prefix_cmp r p) ≡ true) (same_from_cmp p q h) (ap is_eq (itself p))
 
-one_more_done : (p n : Prefix) (next : Option Prefix) (es : List Entry) → is_related p n ≡ true → IsNextRelated es p n next → AllByRecursion (Same (λ q. done p (Some n) q || is_at (prefix_cmp n) q) (done p next)) es
-one_more_done p n next es inside h = each_weaker (λ e. is_related p e.0 ≡ true → is_before next e.0 ≡ is_le (prefix_cmp e.0 n)) (Same (λ q. done p (Some n) q || is_at (prefix_cmp n) q) (done p next)) (λ e f. same_tests (done p (Some n) e.0 || is_at (prefix_cmp n) e.0) (done p next e.0) (there e f) (back e f)) es h.before where
-  there : (e : Entry) → (is_related p e.0 ≡ true → is_before next e.0 ≡ is_le (prefix_cmp e.0 n)) → (done p (Some n) e.0 || is_at (prefix_cmp n) e.0) ≡ true → done p next e.0 ≡ true
-  there e f g = at (or_either (done p (Some n) e.0) (is_at (prefix_cmp n) e.0) g) where
-    at : (done p (Some n) e.0 ≡ true) ⊎ (is_at (prefix_cmp n) e.0 ≡ true) → done p next e.0 ≡ true
-    at (inl d) = let related = and_first (is_related p e.0) (is_lt (prefix_cmp e.0 n)) d in
-        and_both (is_related p e.0) (is_before next e.0) related (f related ∙ lt_le e.0 n (and_second (is_related p e.0) (is_lt (prefix_cmp e.0 n)) d))
-    at (inr d) = let related = subst (λ q. is_related p q ≡ true) (same_from_cmp n e.0 d) inside in
-        and_both (is_related p e.0) (is_before next e.0) related (f related ∙ equal_upto n e.0 d)
+one_more_done : (p n : Prefix) (next : Option Prefix) (es : List Entry) → is_related p n ≡ true → IsNextRelated es p n next
+    → AllByRecursion (Same (λ q. done p (Some n) q || is_at (prefix_cmp n) q) (done p next)) es
+one_more_done p n next es inside h =
+    each_weaker (λ e. is_related p e.0 ≡ true
+    → is_before next e.0 ≡ is_le (prefix_cmp e.0 n)) (Same (λ q. done p (Some n) q || is_at (prefix_cmp n) q) (done p next))
+    (λ e f. same_tests (done p (Some n) e.0 || is_at (prefix_cmp n) e.0) (done p next e.0) (there e f) (back e f)) es h.before where
+      there : (e : Entry) → (is_related p e.0 ≡ true → is_before next e.0 ≡ is_le (prefix_cmp e.0 n))
+          → (done p (Some n) e.0 || is_at (prefix_cmp n) e.0) ≡ true → done p next e.0 ≡ true
+      there e f g = at (or_either (done p (Some n) e.0) (is_at (prefix_cmp n) e.0) g) where
+        at : (done p (Some n) e.0 ≡ true) ⊎ (is_at (prefix_cmp n) e.0 ≡ true) → done p next e.0 ≡ true
+        at (inl d) = let related = and_first (is_related p e.0) (is_lt (prefix_cmp e.0 n)) d in
+            and_both (is_related p e.0) (is_before next e.0) related (f related ∙ lt_le e.0 n (and_second (is_related p e.0) (is_lt (prefix_cmp e.0 n)) d))
+        at (inr d) = let related = subst (λ q. is_related p q ≡ true) (same_from_cmp n e.0 d) inside in
+            and_both (is_related p e.0) (is_before next e.0) related (f related ∙ equal_upto n e.0 d)
 
-  back : (e : Entry) → (is_related p e.0 ≡ true → is_before next e.0 ≡ is_le (prefix_cmp e.0 n)) → done p next e.0 ≡ true → (done p (Some n) e.0 || is_at (prefix_cmp n) e.0) ≡ true
-  back e f g = at (le_cases e.0 n (sym (f (and_first (is_related p e.0) (is_before next e.0) g)) ∙ and_second (is_related p e.0) (is_before next e.0) g)) where
-    at : (is_lt (prefix_cmp e.0 n) ≡ true) ⊎ (is_eq (prefix_cmp e.0 n) ≡ true) → (done p (Some n) e.0 || is_at (prefix_cmp n) e.0) ≡ true
-    at (inl d) = or_first (done p (Some n) e.0) (is_at (prefix_cmp n) e.0) (and_both (is_related p e.0) (is_lt (prefix_cmp e.0 n)) (and_first (is_related p e.0) (is_before next e.0) g) d)
-    at (inr d) = or_second (done p (Some n) e.0) (is_at (prefix_cmp n) e.0) (equal_back e.0 n d)
+      back : (e : Entry) → (is_related p e.0 ≡ true → is_before next e.0 ≡ is_le (prefix_cmp e.0 n)) → done p next e.0 ≡ true
+          → (done p (Some n) e.0 || is_at (prefix_cmp n) e.0) ≡ true
+      back e f g = at (le_cases e.0 n (sym (f (and_first (is_related p e.0) (is_before next e.0) g))
+          ∙ and_second (is_related p e.0) (is_before next e.0) g)) where
+            at : (is_lt (prefix_cmp e.0 n) ≡ true) ⊎ (is_eq (prefix_cmp e.0 n) ≡ true) → (done p (Some n) e.0 || is_at (prefix_cmp n) e.0) ≡ true
+            at (inl d) = or_first (done p (Some n) e.0) (is_at (prefix_cmp n) e.0)
+                (and_both (is_related p e.0) (is_lt (prefix_cmp e.0 n)) (and_first (is_related p e.0) (is_before next e.0) g) d)
+            at (inr d) = or_second (done p (Some n) e.0) (is_at (prefix_cmp n) e.0) (equal_back e.0 n d)
 
 -- none, where the key isn't related to p
-none_between : (p n : Prefix) (next : Option Prefix) (es : List Entry) → is_related p n ≡ false → IsNextRelated es p n next → AllByRecursion (Same (done p (Some n)) (done p next)) es
-none_between p n next es apart h = each_weaker (λ e. is_related p e.0 ≡ true → is_before next e.0 ≡ is_le (prefix_cmp e.0 n)) (Same (done p (Some n)) (done p next)) (λ e f. same_tests (done p (Some n) e.0) (done p next e.0) (there e f) (back e f)) es h.before where
-  there : (e : Entry) → (is_related p e.0 ≡ true → is_before next e.0 ≡ is_le (prefix_cmp e.0 n)) → done p (Some n) e.0 ≡ true → done p next e.0 ≡ true
-  there e f g = and_both (is_related p e.0) (is_before next e.0) related (f related ∙ lt_le e.0 n (and_second (is_related p e.0) (is_lt (prefix_cmp e.0 n)) g)) where
-    related : is_related p e.0 ≡ true
-    related = and_first (is_related p e.0) (is_lt (prefix_cmp e.0 n)) g
+none_between : (p n : Prefix) (next : Option Prefix) (es : List Entry) → is_related p n ≡ false → IsNextRelated es p n next
+    → AllByRecursion (Same (done p (Some n)) (done p next)) es
+none_between p n next es apart h =
+    each_weaker (λ e. is_related p e.0 ≡ true → is_before next e.0 ≡ is_le (prefix_cmp e.0 n)) (Same (done p (Some n)) (done p next))
+    (λ e f. same_tests (done p (Some n) e.0) (done p next e.0) (there e f) (back e f)) es h.before where
+      there : (e : Entry) → (is_related p e.0 ≡ true → is_before next e.0 ≡ is_le (prefix_cmp e.0 n)) → done p (Some n) e.0 ≡ true → done p next e.0 ≡ true
+      there e f g = and_both (is_related p e.0) (is_before next e.0) related (f related
+          ∙ lt_le e.0 n (and_second (is_related p e.0) (is_lt (prefix_cmp e.0 n)) g)) where
+            related : is_related p e.0 ≡ true
+            related = and_first (is_related p e.0) (is_lt (prefix_cmp e.0 n)) g
 
-  back : (e : Entry) → (is_related p e.0 ≡ true → is_before next e.0 ≡ is_le (prefix_cmp e.0 n)) → done p next e.0 ≡ true → done p (Some n) e.0 ≡ true
-  back e f g = at (le_cases e.0 n (sym (f related) ∙ and_second (is_related p e.0) (is_before next e.0) g)) where
-    related : is_related p e.0 ≡ true
-    related = and_first (is_related p e.0) (is_before next e.0) g
+      back : (e : Entry) → (is_related p e.0 ≡ true → is_before next e.0 ≡ is_le (prefix_cmp e.0 n)) → done p next e.0 ≡ true → done p (Some n) e.0 ≡ true
+      back e f g = at (le_cases e.0 n (sym (f related) ∙ and_second (is_related p e.0) (is_before next e.0) g)) where
+        related : is_related p e.0 ≡ true
+        related = and_first (is_related p e.0) (is_before next e.0) g
 
-    at : (is_lt (prefix_cmp e.0 n) ≡ true) ⊎ (is_eq (prefix_cmp e.0 n) ≡ true) → done p (Some n) e.0 ≡ true
-    at (inl d) = and_both (is_related p e.0) (is_lt (prefix_cmp e.0 n)) related d
-    at (inr d) = absurd (true≢false (sym (subst (λ q. is_related p q ≡ true) (same_from_cmp e.0 n d) related) ∙ apart))
+        at : (is_lt (prefix_cmp e.0 n) ≡ true) ⊎ (is_eq (prefix_cmp e.0 n) ≡ true) → done p (Some n) e.0 ≡ true
+        at (inl d) = and_both (is_related p e.0) (is_lt (prefix_cmp e.0 n)) related d
+        at (inr d) = absurd (true≢false (sym (subst (λ q. is_related p q ≡ true) (same_from_cmp e.0 n d) related) ∙ apart))
 
 -- of the keys, so of the entries
 entries_of_keys : (P : Prefix → Type 0) (es : List Entry) → AllByRecursion P (keys_of es) → AllByRecursion (λ e. P e.0) es
@@ -213,7 +247,8 @@ none_further : (p n : Prefix) (P : Prefix → Type 0) (es : List Entry) → AllB
 none_further p n P es all none = record {
   there = tt;
   from = tt;
-  before = each_weaker (λ e. P e.0) (λ e. is_related p e.0 ≡ true → true ≡ is_le (prefix_cmp e.0 n)) (λ e h related. sym (at e h related (is_le (prefix_cmp e.0 n)) refl)) es all;
+  before = each_weaker (λ e. P e.0) (λ e. is_related p e.0 ≡ true
+      → true ≡ is_le (prefix_cmp e.0 n)) (λ e h related. sym (at e h related (is_le (prefix_cmp e.0 n)) refl)) es all;
 } where
   at : (e : Entry) → P e.0 → is_related p e.0 ≡ true → (b : Bool) → is_le (prefix_cmp e.0 n) ≡ b → is_le (prefix_cmp e.0 n) ≡ true
   at e h related true f = f
@@ -230,7 +265,8 @@ module _ (p n : Prefix) (behind : is_le (prefix_cmp p n) ≡ true) where
   -- without a family in common nothing does
   pub nothing_over : (es : List Entry) → (p.family ≡ n.family → ⊥) → IsNextRelated es p n None
   nothing_over es apart = none_further p n (λ q. Unit {0}) es (each (λ e. Unit {0}) (λ e. tt) es) (λ q _ related f.
-      let both = both_covered q related (le_or_lt q n f) in apart (same_family p.family n.family (sym (covers_fact q p both.0).family ∙ (covers_fact q n both.1).family)))
+      let both = both_covered q related (le_or_lt q n f) in
+      apart (same_family p.family n.family (sym (covers_fact q p both.0).family ∙ (covers_fact q n both.1).family)))
 
   module _ (both : Prefix) (over : covers both n ≡ true) (apart : covers n p ≡ false) (up : covers both p ≡ true)
       (longest : (q : Prefix) → covers q p ≡ true → covers q n ≡ true → covers q both ≡ true) where
@@ -257,25 +293,31 @@ module _ (p n : Prefix) (behind : is_le (prefix_cmp p n) ≡ true) where
         at (inr d) = sym (alike_covers both n p d) ∙ up
 
     pub first_over : (next : Option Prefix) (es : List Entry) → IsFirstFrom (λ e. e.0) es both next → IsNextRelated es p n next
-    first_over None es none = none_further p n (λ q. is_le (prefix_cmp both q) ≡ false) es none (λ q out related f. true≢false (sym (common_before q related f) ∙ out))
+    first_over None es none = none_further p n (λ q. is_le (prefix_cmp both q) ≡ false) es none
+        (λ q out related f. true≢false (sym (common_before q related f) ∙ out))
     first_over (Some m) es first = record {
       there = first.there;
       from = beyond;
-      before = each_weaker (λ e. is_le (prefix_cmp both e.0) ≡ true → is_le (prefix_cmp m e.0) ≡ true) (λ e. is_related p e.0 ≡ true → is_lt (prefix_cmp e.0 m) ≡ is_le (prefix_cmp e.0 n))
-          (λ e least related. same_tests (is_lt (prefix_cmp e.0 m)) (is_le (prefix_cmp e.0 n)) (there e least related) (λ f. before_later e.0 n m f beyond)) es first.least;
+      before = each_weaker (λ e. is_le (prefix_cmp both e.0) ≡ true → is_le (prefix_cmp m e.0) ≡ true) (λ e. is_related p e.0 ≡ true
+          → is_lt (prefix_cmp e.0 m) ≡ is_le (prefix_cmp e.0 n))
+          (λ e least related. same_tests (is_lt (prefix_cmp e.0 m)) (is_le (prefix_cmp e.0 n)) (there e least related)
+          (λ f. before_later e.0 n m f beyond)) es first.least;
     } where
       beyond : is_lt (prefix_cmp n m) ≡ true
       beyond = le_or_lt m n (false_from (is_le (prefix_cmp m n)) (λ back. true≢false (sym (upto_upto both m n first.from back) ∙ common_behind)))
 
-      there : (e : Entry) → (is_le (prefix_cmp both e.0) ≡ true → is_le (prefix_cmp m e.0) ≡ true) → is_related p e.0 ≡ true → is_lt (prefix_cmp e.0 m) ≡ true → is_le (prefix_cmp e.0 n) ≡ true
+      there : (e : Entry) → (is_le (prefix_cmp both e.0) ≡ true → is_le (prefix_cmp m e.0) ≡ true) → is_related p e.0 ≡ true
+          → is_lt (prefix_cmp e.0 m) ≡ true → is_le (prefix_cmp e.0 n) ≡ true
       there e least related less = at (is_le (prefix_cmp e.0 n)) refl where
         at : (b : Bool) → is_le (prefix_cmp e.0 n) ≡ b → is_le (prefix_cmp e.0 n) ≡ true
         at true f = f
         at false f = absurd (lt_not_le m e.0 less (least (common_before e.0 related f)))
 
 -- Behind a key that covers p, where none is shorter, nothing is related to p.
-pub last_related : (p n : Prefix) (shortest : ℕ) (es : List Entry) → covers n p ≡ true → n.length ≤ shortest → AreNoShorter shortest es → IsNextRelated es p n None
-last_related p n shortest es over short none = none_further p n (λ q. shortest ≤ q.length) es (entries_of_keys (λ q. shortest ≤ q.length) es none) (λ q long related f.
+pub last_related : (p n : Prefix) (shortest : ℕ) (es : List Entry) → covers n p ≡ true → n.length ≤ shortest → AreNoShorter shortest es
+    → IsNextRelated es p n None
+last_related p n shortest es over short none =
+    none_further p n (λ q. shortest ≤ q.length) es (entries_of_keys (λ q. shortest ≤ q.length) es none) (λ q long related f.
     let past = le_or_lt q n f in
     let covered = (both_covered p n (covered_before n p over) q related past).1 in
     let same : q.length ≡ n.length = omega (arith, short, long, (covers_fact q n covered).longer) in
@@ -286,7 +328,8 @@ pub after_related : (p n : Prefix) (next : Option Prefix) (es : List Entry) → 
 after_related p n next es h = record {
   there = h.there;
   from = h.from;
-  before = each_weaker (λ e. is_before next e.0 ≡ is_le (prefix_cmp e.0 n)) (λ e. is_related p e.0 ≡ true → is_before next e.0 ≡ is_le (prefix_cmp e.0 n)) (λ e f related. f) es h.before;
+  before = each_weaker (λ e. is_before next e.0 ≡ is_le (prefix_cmp e.0 n)) (λ e. is_related p e.0 ≡ true
+      → is_before next e.0 ≡ is_le (prefix_cmp e.0 n)) (λ e f related. f) es h.before;
 }
 
 -- how many keys are still to come
@@ -294,7 +337,8 @@ abbrev pub left : Option Prefix → List Prefix → ℕ
 left next [] = 0
 left next (q ∷ qs) = cond (is_before next q) 0 1 + left next qs
 
-one_less : (a b e : Bool) → (a ≡ true → b ≡ true) → (e ≡ true → b ≡ true) → (e ≡ true → a ≡ false) → (cond b 0 1 ≤ cond a 0 1) × (e ≡ true → cond b 0 1 < cond a 0 1)
+one_less : (a b e : Bool) → (a ≡ true → b ≡ true) → (e ≡ true → b ≡ true) → (e ≡ true → a ≡ false)
+    → (cond b 0 1 ≤ cond a 0 1) × (e ≡ true → cond b 0 1 < cond a 0 1)
 one_less true b true h k l = absurd (true≢false (l refl))
 one_less true true false h k l = (omega arith, (λ e. absurd (true≢false (sym e))))
 one_less true false false h k l = absurd (true≢false (sym (h refl)))
@@ -302,22 +346,29 @@ one_less false true e h k l = (omega arith, (λ _. omega arith))
 one_less false false true h k l = absurd (true≢false (sym (k refl)))
 one_less false false false h k l = (omega arith, (λ e. absurd (true≢false (sym e))))
 
-left_at : (n : Prefix) (next : Option Prefix) (q : Prefix) → IsBehind n next → (cond (is_before next q) 0 1 ≤ cond (is_lt (prefix_cmp q n)) 0 1) × (is_eq (prefix_cmp n q) ≡ true → cond (is_before next q) 0 1 < cond (is_lt (prefix_cmp q n)) 0 1)
-left_at n next q h = one_less (is_lt (prefix_cmp q n)) (is_before next q) (is_eq (prefix_cmp n q)) (λ e. upto next h (lt_le q n e)) (λ e. upto next h (equal_upto n q e)) (λ e. false_from (is_lt (prefix_cmp q n)) (λ f. lt_not_le n q f (eq_le n q e))) where
-  upto : (next : Option Prefix) → IsBehind n next → is_le (prefix_cmp q n) ≡ true → is_before next q ≡ true
-  upto None h k = refl
-  upto (Some m) h k = before_later q n m k h
+left_at : (n : Prefix) (next : Option Prefix) (q : Prefix) → IsBehind n next → (cond (is_before next q) 0 1 ≤ cond (is_lt (prefix_cmp q n)) 0 1)
+    × (is_eq (prefix_cmp n q) ≡ true → cond (is_before next q) 0 1 < cond (is_lt (prefix_cmp q n)) 0 1)
+left_at n next q h = one_less (is_lt (prefix_cmp q n)) (is_before next q) (is_eq (prefix_cmp n q)) (λ e. upto next h (lt_le q n e))
+    (λ e. upto next h (equal_upto n q e)) (λ e. false_from (is_lt (prefix_cmp q n)) (λ f. lt_not_le n q f (eq_le n q e))) where
+      upto : (next : Option Prefix) → IsBehind n next → is_le (prefix_cmp q n) ≡ true → is_before next q ≡ true
+      upto None h k = refl
+      upto (Some m) h k = before_later q n m k h
 
 left_least : (n : Prefix) (next : Option Prefix) (qs : List Prefix) → IsBehind n next → left next qs ≤ left (Some n) qs
 left_least n next [] h = omega arith
-left_least n next (q ∷ qs) h = let a : cond (is_before next q) 0 1 ≤ cond (is_lt (prefix_cmp q n)) 0 1 = (left_at n next q h).0 in let b : left next qs ≤ left (Some n) qs = left_least n next qs h in omega arith
+left_least n next (q ∷ qs) h = let a : cond (is_before next q) 0 1 ≤ cond (is_lt (prefix_cmp q n)) 0 1 = (left_at n next q h).0 in
+    let b : left next qs ≤ left (Some n) qs = left_least n next qs h in omega arith
 
-pub left_falls : (n : Prefix) (next : Option Prefix) (qs : List Prefix) → IsBehind n next → list_any (λ q. is_eq (prefix_cmp n q)) qs ≡ true → left next qs < left (Some n) qs
+pub left_falls : (n : Prefix) (next : Option Prefix) (qs : List Prefix) → IsBehind n next → list_any (λ q. is_eq (prefix_cmp n q)) qs ≡ true
+    → left next qs < left (Some n) qs
 left_falls n next [] h there = absurd (true≢false (sym there))
 left_falls n next (q ∷ qs) h there = at (or_either (is_eq (prefix_cmp n q)) (list_any (λ q. is_eq (prefix_cmp n q)) qs) there) (left_falls n next qs h) where
-  at : (is_eq (prefix_cmp n q) ≡ true) ⊎ (list_any (λ q. is_eq (prefix_cmp n q)) qs ≡ true) → (list_any (λ q. is_eq (prefix_cmp n q)) qs ≡ true → left next qs < left (Some n) qs) → left next (q ∷ qs) < left (Some n) (q ∷ qs)
-  at (inl e) ih = let a : cond (is_before next q) 0 1 < cond (is_lt (prefix_cmp q n)) 0 1 = (left_at n next q h).1 e in let b : left next qs ≤ left (Some n) qs = left_least n next qs h in omega arith
-  at (inr e) ih = let a : cond (is_before next q) 0 1 ≤ cond (is_lt (prefix_cmp q n)) 0 1 = (left_at n next q h).0 in let b : left next qs < left (Some n) qs = ih e in omega arith
+  at : (is_eq (prefix_cmp n q) ≡ true) ⊎ (list_any (λ q. is_eq (prefix_cmp n q)) qs ≡ true)
+      → (list_any (λ q. is_eq (prefix_cmp n q)) qs ≡ true → left next qs < left (Some n) qs) → left next (q ∷ qs) < left (Some n) (q ∷ qs)
+  at (inl e) ih = let a : cond (is_before next q) 0 1 < cond (is_lt (prefix_cmp q n)) 0 1 = (left_at n next q h).1 e in
+      let b : left next qs ≤ left (Some n) qs = left_least n next qs h in omega arith
+  at (inr e) ih = let a : cond (is_before next q) 0 1 ≤ cond (is_lt (prefix_cmp q n)) 0 1 = (left_at n next q h).0 in
+      let b : left next qs < left (Some n) qs = ih e in omega arith
 
 -- a key that is there
 abbrev pub IsThere : List Prefix → Option Prefix → Type 0
@@ -327,7 +378,8 @@ any_key : (t : Prefix → Bool) (es : List Entry) → list_any (λ e. t e.0) es 
 any_key t [] = refl
 any_key t (e ∷ es) = ap (λ b. t e.0 || b) (any_key t es)
 
-pub next_there : (next : Option Prefix) (es : List Entry) → MatchOption next (Unit {0}) (λ n. list_any (λ e. is_eq (prefix_cmp n e.0)) es ≡ true) → IsThere (keys_of es) next
+pub next_there : (next : Option Prefix) (es : List Entry) → MatchOption next (Unit {0}) (λ n. list_any (λ e. is_eq (prefix_cmp n e.0)) es ≡ true)
+    → IsThere (keys_of es) next
 next_there None es h = tt
 next_there (Some m) es h = sym (any_key (λ q. is_eq (prefix_cmp m q)) es) ∙ h
 

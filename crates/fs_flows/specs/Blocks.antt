@@ -1,5 +1,6 @@
 -- The routes of a group in blocks, which are cut only between rules.
-use Rattle.std.specs.{Prelude.{◌≡◌, ℕ, zero, suc, ◌+◌, ◌≤◌, length, take, drop, Bool, true, false, not, List, [], ◌∷◌, ◌++◌, filter, if◌then◌else◌}, List.{AllByRecursion}, Ordering.{is_lt}, declared.cmp.Ordering.TheVariants.{Less}}
+use Rattle.std.specs.Prelude.{◌≡◌, ℕ, zero, suc, ◌+◌, ◌≤◌, length, take, drop, Bool, true, false, not, List, [], ◌∷◌, ◌++◌, filter, if◌then◌else◌}
+use Rattle.std.specs.{List.{AllByRecursion}, Ordering.{is_lt}, declared.cmp.Ordering.TheVariants.{Less}}
 use Rattle.fs_nlri.specs.Parts.{Ruled}
 use Rattle.fs_order.specs.Comparison.{rule_cmp}
 use Rattle.fs_flows.specs.{Kept.{Kept}, Group.{AreSorted, routes_of}}

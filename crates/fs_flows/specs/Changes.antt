@@ -1,5 +1,6 @@
 -- Where the rules that the table admits may have changed.
-use Rattle.std.specs.{Prelude.{◌≡◌, ◌==◌, ◌&&◌, ◌||◌, Bool, not, true, false, List, filter, Option, Some, IfSome, option_map}, List.{list_any}, Ordering.{is_eq}}
+use Rattle.std.specs.Prelude.{◌≡◌, ◌==◌, ◌&&◌, ◌||◌, Bool, not, true, false, List, filter, Option, Some, IfSome, option_map}
+use Rattle.std.specs.{List.{list_any}, Ordering.{is_eq}}
 use Rattle.fs_base.specs.{Bits.{afi_of}, declared.prefix.{Family.{Family}, Prefix.{Prefix}}}
 use Rattle.fs_nlri.specs.{Parts.{Ruled}, Rule.{IsRule, destination_of, destination_prefix, shown}}
 use Rattle.fs_order.specs.Laws.{destination_cmp}

@@ -1,9 +1,12 @@
 -- Flow routes kept with their validities.
-use Rattle.std.specs.{Prelude.{◌≡◌, ℕ, ◌+◌, ◌==◌, ◌&&◌, not, option_map, Bool, true, false, Option, Some, None, List, [], ◌∷◌, map, filter, if◌then◌else◌}, List.{list_any, AllByRecursion}, Ordering.{match_ordering}, declared.cmp.Ordering.TheVariants.{Less}}
+use Rattle.std.specs.Prelude.{◌≡◌, ℕ, ◌+◌, ◌==◌, ◌&&◌, not, option_map, Bool, true, false, Option, Some, None, List, [], ◌∷◌, map, filter}
+use Rattle.std.specs.Prelude.{if◌then◌else◌}
+use Rattle.std.specs.{List.{list_any, AllByRecursion}, Ordering.{match_ordering}, declared.cmp.Ordering.TheVariants.{Less}}
 use Rattle.fs_base.specs.declared.{config.Config.{Config}, prefix.{Family.{Family}, Prefix.{Prefix}}}
 use Rattle.fs_nlri.specs.{Parts.{Ruled}, Rule.{IsRule, destination_prefix}}
 use Rattle.fs_unicast.specs.{Preference.{peer_path}, Unicast.{Route}}
-use Rattle.fs_validate.specs.{Validity.{judged, validity, validity_to}, declared.{basis.Basis.{Basis}, route.FlowRoute.{FlowRoute}, validity.Validity.{Validity}}}
+use Rattle.fs_validate.specs.Validity.{judged, validity, validity_to}
+use Rattle.fs_validate.specs.declared.{basis.Basis.{Basis}, route.FlowRoute.{FlowRoute}, validity.Validity.{Validity}}
 use Rattle.fs_flows.specs.{Changes.{Noted, is_noted}, Kept.{Kept}, Table.{key_cmp, is_key, has_related, is_of_family, is_valid, beats}}
 
 abbrev pub routes_of : List Kept → List FlowRoute

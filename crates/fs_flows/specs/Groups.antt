@@ -1,5 +1,6 @@
 -- Flow routes of one family, grouped by destination: the entries of the map, and the routes without a destination.
-use Rattle.std.specs.{Prelude.{◌≡◌, false, MatchOption, ℕ, ◌≤◌, ◌<◌, ◌^◌, Bool, Option, Some, None, List, [], ◌∷◌, ◌++◌, length, filter, if◌then◌else◌}, BTreeMap.{is_at}, List.{AllByRecursion, Sorted.{IsStrictlySortedBy}}, Map.{keys_of, lookup}, Ordering.{match_ordering, is_eq}}
+use Rattle.std.specs.Prelude.{◌≡◌, false, MatchOption, ℕ, ◌≤◌, ◌<◌, ◌^◌, Bool, Option, Some, None, List, [], ◌∷◌, ◌++◌, length, filter, if◌then◌else◌}
+use Rattle.std.specs.{BTreeMap.{is_at}, List.{AllByRecursion, Sorted.{IsStrictlySortedBy}}, Map.{keys_of, lookup}, Ordering.{match_ordering, is_eq}}
 use Rattle.fs_base.specs.{declared.prefix.{Family.{Family}, Prefix.{Prefix}}, Prefix.{prefix_cmp}}
 use Rattle.fs_nlri.specs.{Parts.{Ruled}, Rule.{destination_prefix}}
 use Rattle.fs_flows.specs.{Kept.{Kept}, Table.{IsRuleOf}, Group.{AreSorted, routes_of, put_kept, has_key}}

@@ -1,5 +1,6 @@
 -- The prefixes at which each peer gave routes.
-use Rattle.std.specs.{Prelude.{ℕ, ◌≡◌, ◌||◌, Bool, true, false, Option, Some, None, List, [], ◌∷◌, MatchOption}, BTreeMap.{is_at}, List.{list_any, AllByRecursion}, Map.{lookup}, Ordering.{nat_cmp, is_eq}}
+use Rattle.std.specs.Prelude.{ℕ, ◌≡◌, ◌||◌, Bool, true, false, Option, Some, None, List, [], ◌∷◌, MatchOption}
+use Rattle.std.specs.{BTreeMap.{is_at}, List.{list_any, AllByRecursion}, Map.{lookup}, Ordering.{nat_cmp, is_eq}}
 use Rattle.fs_base.specs.{declared.prefix.Prefix.{Prefix}, Prefix.{prefix_cmp}}
 use Rattle.fs_nlri.specs.Rule.{destination_prefix}
 use Rattle.fs_flows.specs.{Kept.{Kept}, Groups.{Entry, keep_at}}

@@ -1,9 +1,12 @@
 -- Groups found by their destination, and what validating their routes anew does.
-use Rattle.std.specs.{Prelude.{◌≡◌, ℕ, ◌+◌, ◌≤◌, ◌⊎◌, Bool, true, Option, Some, None, List, [], ◌∷◌, map, length, MatchOption, if◌then◌else◌}, BTreeMap.{BTreeMap}, List.{list_any, AllByRecursion}, Ordering.{is_eq, is_lt, is_le}}
+use Rattle.std.specs.Prelude.{◌≡◌, ℕ, ◌+◌, ◌≤◌, ◌⊎◌, Bool, true, Option, Some, None, List, [], ◌∷◌, map, length, MatchOption, if◌then◌else◌}
+use Rattle.std.specs.{BTreeMap.{BTreeMap}, List.{list_any, AllByRecursion}, Ordering.{is_eq, is_lt, is_le}}
 use Rattle.fs_base.specs.{declared.{config.Config.{Config}, prefix.Prefix.{Prefix}}, Prefix.{prefix_cmp}}
 use Rattle.fs_unicast.specs.{Unicast.{Route, IsSwap}, declared.unicast.Swap.{Swap}}
 use Rattle.fs_validate.specs.Laws.{is_related}
-use Rattle.fs_flows.specs.{Changes.{Noted, StaysNoted, IsNotedAt}, Kept.{Kept}, Group.{AreRight, AreRightTo, IsMarked, IsRightAt, mended, retested_to, routes_of}, Table.{related_count}, Groups.{Entry}}
+use Rattle.fs_flows.specs.{Changes.{Noted, StaysNoted, IsNotedAt}, Kept.{Kept}}
+use Rattle.fs_flows.specs.Group.{AreRight, AreRightTo, IsMarked, IsRightAt, mended, retested_to, routes_of}
+use Rattle.fs_flows.specs.{Table.{related_count}, Groups.{Entry}}
 
 -- the groups whose destination passes are validated anew, as routes to it
 abbrev pub touched : List Route → Config → (Prefix → Bool) → Entry → Entry

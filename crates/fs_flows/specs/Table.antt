@@ -1,12 +1,16 @@
 -- What a table holds, how its calls change it, the flow routes that a change at a prefix can touch, and the
 -- admitted rules of a family (RFC 8955 sections 5.1 and 6). Flow routes stand in the order of rules, and of one rule
 -- by peer.
-use Rattle.std.specs.{Prelude.{ℕ, ◌==◌, Bool, not, List, [], ◌∷◌, filter, length, ◌+◌, false, Option, Some, None, if◌then◌else◌, ◌≡◌, ◌&&◌, true}, List.{list_any, AllByRecursion}, Ordering.{nat_cmp, ordering_then, match_ordering, is_eq}, declared.cmp.Ordering.{Ordering, TheVariants.{Less}}}
+use Rattle.std.specs.Prelude.{ℕ, ◌==◌, Bool, not, List, [], ◌∷◌, filter, length, ◌+◌, false, Option, Some, None, if◌then◌else◌, ◌≡◌, ◌&&◌, true}
+use Rattle.std.specs.{List.{list_any, AllByRecursion}, Ordering.{nat_cmp, ordering_then, match_ordering, is_eq}}
+use Rattle.std.specs.declared.cmp.Ordering.{Ordering, TheVariants.{Less}}
 use Rattle.fs_base.specs.{declared.{config.Config.{Config}, path.Path.{Path}, prefix.{Prefix.{Prefix}, Family.{Family}}}, Bits.{afi_of}}
 use Rattle.fs_nlri.specs.{Parts.{Ruled}, Rule.{IsRule, destination_prefix}}
 use Rattle.fs_order.specs.Comparison.{rule_cmp}
 use Rattle.fs_unicast.specs.{Unicast.{Route, put_path, take_path}, Preference.{preferred}}
-use Rattle.fs_validate.specs.{declared.{route.FlowRoute.{FlowRoute}, validity.Validity.{Validity, TheVariants.{Valid, NoDestination, Originator, MoreSpecific, LeftAs}}}, Laws.{is_related}, Validity.{validity}}
+use Rattle.fs_validate.specs.declared.route.FlowRoute.{FlowRoute}
+use Rattle.fs_validate.specs.declared.validity.Validity.{Validity, TheVariants.{Valid, NoDestination, Originator, MoreSpecific, LeftAs}}
+use Rattle.fs_validate.specs.{Laws.{is_related}, Validity.{validity}}
 
 -- the configuration, and all routes that peers hold
 pub record Held : Type 0 where

@@ -1,7 +1,9 @@
 //! Flow routes with their validities, in the order of rules and then by peer: a block of a group.
 
 ghost use Rattle.std.specs.{Prelude.{◌≡◌, ◌≤◌, ◌<◌, ◌==◌, not, OnOk, OnErr, IfOk, map, filter, length, slice_get, [], take, drop, ◌↔◌, false}, List.{list_any}};
-ghost use Rattle.fs_flows.specs.{Shared.{flow_of}, Table.{is_key, key_cmp}, Blocks.{AllBefore, begins_by}, Group.{put_kept, place_in, rejudged, has_key, has_key_at, AreSorted, IsJudged, AreJudged, routes_of, is_other_key, is_of_other}};
+ghost use Rattle.fs_flows.specs.{Shared.{flow_of}, Table.{is_key, key_cmp}, Blocks.{AllBefore, begins_by}};
+ghost use Rattle.fs_flows.specs.Group.{put_kept, place_in, rejudged, has_key, has_key_at, AreSorted, IsJudged, AreJudged, routes_of, is_other_key};
+ghost use Rattle.fs_flows.specs.Group.{is_of_other};
 
 use crate::kept::Kept;
 use crate::route::{SharedRoute, judged};

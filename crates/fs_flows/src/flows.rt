@@ -1,7 +1,9 @@
 //! The flow routes of both families.
 
 ghost use Rattle.std.specs.{Prelude.{◌≡◌, ◌+◌, not, [], OnOk, OnErr, IfOk, filter}, List.{list_any, AllByRecursion}};
-ghost use Rattle.fs_flows.specs.{Table.{IsRuleOf, is_key}, Group.{has_key, put_kept, AreSorted, routes_of, chosen, of_family, is_other_key, is_of_other, HaveRules}, Lending.{AreLent}, Search.{MendsKept, WereRight}};
+ghost use Rattle.fs_flows.specs.Table.{IsRuleOf, is_key};
+ghost use Rattle.fs_flows.specs.Group.{has_key, put_kept, AreSorted, routes_of, chosen, of_family, is_other_key, is_of_other, HaveRules};
+ghost use Rattle.fs_flows.specs.{Lending.{AreLent}, Search.{MendsKept, WereRight}};
 ghost use Rattle.fs_base.specs.declared.prefix.Family.{Family};
 ghost use Rattle.fs_nlri.specs.Rule.{IsRule};
 

@@ -1,7 +1,11 @@
 //! The flow routes of one destination, or those without one, in blocks.
 
-ghost use Rattle.std.specs.{Prelude.{◌≡◌, ◌≤◌, ◌+◌, ◌<◌, ◌==◌, ◌↔◌, nat_le, not, true, false, [], ◌∷◌, OnOk, OnErr, IfOk, map, filter, length}, List.{list_any, AllByRecursion}};
-ghost use Rattle.fs_flows.specs.{Table.{is_key}, Group.{put_kept, rejudged, retested_to, has_key, AreSorted, AreJudged, AreRightTo, routes_of, is_other_key, is_of_other}, Blocks.{flat, AreCut, IsCut, block_of, keep_blocks, CanCut, cut_list}};
+ghost use Rattle.std.specs.Prelude.{◌≡◌, ◌≤◌, ◌+◌, ◌<◌, ◌==◌, ◌↔◌, nat_le, not, true, false, [], ◌∷◌, OnOk, OnErr, IfOk, map, filter, length};
+ghost use Rattle.std.specs.List.{list_any, AllByRecursion};
+ghost use Rattle.fs_flows.specs.Table.{is_key};
+ghost use Rattle.fs_flows.specs.Group.{put_kept, rejudged, retested_to, has_key, AreSorted, AreJudged, AreRightTo, routes_of, is_other_key};
+ghost use Rattle.fs_flows.specs.Group.{is_of_other};
+ghost use Rattle.fs_flows.specs.Blocks.{flat, AreCut, IsCut, block_of, keep_blocks, CanCut, cut_list};
 
 use crate::block::Block;
 use crate::kept::Kept;

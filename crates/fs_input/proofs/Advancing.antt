@@ -1,5 +1,10 @@
 -- Calls that read the next part of an input.
-use Rattle.fs_input.proofs.{Words.{◌≡◌, inr, ℕ, List, [], Bool, true, Option, Result, Ok, Err, IsTrue, ◌<◌, ◌≤◌, ◌≢◌, ◌+◌, ◌-◌, length, refl, ap, sym, ◌∙◌, subst, arith, at_limit, window, with_part, Counted, Advances, End, bad, done, limited, Fault, Read, Limit, Bad, Chain, Takes, part_in, parts_to_come, Calls, Fails, HasMore, IsOver, Reads, Starts, end_of, ends_by, whole, Scanner, and, field}, Coming.{done_comes, end_comes, field_takes, part_comes}, Joining.{fails_first}, Lifting.{reads_as, reads_then, starts_reads}}
+use Rattle.fs_input.proofs.Words.{◌≡◌, inr, ℕ, List, [], Bool, true, Option, Result, Ok, Err, IsTrue, ◌<◌, ◌≤◌, ◌≢◌, ◌+◌, ◌-◌, length, refl, ap, sym}
+use Rattle.fs_input.proofs.Words.{◌∙◌, subst, arith, at_limit, window, with_part, Counted, Advances, End, bad, done, limited, Fault, Read, Limit, Bad}
+use Rattle.fs_input.proofs.Words.{Chain, Takes, part_in, parts_to_come, Calls, Fails, HasMore, IsOver, Reads, Starts, end_of, ends_by, whole, Scanner}
+use Rattle.fs_input.proofs.Words.{and, field}
+use Rattle.fs_input.proofs.{Coming.{done_comes, end_comes, field_takes, part_comes}, Joining.{fails_first}}
+use Rattle.fs_input.proofs.Lifting.{reads_as, reads_then, starts_reads}
 
 module _ {S P R : Type 0} (chain : Chain S P R) (takes : (state : S) → Takes 1 (chain state)) (cut : R) where
   -- the part that was read comes first

@@ -1,4 +1,5 @@
-use Rattle.fs_input.proofs.Words.{◌≡◌, ℕ, List, [], Bool, true, false, Ok, Err, None, ◌<◌, ◌+◌, ◌==◌, ◌&&◌, not, arith, if◌then◌else◌, nat_tests, Advances, short_answer, short_fault, End, done, limited, bad, ends_short, Limit, Bad}
+use Rattle.fs_input.proofs.Words.{◌≡◌, ℕ, List, [], Bool, true, false, Ok, Err, None, ◌<◌, ◌+◌, ◌==◌, ◌&&◌, not, arith, if◌then◌else◌, nat_tests}
+use Rattle.fs_input.proofs.Words.{Advances, short_answer, short_fault, End, done, limited, bad, ends_short, Limit, Bad}
 
 -- What an input answers where its octets end before a record is whole.
 

@@ -1,5 +1,8 @@
 -- The first octets of a part, of which some were put back.
-use Rattle.fs_input.proofs.{Words.{◌≡◌, ◌≢◌, ℕ, List, [], ◌++◌, Bool, true, false, Result, ◌<◌, ◌≤◌, ◌+◌, ◌==◌, ◌&&◌, not, length, refl, ap, sym, ◌∙◌, subst, arith, if◌then◌else◌, nat_tests, Fills, window, Counted, draws_ahead, short_fault, Fault, Calls, Fails, HasMore, IsOver, Passes, PassesOn, Reads, Took, ahead, ends_by, whole, Scanner, field}, CutShort.{field_fails, more_is, over_is}, Taking.{field_took}}
+use Rattle.fs_input.proofs.Words.{◌≡◌, ◌≢◌, ℕ, List, [], ◌++◌, Bool, true, false, Result, ◌<◌, ◌≤◌, ◌+◌, ◌==◌, ◌&&◌, not, length, refl, ap, sym, ◌∙◌}
+use Rattle.fs_input.proofs.Words.{subst, arith, if◌then◌else◌, nat_tests, Fills, window, Counted, draws_ahead, short_fault, Fault, Calls, Fails}
+use Rattle.fs_input.proofs.Words.{HasMore, IsOver, Passes, PassesOn, Reads, Took, ahead, ends_by, whole, Scanner, field}
+use Rattle.fs_input.proofs.{CutShort.{field_fails, more_is, over_is}, Taking.{field_took}}
 use Rattle.std.specs.Prelude.{Option}
 use Rattle.fs_base.specs.Draws.{Draws, Passed}
 
@@ -78,7 +81,8 @@ module _ (old new : Counted) (left left' : ℕ → List ℕ) (same : new.slot �
           (short_fault cut new.taken new.limit)
       again_fails {R} cut =
           again
-          (λ before later. Fails (ends_by (field {A = List ℕ} {R = R} (length into) whole) cut old.limit old.taken before) (short_fault cut new.taken new.limit))
+          (λ before later. Fails (ends_by (field {A = List ℕ} {R = R} (length into) whole) cut old.limit old.taken before)
+          (short_fault cut new.taken new.limit))
           (subst
           (λ limit. Fails (ends_by (field {A = List ℕ} {R = R} (length into) whole) cut old.limit old.taken (old.back ++ left old.slot))
           (short_fault cut new.taken limit))

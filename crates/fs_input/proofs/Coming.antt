@@ -1,5 +1,9 @@
 -- The parts of an input, read one by one.
-use Rattle.fs_input.proofs.{Words.{◌≡◌, ◌⊎◌, inl, inr, ℕ, List, [], Some, None, Bool, true, false, ◌<◌, ◌≤◌, ◌+◌, ◌==◌, ◌&&◌, not, length, take, drop, refl, ap, sym, ◌∙◌, arith, if◌then◌else◌, nat_le, unwrap_or, length-drop, nat_tests, at_limit, window, with_part, At, Shrinks, at, judged, to_come, End, done, Chain, Placed, Takes, first_part, part_of, parts_to_come, placed, stop, Took, end_of, ends_by, Scan, behind, field, got, partial, wrong}, PartsOfRecords.{to_come_end, to_come_step}}
+use Rattle.fs_input.proofs.Words.{◌≡◌, ◌⊎◌, inl, inr, ℕ, List, [], Some, None, Bool, true, false, ◌<◌, ◌≤◌, ◌+◌, ◌==◌, ◌&&◌, not, length, take, drop}
+use Rattle.fs_input.proofs.Words.{refl, ap, sym, ◌∙◌, arith, if◌then◌else◌, nat_le, unwrap_or, length-drop, nat_tests, at_limit, window, with_part}
+use Rattle.fs_input.proofs.Words.{At, Shrinks, at, judged, to_come, End, done, Chain, Placed, Takes, first_part, part_of, parts_to_come, placed, stop}
+use Rattle.fs_input.proofs.Words.{Took, end_of, ends_by, Scan, behind, field, got, partial, wrong}
+use Rattle.fs_input.proofs.PartsOfRecords.{to_come_end, to_come_step}
 
 -- how many octets the parts of a chain take
 
@@ -104,7 +108,8 @@ module _ {S P R : Type 0} (chain : Chain S P R) where
       (nothing (chain now taken octets) refl)
       ∙ ap (λ b. ([], (if b then done else unwrap_or (end_of cut (at_limit limit taken left) taken (length octets) (chain now taken octets)) done))) test
     where
-      nothing : (scan : Scan (P × S) R) → chain now taken (window limit taken left) ≡ scan → part_of (at (placed now taken) (window limit taken left)) scan ≡ None
+      nothing : (scan : Scan (P × S) R) → chain now taken (window limit taken left) ≡ scan
+          → part_of (at (placed now taken) (window limit taken left)) scan ≡ None
       nothing (got value count) s =
           let held = takes now taken (window limit taken left) value count s in
           let some : 1 ≤ count = held.0 in

@@ -1,4 +1,6 @@
-use Rattle.fs_input.proofs.Words.{◌≡◌, ◌≢◌, ℕ, List, Bool, true, false, Some, ◌≤◌, ◌<◌, ◌+◌, ◌-◌, ◌==◌, ◌&&◌, not, min, inl, inr, length, refl, ap, sym, ◌∙◌, subst, arith, if◌then◌else◌, nat_le, length-take, nat_tests, Fills, at_limit, window, short_fault, bad, limited, Bad, Limit, Read, Scanner, field, partial, Fails, HasMore, IsOver, end_of, ends_by, whole}
+use Rattle.fs_input.proofs.Words.{◌≡◌, ◌≢◌, ℕ, List, Bool, true, false, Some, ◌≤◌, ◌<◌, ◌+◌, ◌-◌, ◌==◌, ◌&&◌, not, min, inl, inr, length, refl, ap}
+use Rattle.fs_input.proofs.Words.{sym, ◌∙◌, subst, arith, if◌then◌else◌, nat_le, length-take, nat_tests, Fills, at_limit, window, short_fault, bad}
+use Rattle.fs_input.proofs.Words.{limited, Bad, Limit, Read, Scanner, field, partial, Fails, HasMore, IsOver, end_of, ends_by, whole}
 
 -- What an input answers where its octets end before a field is whole.
 

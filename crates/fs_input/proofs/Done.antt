@@ -1,5 +1,9 @@
 -- An input of records is done exactly where it is below the limit and is the text of its records.
-use Rattle.fs_input.proofs.{Words.{◌≡◌, ℕ, List, [], ◌++◌, Bool, true, false, None, ◌<◌, ◌≤◌, ◌+◌, ◌-◌, ◌==◌, length, take, refl, ap, sym, ◌∙◌, subst, arith, eqb-true, append-nil, if◌then◌else◌, nat_tests, common_steps, IsOctets, at_limit, window, take_of_none, AllFrom, ReadsText, SpellsText, at, parts_from, text_from, to_come, End, Format, bad, done, end_by, ends_short, first_record, head_at, records_to_come, Head, Whole, Wrong, Partial}, PartsOfRecords.{parts_read, parts_spelled, state_behind}, Records.{HasHead, records_shrink}}
+use Rattle.fs_input.proofs.Words.{◌≡◌, ℕ, List, [], ◌++◌, Bool, true, false, None, ◌<◌, ◌≤◌, ◌+◌, ◌-◌, ◌==◌, length, take, refl, ap, sym, ◌∙◌, subst}
+use Rattle.fs_input.proofs.Words.{arith, eqb-true, append-nil, if◌then◌else◌, nat_tests, common_steps, IsOctets, at_limit, window, take_of_none}
+use Rattle.fs_input.proofs.Words.{AllFrom, ReadsText, SpellsText, at, parts_from, text_from, to_come, End, Format, bad, done, end_by, ends_short}
+use Rattle.fs_input.proofs.Words.{first_record, head_at, records_to_come, Head, Whole, Wrong, Partial}
+use Rattle.fs_input.proofs.{PartsOfRecords.{parts_read, parts_spelled, state_behind}, Records.{HasHead, records_shrink}}
 
 module _ {S B : Type 0} (text : S → B → List ℕ) (Fits : S → B → Type 0) (after : S → B → S) where
   -- What an input that is done has left: the text of these items, each of which fits, and all of it below the limit.

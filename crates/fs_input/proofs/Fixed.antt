@@ -1,5 +1,10 @@
 -- Chains of fields that have so many octets, whatever they say: what is said of the octets in hand stays said.
-use Rattle.fs_input.{proofs.{Words.{◌≡◌, ℕ, List, ◌++◌, Bool, true, false, ◌≤◌, ◌<◌, ◌+◌, length, take, drop, refl, ap, sym, ◌∙◌, subst, arith, length-append, if◌then◌else◌, nat_le, ⊤, length-drop, length-take, take-append-le, common_steps, nat_tests, Fills, at_limit, window, Scan, Scanner, and, and_then, behind, fails, field, gives, got, needs, partial, wrong, Scanned, end_of}, Coming.{behind_takes}, CutShort.{all_taken, short_fails}}, specs.{Judging.{scan_of, settled}, declared.judging.Judged.{Judged, TheVariants.{Whole, Wrong, Partial}}}}
+use Rattle.fs_input.proofs.Words.{◌≡◌, ℕ, List, ◌++◌, Bool, true, false, ◌≤◌, ◌<◌, ◌+◌, length, take, drop, refl, ap, sym, ◌∙◌, subst, arith}
+use Rattle.fs_input.proofs.Words.{length-append, if◌then◌else◌, nat_le, ⊤, length-drop, length-take, take-append-le, common_steps, nat_tests, Fills}
+use Rattle.fs_input.proofs.Words.{at_limit, window, Scan, Scanner, and, and_then, behind, fails, field, gives, got, needs, partial, wrong, Scanned}
+use Rattle.fs_input.proofs.Words.{end_of}
+use Rattle.fs_input.proofs.{Coming.{behind_takes}, CutShort.{all_taken, short_fails}}
+use Rattle.fs_input.specs.{Judging.{scan_of, settled}, declared.judging.Judged.{Judged, TheVariants.{Whole, Wrong, Partial}}}
 
 -- what was said stays said where more octets follow
 abbrev pub Stays : {A R : Type 0} → Scan A R → Scan A R → Type 0

@@ -1,5 +1,9 @@
 -- What stands before the records, filled as far as the octets and the limit reach, says what the input opens.
-use Rattle.fs_input.{proofs.{Words.{◌≡◌, ℕ, List, [], ◌++◌, Bool, true, false, Result, Ok, Err, subst, ◌≤◌, ◌+◌, ◌-◌, ◌==◌, min, length, take, drop, refl, ap, sym, ◌∙◌, arith, if◌then◌else◌, nat_le, drop_all, length-take, nat_tests, Fills, window, Counted, Fault, End, limited, bad, Read, Limit, Bad, Head, Whole, Wrong, Partial}, Records.{head_filled}}, specs.Opening.{IsFrontWithin, Opens, opened_answer, opened_by, opening}}
+use Rattle.fs_input.proofs.Words.{◌≡◌, ℕ, List, [], ◌++◌, Bool, true, false, Result, Ok, Err, subst, ◌≤◌, ◌+◌, ◌-◌, ◌==◌, min, length, take, drop}
+use Rattle.fs_input.proofs.Words.{refl, ap, sym, ◌∙◌, arith, if◌then◌else◌, nat_le, drop_all, length-take, nat_tests, Fills, window, Counted, Fault}
+use Rattle.fs_input.proofs.Words.{End, limited, bad, Read, Limit, Bad, Head, Whole, Wrong, Partial}
+use Rattle.fs_input.proofs.Records.{head_filled}
+use Rattle.fs_input.specs.Opening.{IsFrontWithin, Opens, opened_answer, opened_by, opening}
 
 module _ {V R : Type 0} (size : ℕ) (front_of : List ℕ → Head V R) (cut : R) where
   -- what was filled is what is judged

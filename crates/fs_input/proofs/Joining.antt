@@ -1,4 +1,6 @@
-use Rattle.fs_input.proofs.Words.{◌≡◌, ℕ, List, Bool, true, false, Some, ◌≤◌, ◌+◌, ◌-◌, length, drop, refl, ap, sym, ◌∙◌, arith, if◌then◌else◌, length-drop, length-take, at_limit, window, limit_behind, window_behind, End, bad, limited, Fault, Read, Limit, Bad, Scan, Scanner, and, and_then, behind, fails, got, needs, partial, wrong, Fails, Took, end_of}
+use Rattle.fs_input.proofs.Words.{◌≡◌, ℕ, List, Bool, true, false, Some, ◌≤◌, ◌+◌, ◌-◌, length, drop, refl, ap, sym, ◌∙◌, arith, if◌then◌else◌}
+use Rattle.fs_input.proofs.Words.{length-drop, length-take, at_limit, window, limit_behind, window_behind, End, bad, limited, Fault, Read, Limit, Bad}
+use Rattle.fs_input.proofs.Words.{Scan, Scanner, and, and_then, behind, fails, got, needs, partial, wrong, Fails, Took, end_of}
 
 -- A chain of fields that is read one by one: what the first gives and what the next gives join.
 

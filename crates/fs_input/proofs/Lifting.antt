@@ -1,5 +1,8 @@
 -- Calls that read fields one behind the other read the chain.
-use Rattle.fs_input.proofs.{Words.{◌≡◌, ℕ, List, Bool, true, Option, Result, Ok, Err, length, refl, ap, sym, subst, arith, Rose, at_limit, window, Counted, Fault, Read, Bad, Scanner, and, fails, field, gives, Calls, Fails, Reads, Scanned, Starts, Took, end_of, whole, passes_none}, Joining.{fails_first}, Stages.{going_more, going_start, going_then}}
+use Rattle.fs_input.proofs.Words.{◌≡◌, ℕ, List, Bool, true, Option, Result, Ok, Err, length, refl, ap, sym, subst, arith, Rose, at_limit, window}
+use Rattle.fs_input.proofs.Words.{Counted, Fault, Read, Bad, Scanner, and, fails, field, gives, Calls, Fails, Reads, Scanned, Starts, Took, end_of}
+use Rattle.fs_input.proofs.Words.{whole, passes_none}
+use Rattle.fs_input.proofs.{Joining.{fails_first}, Stages.{going_more, going_start, going_then}}
 
 -- where the first field was read, and then the next
 pub reads_then : {T U A B R : Type 0} {first : Scanner A R} {cut : R} {tells : T → A} {told : Bool} {calls mid late : Calls}

@@ -1,6 +1,9 @@
 -- Laws of the parts that a reader reads.
 use Rattle.std.proofs.Common.{length-drop}
-use Rattle.fs_input.proofs.Words.{◌≡◌, ℕ, Bool, List, [], ◌∷◌, ◌++◌, Some, None, ◌≤◌, ◌+◌, ◌-◌, length, take, drop, refl, ap, sym, ◌∙◌, arith, append_assoc, subst, nat_le, length-take, IsOctets, at_limit, window, with_part, octets_right, all_end, all_parts, all_step, limit_behind, window_behind, AllFrom, At, Fitting, ReadsText, Reader, Shrinks, SpellsText, at, judged, octets_before, parts_from, text_from, to_come}
+use Rattle.fs_input.proofs.Words.{◌≡◌, ℕ, Bool, List, [], ◌∷◌, ◌++◌, Some, None, ◌≤◌, ◌+◌, ◌-◌, length, take, drop, refl, ap, sym, ◌∙◌, arith}
+use Rattle.fs_input.proofs.Words.{append_assoc, subst, nat_le, length-take, IsOctets, at_limit, window, with_part, octets_right, all_end, all_parts}
+use Rattle.fs_input.proofs.Words.{all_step, limit_behind, window_behind, AllFrom, At, Fitting, ReadsText, Reader, Shrinks, SpellsText, at, judged}
+use Rattle.fs_input.proofs.Words.{octets_before, parts_from, text_from, to_come}
 
 -- where no part stands there are none, and the reader stays
 pub parts_end : {S A : Type 0} (next : Reader S A) (now : At S) → next now ≡ None → parts_from next now ≡ ([], now)

@@ -1,5 +1,10 @@
 -- Reading the records of an input one by one: the head is filled, and then the payload.
-use Rattle.fs_input.{proofs.{Words.{◌≡◌, ℕ, List, [], Some, None, Bool, true, false, ◌<◌, ◌≤◌, ◌+◌, ◌==◌, min, length, take, drop, refl, ap, sym, ◌∙◌, arith, nat_le, if◌then◌else◌, drop-drop, length-drop, length-take, nat_tests, common_steps, Fills, window, with_part, At, Shrinks, at, Format, bad, ends_short, first_record, head_at, record_in, records_to_come, Head, Whole, Wrong, Partial}, CutShort.{limit_is}, Joining.{IsBehind, behind_took}, PartsOfRecords.{to_come_end, to_come_step}}, specs.Records.{stop}}
+use Rattle.fs_input.proofs.Words.{◌≡◌, ℕ, List, [], Some, None, Bool, true, false, ◌<◌, ◌≤◌, ◌+◌, ◌==◌, min, length, take, drop, refl, ap, sym, ◌∙◌}
+use Rattle.fs_input.proofs.Words.{arith, nat_le, if◌then◌else◌, drop-drop, length-drop, length-take, nat_tests, common_steps, Fills, window}
+use Rattle.fs_input.proofs.Words.{with_part, At, Shrinks, at, Format, bad, ends_short, first_record, head_at, record_in, records_to_come, Head, Whole}
+use Rattle.fs_input.proofs.Words.{Wrong, Partial}
+use Rattle.fs_input.proofs.{CutShort.{limit_is}, Joining.{IsBehind, behind_took}, PartsOfRecords.{to_come_end, to_come_step}}
+use Rattle.fs_input.specs.Records.{stop}
 
 -- what octets of the front have, so many octets have
 pub held_of_taken : {n : ℕ} (count : ℕ) (octets : List ℕ) → n ≤ length (take count octets) → n ≤ count

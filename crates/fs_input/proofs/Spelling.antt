@@ -1,6 +1,10 @@
 -- Chains of fields and the octets that they take: what a chain gives is spelled by these octets, and octets that spell a
 -- value give it.
-use Rattle.fs_input.proofs.{Words.{◌≡◌, ℕ, List, [], ◌++◌, Bool, true, false, ◌≤◌, ◌+◌, ◌-◌, length, take, drop, refl, ap, sym, subst, ◌∙◌, arith, append-nil, append_assoc, length-append, if◌then◌else◌, nat_le, drop-take, drop_at, length-drop, length-take, take-append-drop, take_at, nat_tests, take_longer, whole, Scan, Scanner, and, and_then, behind, fails, field, gives, got, needs, partial, skips, wrong}, Coming.{behind_takes}}
+use Rattle.fs_input.proofs.Words.{◌≡◌, ℕ, List, [], ◌++◌, Bool, true, false, ◌≤◌, ◌+◌, ◌-◌, length, take, drop, refl, ap, sym, subst, ◌∙◌, arith}
+use Rattle.fs_input.proofs.Words.{append-nil, append_assoc, length-append, if◌then◌else◌, nat_le, drop-take, drop_at, length-drop, length-take}
+use Rattle.fs_input.proofs.Words.{take-append-drop, take_at, nat_tests, take_longer, whole, Scan, Scanner, and, and_then, behind, fails, field, gives}
+use Rattle.fs_input.proofs.Words.{got, needs, partial, skips, wrong}
+use Rattle.fs_input.proofs.Coming.{behind_takes}
 
 -- what is so of each value that a chain gives, and of the octets that it took
 abbrev pub Spells : {A R : Type 0} → (A → List ℕ → Type 0) → Scanner A R → Type 0

@@ -1,5 +1,8 @@
 -- Chains of fields that are read one by one: what of a chain is still to be read, behind the fields that were.
-use Rattle.fs_input.proofs.{Words.{◌≡◌, ℕ, List, Bool, Option, Result, Ok, Err, IsTrue, ◌≤◌, ◌+◌, length, drop, refl, ap, sym, ◌∙◌, subst, arith, drop-drop, at_limit, window, Counted, IfErr, Rose, Fault, Read, Scan, Scanner, and, behind, got, partial, wrong, Calls, Fails, PassesOn, Reads, Scanned, Took, end_of, ends_by, rose_earlier, passes_none, passes_then}, Joining.{behind_took, chain_is, end_behind}}
+use Rattle.fs_input.proofs.Words.{◌≡◌, ℕ, List, Bool, Option, Result, Ok, Err, IsTrue, ◌≤◌, ◌+◌, length, drop, refl, ap, sym, ◌∙◌, subst, arith}
+use Rattle.fs_input.proofs.Words.{drop-drop, at_limit, window, Counted, IfErr, Rose, Fault, Read, Scan, Scanner, and, behind, got, partial, wrong}
+use Rattle.fs_input.proofs.Words.{Calls, Fails, PassesOn, Reads, Scanned, Took, end_of, ends_by, rose_earlier, passes_none, passes_then}
+use Rattle.fs_input.proofs.Joining.{behind_took, chain_is, end_behind}
 
 -- so many octets of the chain were taken, and this rest of it is to be read
 pub record Stage {A R : Type 0} (chain rest : Scanner A R) (limit taken taken' : ℕ) (left left' : List ℕ) : Type 0 where

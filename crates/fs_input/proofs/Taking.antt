@@ -1,4 +1,5 @@
-use Rattle.fs_input.proofs.Words.{◌≡◌, ℕ, List, true, ◌≤◌, ◌+◌, min, length, take, drop, ap, sym, ◌∙◌, arith, nat_le, take_all, nat_tests, Fills, window, Scan, field, got, Took}
+use Rattle.fs_input.proofs.Words.{◌≡◌, ℕ, List, true, ◌≤◌, ◌+◌, min, length, take, drop, ap, sym, ◌∙◌, arith, nat_le, take_all, nat_tests, Fills}
+use Rattle.fs_input.proofs.Words.{window, Scan, field, got, Took}
 
 -- A field whose octets were all filled.
 

@@ -1,5 +1,10 @@
 -- An input of parts is done exactly where it is the text of written parts and lies below the limit.
-use Rattle.fs_input.proofs.{Words.{◌≡◌, ◌≢◌, ◌⊎◌, inl, inr, Option, ℕ, suc, zero, List, [], ◌∷◌, ◌++◌, Some, Bool, true, false, ◌<◌, ◌≤◌, ◌+◌, ◌-◌, length, take, drop, refl, ap, sym, subst, ◌∙◌, ◌↔◌, arith, length-append, flat_map, drop_at, length-drop, length-take, take-append-drop, take-take, nat_tests, at_limit, window, with_part, AllFrom, End, bad, done, limited, Chain, IsTextOf, Takes, all_given, all_told, only_told, parts_to_come, told_to_come, Took, end_of, ends_by, Scan, got, partial, wrong}, Coming.{done_comes, end_comes, part_comes}, Done.{all_taken, below_limit, nothing}, Spelling.{Reads, Spells}}
+use Rattle.fs_input.proofs.Words.{◌≡◌, ◌≢◌, ◌⊎◌, inl, inr, Option, ℕ, suc, zero, List, [], ◌∷◌, ◌++◌, Some, Bool, true, false, ◌<◌, ◌≤◌, ◌+◌, ◌-◌}
+use Rattle.fs_input.proofs.Words.{length, take, drop, refl, ap, sym, subst, ◌∙◌, ◌↔◌, arith, length-append, flat_map, drop_at, length-drop}
+use Rattle.fs_input.proofs.Words.{length-take, take-append-drop, take-take, nat_tests, at_limit, window, with_part, AllFrom, End, bad, done, limited}
+use Rattle.fs_input.proofs.Words.{Chain, IsTextOf, Takes, all_given, all_told, only_told, parts_to_come, told_to_come, Took, end_of, ends_by, Scan}
+use Rattle.fs_input.proofs.Words.{got, partial, wrong}
+use Rattle.fs_input.proofs.{Coming.{done_comes, end_comes, part_comes}, Done.{all_taken, below_limit, nothing}, Spelling.{Reads, Spells}}
 
 -- the limit isn't reached
 free_of : (limit taken : ℕ) (left : List ℕ) → taken + length left < limit → at_limit limit taken left ≡ false
@@ -99,7 +104,8 @@ module _ {S P W R : Type 0} (chain : Chain S P R) (text : W → List ℕ) (Fits 
         let took : Took (chain now taken (window limit taken left)) (length (window limit taken left)) taken (taken + count) left (drop count left) found =
         record { count = count; is = s; within = within; taken_is = refl; left_is = refl } in
         let rest = parts_to_come chain cut limit (taken + count) found.1 (drop count left) in
-        let step : with_part found.0 rest ≡ (parts, done) = sym (part_comes chain cut limit taken (taken + count) now left (drop count left) found takes took) ∙ h in
+        let step : with_part found.0 rest ≡ (parts, done) =
+        sym (part_comes chain cut limit taken (taken + count) now left (drop count left) found takes took) ∙ h in
         let first : found.0 ∷ rest.0 ≡ parts = ap (λ (p : List P × End R). p.0) step in
         let last : rest.1 ≡ done = ap (λ (p : List P × End R). p.1) step in
         subst (IsWritten limit taken now left) first
@@ -123,7 +129,8 @@ module _ {S P W R : Type 0} (chain : Chain S P R) (text : W → List ℕ) (Fits 
           let all : window limit taken left ≡ front ++ rest = all_taken (limit - taken) left (omega (arith, below)) ∙ spelled in
           let behind : drop (length front) left ≡ rest = ap (drop (length front)) spelled ∙ drop_at front rest (length front) refl in
           let size : length left ≡ length front + length rest = ap length spelled ∙ length-append front rest in
-          let took : Took (chain now taken (window limit taken left)) (length (window limit taken left)) taken (taken + length front) left (drop (length front) left) (gives now part) =
+          let took : Took (chain now taken (window limit taken left)) (length (window limit taken left)) taken (taken + length front) left
+          (drop (length front) left) (gives now part) =
           record {
             count = length front;
             is = ap (chain now taken) all ∙ reads now part fit.0 taken rest;

@@ -1,7 +1,9 @@
 -- The parts of an input that are read by a chain of fields each, where what a part says depends on those before it.
-use Rattle.std.specs.Prelude.{ℕ, List, [], ◌∷◌, ◌++◌, Option, Some, None, Bool, ◌≡◌, ◌≤◌, ◌<◌, ◌+◌, ◌==◌, ◌&&◌, not, length, drop, flat_map, if◌then◌else◌, unwrap_or}
+use Rattle.std.specs.Prelude.{ℕ, List, [], ◌∷◌, ◌++◌, Option, Some, None, Bool, ◌≡◌, ◌≤◌, ◌<◌, ◌+◌, ◌==◌, ◌&&◌, not, length, drop, flat_map}
+use Rattle.std.specs.Prelude.{if◌then◌else◌, unwrap_or}
 use Rattle.fs_base.specs.declared.counted.Counted.{Counted}
-use Rattle.fs_input.specs.{Parts.{AllFrom, At, Reader, at, to_come}, Records.{End, done}, Reads.{end_of, whole}, Scan.{Scan, Scanner, and, field, got, partial, wrong}}
+use Rattle.fs_input.specs.{Parts.{AllFrom, At, Reader, at, to_come}, Records.{End, done}, Reads.{end_of, whole}}
+use Rattle.fs_input.specs.Scan.{Scan, Scanner, and, field, got, partial, wrong}
 
 -- a state, and the place in the input
 pub record Placed (S : Type 0) : Type 0 where

@@ -1,7 +1,9 @@
 -- Fields whose octets were taken together are judged one by one: what is said of them is what the chain of these fields
 -- says, told the octets in hand.
 use Rattle.std.specs.Prelude.{ℕ, Result, Ok, Err}
-use Rattle.fs_input.specs.{NextRecord.{short_fault}, declared.{fault.Fault.{Fault, TheVariants.{Bad}}, judging.Judged.{Judged, TheVariants.{Whole, Wrong, Partial}}}, Scan.{Scan, got, partial, wrong}}
+use Rattle.fs_input.specs.NextRecord.{short_fault}
+use Rattle.fs_input.specs.declared.{fault.Fault.{Fault, TheVariants.{Bad}}, judging.Judged.{Judged, TheVariants.{Whole, Wrong, Partial}}}
+use Rattle.fs_input.specs.Scan.{Scan, got, partial, wrong}
 
 -- what a chain of so many octets says
 abbrev pub scan_of : {A R : Type 0} → ℕ → Judged A R → Scan A R

@@ -1,8 +1,12 @@
 -- What reading the next record answers, and what is to come then.
-use Rattle.std.specs.{Prelude.{ℕ, List, [], Option, Some, None, IsSome, IfSome, IsTrue, Result, Ok, Err, ◌≡◌, ◌≤◌, ◌<◌, ◌==◌, ◌&&◌, not, if◌then◌else◌, ⊤}, Result.{IsErrOf}}
+use Rattle.std.specs.Prelude.{ℕ, List, [], Option, Some, None, IsSome, IfSome, IsTrue, Result, Ok, Err, ◌≡◌, ◌≤◌, ◌<◌, ◌==◌, ◌&&◌, not, if◌then◌else◌}
+use Rattle.std.specs.Prelude.{⊤}
+use Rattle.std.specs.Result.{IsErrOf}
 use Rattle.fs_base.specs.{Files.{OnlySlot}, Outside.{Rose}}
 use Rattle.fs_base.specs.declared.Files as files
-use Rattle.fs_input.specs.{Records.{End, done, limited, bad}, declared.{fault.{Ended.{Ended, TheVariants.{Done, Stopped}}, Fault.{Fault, TheVariants.{Read, Limit, Bad}}}, head.{Found.{Found}, Head.{Head, TheVariants.{Whole, Wrong, Partial}}}}}
+use Rattle.fs_input.specs.Records.{End, done, limited, bad}
+use Rattle.fs_input.specs.declared.fault.{Ended.{Ended, TheVariants.{Done, Stopped}}, Fault.{Fault, TheVariants.{Read, Limit, Bad}}}
+use Rattle.fs_input.specs.declared.head.{Found.{Found}, Head.{Head, TheVariants.{Whole, Wrong, Partial}}}
 
 -- A wrong field begins within the octets in hand. A whole head has all its octets, and a payload of no more than `most`.
 abbrev pub IsHeadWithin : {A R : Type 0} → (size most count : ℕ) → Head A R → Type 0

@@ -1,6 +1,7 @@
 -- What stands before the records of an input: so many octets, judged field by field as they are filled.
 use Rattle.std.specs.Prelude.{ℕ, List, [], Result, Ok, Err, Bool, ◌≡◌, ◌<◌, ◌≤◌, length, take, nat_le, if◌then◌else◌, ⊤}
-use Rattle.fs_input.specs.{NextRecord.{short_fault}, Records.{End, limited, bad}, declared.{fault.Fault.{Fault, TheVariants.{Read, Limit, Bad}}, head.Head.{Head, TheVariants.{Whole, Wrong, Partial}}}}
+use Rattle.fs_input.specs.{NextRecord.{short_fault}, Records.{End, limited, bad}}
+use Rattle.fs_input.specs.declared.{fault.Fault.{Fault, TheVariants.{Read, Limit, Bad}}, head.Head.{Head, TheVariants.{Whole, Wrong, Partial}}}
 
 -- what so many octets open, or how the input ends before its records
 abbrev pub opened_by : {V R : Type 0} → R → Bool → ℕ → Head V R → Result V (End R)

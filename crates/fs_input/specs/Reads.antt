@@ -1,9 +1,11 @@
 -- What a call that reads a chain of fields does to the files and to the slot that it reads.
-use Rattle.std.specs.Prelude.{ℕ, List, ◌++◌, Option, Some, None, Result, Ok, Err, Bool, true, false, IsTrue, IfErr, ◌≡◌, ◌≢◌, ◌≤◌, ◌<◌, ◌+◌, ◌==◌, ◌⊎◌, length, drop, if◌then◌else◌, ⊤}
+use Rattle.std.specs.Prelude.{ℕ, List, ◌++◌, Option, Some, None, Result, Ok, Err, Bool, true, false, IsTrue, IfErr, ◌≡◌, ◌≢◌, ◌≤◌, ◌<◌, ◌+◌, ◌==◌}
+use Rattle.std.specs.Prelude.{◌⊎◌, length, drop, if◌then◌else◌, ⊤}
 pub use Rattle.fs_base.specs.Draws.{Calls, Passes, PassesIn, PassesOn, calls_of}
 use Rattle.fs_base.specs.{Outside.{Rose}, Parts.{at_limit, window}, declared.counted.Counted.{Counted}}
 use Rattle.fs_base.specs.declared.Files as files
-use Rattle.fs_input.specs.{Records.{End, bad, limited}, declared.fault.Fault.{Fault, TheVariants.{Read, Limit, Bad}}, Scan.{Scan, Scanner, field, got, partial, wrong}}
+use Rattle.fs_input.specs.{Records.{End, bad, limited}, declared.fault.Fault.{Fault, TheVariants.{Read, Limit, Bad}}}
+use Rattle.fs_input.specs.Scan.{Scan, Scanner, field, got, partial, wrong}
 
 module _ {A R : Type 0} where
   -- a scan gave this value, and its octets were taken

@@ -1,7 +1,8 @@
 //! Reading an input part by part, up to one that tells something.
 ghost use Rattle.std.specs.{Prelude.{◌≡◌, ◌≤◌, ◌<◌, [], None, IsTrue, IfOk, IfSome, length}, Option.{option_map}, Result.{IsErrOf}};
 ghost use Rattle.fs_base.specs.{Draws.{Draws}, Outside.{Rose}, Parts.{with_part}};
-ghost use Rattle.fs_input.specs.{NextRecord.{Advances, GivesNext}, Reads.{PassesIn}, declared.fault.Fault.TheVariants.{Read}, Coming.{part_in, parts_ahead, told_ahead}, Reading.{Grows, part_told, answer_told}};
+ghost use Rattle.fs_input.specs.{NextRecord.{Advances, GivesNext}, Reads.{PassesIn}, declared.fault.Fault.TheVariants.{Read}};
+ghost use Rattle.fs_input.specs.{Coming.{part_in, parts_ahead, told_ahead}, Reading.{Grows, part_told, answer_told}};
 
 use crate::fault::{Ended, Fault};
 use crate::fields::take_first;

@@ -1,7 +1,8 @@
 //! Reading an input record by record, whatever counts the reads give.
 ghost use Rattle.std.specs.{Prelude.{◌≡◌, ◌≤◌, [], None, IsTrue, length, take}, Result.{IsErrOf}};
 ghost use Rattle.fs_base.specs.{Draws.{Draws}, Outside.{Rose}, Parts.{with_part}};
-ghost use Rattle.fs_input.specs.{NextRecord.{Advances, GivesNext, Grows, IsFoundWithin, answer_of, ended_after, short_answer, short_fault}, Reads.{PassesIn}, Records.{records_ahead}};
+ghost use Rattle.fs_input.specs.NextRecord.{Advances, GivesNext, Grows, IsFoundWithin, answer_of, ended_after, short_answer, short_fault};
+ghost use Rattle.fs_input.specs.{Reads.{PassesIn}, Records.{records_ahead}};
 
 use crate::fault::{Ended, Fault};
 use crate::head::{Found, Head, Heads, MOST_HEAD};

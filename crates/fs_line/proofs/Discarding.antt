@@ -1,5 +1,10 @@
 -- What is printed of actions that discard and say no more.
-use Rattle.fs_line.proofs.{Words.{◌≡◌, ℕ, ◌==◌, Bool, true, false, List, [], ◌∷◌, ◌++◌, length, get_or, Option, Some, None, refl, sym, ◌∙◌, ap, subst, arith, append-nil, append_assoc, IsTrue, not, true≢false, ◌<◌, ◌||◌, codes, decimal, if◌then◌else◌, AllByRecursion, list_any, option_map_or, common_steps, first_of, has_flag, is_discard, limit_of, mark_of, redirect_of, Walked, SaysDiscard, discarded_line, effects_text, line_of, mark_text, rates_text, redirect_text, sample_text, verdict_text, entries}, Walks.{rates_text-append, rates_text-none}}
+use Rattle.fs_line.proofs.Words.{◌≡◌, ℕ, ◌==◌, Bool, true, false, List, [], ◌∷◌, ◌++◌, length, get_or, Option, Some, None, refl, sym, ◌∙◌, ap, subst}
+use Rattle.fs_line.proofs.Words.{arith, append-nil, append_assoc, IsTrue, not, true≢false, ◌<◌, ◌||◌, codes, decimal, if◌then◌else◌, AllByRecursion}
+use Rattle.fs_line.proofs.Words.{list_any, option_map_or, common_steps, first_of, has_flag, is_discard, limit_of, mark_of, redirect_of, Walked}
+use Rattle.fs_line.proofs.Words.{SaysDiscard, discarded_line, effects_text, line_of, mark_text, rates_text, redirect_text, sample_text, verdict_text}
+use Rattle.fs_line.proofs.Words.{entries}
+use Rattle.fs_line.proofs.Walks.{rates_text-append, rates_text-none}
 
 abbrev pub AllDiscard : List (List ℕ) → Type 0
 AllDiscard actions = AllByRecursion (λ action. is_discard action ≡ true) actions
@@ -34,7 +39,8 @@ rates_none (action ∷ actions) all =
 
 silent : (actions : List (List ℕ)) → AllDiscard actions → effects_text actions ≡ []
 silent actions all =
-    ap (λ (o : Option ℕ). option_map_or mark_text o [] ++ (option_map_or redirect_text (first_of redirect_of actions) [] ++ (sample_text actions ++ rates_text actions)))
+    ap (λ (o : Option ℕ). option_map_or mark_text o []
+    ++ (option_map_or redirect_text (first_of redirect_of actions) [] ++ (sample_text actions ++ rates_text actions)))
     (first_none mark_of no_mark actions all)
     ∙ ap (λ o. option_map_or redirect_text o [] ++ (sample_text actions ++ rates_text actions)) (first_none redirect_of no_redirect actions all)
     ∙ ap (λ (b : Bool). (if b then codes " sample" else []) ++ rates_text actions) (samples_none actions all) ∙ rates_none actions all
@@ -55,7 +61,8 @@ pub one_discards : (number : ℕ) (walked : List Walked) (rule : Walked) → len
     → discarded_line number rule.number ≡ line_of number (entries walked)
 one_discards number [] rule one is says = let never : ⊥ = omega (arith, one) in absurd never
 one_discards number (first ∷ second ∷ walked) rule one is says = let never : ⊥ = omega (arith, one) in absurd never
-one_discards number (first ∷ []) rule one is says = subst (λ (w : Walked). discarded_line number rule.number ≡ line_of number (entries (w ∷ []))) is (of_rule rule says)
+one_discards number (first ∷ []) rule one is says =
+    subst (λ (w : Walked). discarded_line number rule.number ≡ line_of number (entries (w ∷ []))) is (of_rule rule says)
   where
     of_rule : (w : Walked) → SaysDiscard w.actions.now → discarded_line number w.number ≡ line_of number (entries (w ∷ []))
     of_rule w says =
@@ -65,7 +72,8 @@ one_discards number (first ∷ []) rule one is says = subst (λ (w : Walked). di
         let effects : [] ≡ effects_text (w.actions.now ++ []) = sym (ap effects_text all ∙ says.silent) in
         ap (λ (rest : List ℕ). decimal number ++ (codes " discard rules " ++ (rest ++ codes "\n"))) (sym (append-nil (decimal w.number)))
         ∙ ap (λ (v : List ℕ). decimal number ++ (v ++ (((codes " rules " ++ decimal w.number) ++ []) ++ codes "\n"))) verdict
-        ∙ ap (λ (e : List ℕ). decimal number ++ (verdict_text (w.actions.now ++ []) ++ (((codes " rules " ++ decimal w.number) ++ []) ++ (e ++ codes "\n")))) effects
+        ∙ ap (λ (e : List ℕ). decimal number
+        ++ (verdict_text (w.actions.now ++ []) ++ (((codes " rules " ++ decimal w.number) ++ []) ++ (e ++ codes "\n")))) effects
 
 pub nonempty : (actions : List (List ℕ)) (empty : Bool) → empty ≡ (length actions == 0) → IsTrue (not empty) → 0 < length actions
 nonempty [] empty is some = absurd (true≢false (sym (subst (λ b. IsTrue (not b)) is some)))

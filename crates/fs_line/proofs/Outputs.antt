@@ -1,5 +1,7 @@
 -- How what became of a text follows from what became of its parts.
-use Rattle.fs_line.proofs.Words.{◌≡◌, inl, inr, ℕ, ◌+◌, ◌<◌, List, [], ◌∷◌, ◌++◌, length, take, drop, get_or, Option, Result, Ok, Err, OnOk, OnErr, IsErrAnd, ◌≤◌, arith, sym, ◌∙◌, ap, subst, append_assoc, append-nil, common_steps, take_more, take-append-drop, Goes, Partly, Stops, Sent}
+use Rattle.fs_line.proofs.Words.{◌≡◌, inl, inr, ℕ, ◌+◌, ◌<◌, List, [], ◌∷◌, ◌++◌, length, take, drop, get_or, Option, Result, Ok, Err, OnOk, OnErr}
+use Rattle.fs_line.proofs.Words.{IsErrAnd, ◌≤◌, arith, sym, ◌∙◌, ap, subst, append_assoc, append-nil, common_steps, take_more, take-append-drop, Goes}
+use Rattle.fs_line.proofs.Words.{Partly, Stops, Sent}
 use Rattle.fs_base.{specs.{Outside.{HasCause}, Sink.{Grew, GrewPart}}, proofs.Grew.{Grew-refl, Grew-trans, part_more, part_then}}
 
 -- a text has gone on so far
@@ -69,7 +71,8 @@ sends_kept {p = p} {q = q} {xs = xs} room is = record {
 }
 
 -- a text that is equal
-pub sends_as : {T E : Type 0} {f g : ℕ} {a b : Option (List ℕ)} {p q xs ys : List ℕ} {result : Result T E} → xs ≡ ys → Sent f g a b p q xs result → Sent f g a b p q ys result
+pub sends_as : {T E : Type 0} {f g : ℕ} {a b : Option (List ℕ)} {p q xs ys : List ℕ} {result : Result T E} → xs ≡ ys → Sent f g a b p q xs result
+    → Sent f g a b p q ys result
 sends_as {f = f} {g = g} {a = a} {b = b} {p = p} {q = q} {result = result} same sent =
     let P : List ℕ → Type 0 = λ text. Sent f g a b p q text result in subst P same sent
 
@@ -96,7 +99,8 @@ part_nothing a b c xs part more =
     (part.0, subst (λ (l : List ℕ). Grew a c l) (append-nil (take part.0 xs)) (Grew-trans a b c (take part.0 xs) [] part.1 grew))
 
 -- a text that went on in part, and then a front of what was pending was written out
-pub partly_flushed : (before mid now : Option (List ℕ)) (pending text : List ℕ) → Partly before mid [] pending text → GrewPart mid now pending → GrewPart before now text
+pub partly_flushed : (before mid now : Option (List ℕ)) (pending text : List ℕ) → Partly before mid [] pending text → GrewPart mid now pending
+    → GrewPart before now text
 partly_flushed before mid now pending text (inl p) grew =
     subst (λ (l : List ℕ). GrewPart before now l) (sym p.parts) (part_more before now p.front p.rest (goes_flush_part now p.goes grew))
 partly_flushed before mid now pending text (inr h) grew =
@@ -171,7 +175,8 @@ sends_nothing text adds xs i d below none first = record {
 
 -- the sink failed within one item, and the error is handed on
 pub sends_within : {X T U E F : Type 0} {f g h : ℕ} {a b c : Option (List ℕ)} {p q r : List ℕ} {error : E} (text : List X → List ℕ)
-    → ((xs ys : List X) → text (xs ++ ys) ≡ text xs ++ text ys) → (xs : List X) (i : ℕ) (d : X) → i < length xs → (R : F → Type 0) (result : Result U F) → IsErrAnd result R
+    → ((xs ys : List X) → text (xs ++ ys) ≡ text xs ++ text ys) → (xs : List X) (i : ℕ) (d : X) → i < length xs
+    → (R : F → Type 0) (result : Result U F) → IsErrAnd result R
     → SentSo f g a b p q (text (take i xs)) → Sent {T = T} {E = E} g h b c q r (text (get_or xs i d ∷ [])) (Err error)
     → Sent f h a c p r (text xs) result
 sends_within text adds xs i d below R (Ok value) on first then = absurd on

@@ -1,5 +1,8 @@
 -- What the actions of a walk say, rule by rule.
-use Rattle.fs_line.proofs.Words.{◌≡◌, ℕ, ◌+◌, ◌-◌, ◌<◌, ◌≤◌, List, [], ◌∷◌, ◌++◌, length, take, drop, get_or, Option, Some, None, refl, sym, ◌∙◌, ap, arith, append_assoc, add-one, drop-cons, flat_map, filter_map, codes, common_steps, flat_map-append, first_of, limit_of, Walked, numbered, numbers_text, others_text, rate_text, rates_text, actions_walked, entries, numbers_walked}
+use Rattle.fs_line.proofs.Words.{◌≡◌, ℕ, ◌+◌, ◌-◌, ◌<◌, ◌≤◌, List, [], ◌∷◌, ◌++◌, length, take, drop, get_or, Option, Some, None, refl, sym, ◌∙◌, ap}
+use Rattle.fs_line.proofs.Words.{arith, append_assoc, add-one, drop-cons, flat_map, filter_map, codes, common_steps, flat_map-append, first_of}
+use Rattle.fs_line.proofs.Words.{limit_of, Walked, numbered, numbers_text, others_text, rate_text, rates_text, actions_walked, entries}
+use Rattle.fs_line.proofs.Words.{numbers_walked}
 use Rattle.std.proofs.lemmas.List.{append-nil, length-append, Elements.{filter_map-append}}
 use Rattle.fs_actions.specs.declared.community.Rate.{Rate}
 
@@ -80,7 +83,8 @@ numbers_from (first ∷ others) rule some is =
     ∙ ap (λ (w : Walked). numbered (codes " rules ") w.number ++ others_of others) is
 
 pub rates_text-append : (xs ys : List (List ℕ)) → rates_text (xs ++ ys) ≡ rates_text xs ++ rates_text ys
-rates_text-append xs ys = ap (flat_map rate_text) (filter_map-append limit_of xs ys) ∙ flat_map-append rate_text (filter_map limit_of xs) (filter_map limit_of ys)
+rates_text-append xs ys = ap (flat_map rate_text) (filter_map-append limit_of xs ys)
+    ∙ flat_map-append rate_text (filter_map limit_of xs) (filter_map limit_of ys)
 
 filter_map-one : {X Y : Type 0} (h : X → Option Y) (x : X) (y : Y) → h x ≡ Some y → filter_map h (x ∷ []) ≡ y ∷ []
 filter_map-one h x y is = grind (arith, common_steps)

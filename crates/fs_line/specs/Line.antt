@@ -1,7 +1,10 @@
 -- The lines that `enforce` writes for the packets of a capture.
-use Rattle.std.specs.{Prelude.{◌≡◌, true, ℕ, List, [], ◌∷◌, ◌++◌, map, flat_map, filter_map, if◌then◌else◌, codes, decimal}, Option.{option_map_or}, List.{join_with_byte, list_any}, Int.{to_be_bytes, w32}}
+use Rattle.std.specs.Prelude.{◌≡◌, true, ℕ, List, [], ◌∷◌, ◌++◌, map, flat_map, filter_map, if◌then◌else◌, codes, decimal}
+use Rattle.std.specs.{Option.{option_map_or}, List.{join_with_byte, list_any}, Int.{to_be_bytes, w32}}
 use Rattle.hex.specs.Hex.{encode_lower}
-use Rattle.fs_actions.specs.{Actions.{first_of}, Community.{has_flag, is_discard, limit_of, mark_of, redirect_of}, declared.community.{Rate.{Rate, TheVariants.{Bytes, Packets}}, Redirect.{Redirect, TheVariants.{As2, Ip4, As4}}}}
+use Rattle.fs_actions.specs.Actions.{first_of}
+use Rattle.fs_actions.specs.Community.{has_flag, is_discard, limit_of, mark_of, redirect_of}
+use Rattle.fs_actions.specs.declared.community.{Rate.{Rate, TheVariants.{Bytes, Packets}}, Redirect.{Redirect, TheVariants.{As2, Ip4, As4}}}
 use Rattle.fs_line.specs.Walked.{actions_walked, numbers_walked}
 
 -- a packet passes unless a rate lets nothing pass (RFC 8955 sections 7.1 and 7.2)

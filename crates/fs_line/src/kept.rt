@@ -3,7 +3,9 @@
 ghost use Rattle.std.specs.{Prelude.{◌≡◌, ◌≤◌, ◌+◌, ◌*◌, [], ◌++◌, codes, decimal, length}, Int.{to_be_bytes, w32}, Option.{option_map_or}};
 ghost use Rattle.hex.specs.Hex.{encode_lower};
 ghost use Rattle.fs_actions.specs.{Actions.{first_of}, Community.{mark_of, redirect_of}};
-ghost use Rattle.fs_line.specs.{Line.{address_text, discarded_line, line_of, mark_text, numbered, numbers_text, others_text, rate_text, rates_text, redirect_text, sample_text, unread_line_of, verdict_text}, Walked.{actions_walked, entries, numbers_walked}};
+ghost use Rattle.fs_line.specs.Line.{address_text, discarded_line, line_of, mark_text, numbered, numbers_text, others_text, rate_text, rates_text};
+ghost use Rattle.fs_line.specs.Line.{redirect_text, sample_text, unread_line_of, verdict_text};
+ghost use Rattle.fs_line.specs.Walked.{actions_walked, entries, numbers_walked};
 
 use crate::output::{CAPACITY, LONGEST_NUMBER, Output};
 use crate::walked::{Walked, discards, first_mark, first_redirect, samples};

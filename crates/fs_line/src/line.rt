@@ -1,7 +1,8 @@
 //! The lines of packets, written without memory.
 
 ghost use Rattle.std.specs.Prelude.{◌≡◌, ◌≤◌, ◌+◌, ◌*◌, [], IsTrue, length};
-ghost use Rattle.fs_line.specs.{Line.{SaysDiscard, discarded_line, line_of, numbers_text, others_text, rate_text, rates_text, unread_line_of}, Output.{Sends}, Walked.{actions_walked, entries, numbers_walked}};
+ghost use Rattle.fs_line.specs.Line.{SaysDiscard, discarded_line, line_of, numbers_text, others_text, rate_text, rates_text, unread_line_of};
+ghost use Rattle.fs_line.specs.{Output.{Sends}, Walked.{actions_walked, entries, numbers_walked}};
 
 use crate::kept::{
     LINE, RATE, RULE, keep_discarded, keep_effects, keep_first, keep_other, keep_passed, keep_rate,

@@ -1,5 +1,11 @@
 -- How the octets of a message begun and a piece behind them join.
-use Rattle.fs_message.{proofs.Words.{◌≡◌, ℕ, ◌+◌, ◌-◌, ◌<◌, ◌≤◌, min, Bool, true, false, not, ◌&&◌, nat_le, nat_lt, get_or, List, ◌++◌, length, take, drop, Option, Some, None, Ok, refl, sym, ap, ◌∙◌, subst, inl, inr, arith, if◌then◌else◌, IsTrue, length-take, length-drop, length-append, take-append-le, take-take, take_all, take_min, take_rest, append_assoc, drop-take, get_or-take, cases_lt, leb-true, nat_tests, take-add, take-append-add, drop-append-add, big_number, big_from-take, MessageFault, Message, message_of, wrong_at, size_of, has_message, first_message, fault, marker_wrong, size_wrong, kind_wrong, kind_at, allows, header_fault, size_at}, specs.Deframer.{IsBegun, IsWhole, IsFraming, Feeds}}
+use Rattle.fs_message.proofs.Words.{◌≡◌, ℕ, ◌+◌, ◌-◌, ◌<◌, ◌≤◌, min, Bool, true, false, not, ◌&&◌, nat_le, nat_lt, get_or, List, ◌++◌, length, take}
+use Rattle.fs_message.proofs.Words.{drop, Option, Some, None, Ok, refl, sym, ap, ◌∙◌, subst, inl, inr, arith, if◌then◌else◌, IsTrue, length-take}
+use Rattle.fs_message.proofs.Words.{length-drop, length-append, take-append-le, take-take, take_all, take_min, take_rest, append_assoc, drop-take}
+use Rattle.fs_message.proofs.Words.{get_or-take, cases_lt, leb-true, nat_tests, take-add, take-append-add, drop-append-add, big_number, big_from-take}
+use Rattle.fs_message.proofs.Words.{MessageFault, Message, message_of, wrong_at, size_of, has_message, first_message, fault, marker_wrong, size_wrong}
+use Rattle.fs_message.proofs.Words.{kind_wrong, kind_at, allows, header_fault, size_at}
+use Rattle.fs_message.specs.Deframer.{IsBegun, IsWhole, IsFraming, Feeds}
 use Rattle.std.specs.Option.{is_none}
 
 -- the test for a whole message, over its three parts
@@ -53,16 +59,26 @@ module _ (begun piece next : List ℕ) (count : ℕ) (h : Headed begun piece nex
 
   next_length : (length next ≡ length begun + count) × (count ≤ length piece)
   next_length =
-      let counted : count ≤ length piece = omega (arith, h.count_is) in
-      (ap (λ (z : List ℕ). length z) h.next_is ∙ length-append begun (take count piece) ∙ ap (λ (z : ℕ). length begun + z) (omega (arith, length-take count piece)), counted)
+      let counted : count ≤ length piece = omega (arith, h.count_is) in (
+        ap (λ (z : List ℕ). length z) h.next_is ∙ length-append begun (take count piece)
+            ∙ ap (λ (z : ℕ). length begun + z) (omega (arith, length-take count piece)),
+        counted,
+      )
 
   -- less than a header: the whole piece is taken
   pub short_feeds : length next < 19 → wrong_at (begun ++ piece) ≡ None → Feeds begun piece next (Ok (count, false))
   short_feeds short sound =
       let all : count ≡ length piece = omega (arith, next_length.0, h.count_is) in
       let joined : next ≡ begun ++ piece = h.next_is ∙ ap (λ (z : List ℕ). begun ++ z) (take_all count piece (omega (arith, all))) in
-      let size : length next ≡ length (begun ++ piece) = ap (λ (z : List ℕ). length z) joined in
-      (all, joined, record { sound = sound; partial = has_not (wrong_at (begun ++ piece)) (length (begun ++ piece)) (size_of (begun ++ piece)) (λ l. absurd (omega (arith, size))) })
+      let size : length next ≡ length (begun ++ piece) = ap (λ (z : List ℕ). length z) joined in (
+        all,
+        joined,
+        record {
+          sound = sound;
+          partial =
+              has_not (wrong_at (begun ++ piece)) (length (begun ++ piece)) (size_of (begun ++ piece)) (λ l. absurd (omega (arith, size)));
+        },
+      )
 
 -- The message's octets are taken too: after those of the header, those of the piece that its length asks for.
 record Bodied (begun piece next last : List ℕ) (count more size : ℕ) : Type 0 where
@@ -124,7 +140,8 @@ module _ (begun piece next last : List ℕ) (count more size : ℕ) (b : Bodied 
 
   last_length : length last ≡ length begun + all
   last_length =
-      ap (λ (z : List ℕ). length z) joined ∙ length-append begun (take all piece) ∙ ap (λ (z : ℕ). length begun + z) (omega (arith, length-take all piece, some.0))
+      ap (λ (z : List ℕ). length z) joined ∙ length-append begun (take all piece)
+      ∙ ap (λ (z : ℕ). length begun + z) (omega (arith, length-take all piece, some.0))
 
   fed : (ends : Bool) → nat_le size (length last) ≡ ends → Fed begun piece last all ends
   fed false e =
@@ -142,7 +159,8 @@ module _ (begun piece next last : List ℕ) (count more size : ℕ) (b : Bodied 
       let front : take size octets ≡ last = subst (λ (z : ℕ). take z octets ≡ last) exact (take-append-add begun piece all ∙ sym joined) in
       let rest : drop size octets ≡ drop all piece = subst (λ (z : ℕ). drop z octets ≡ drop all piece) exact (drop-append-add begun piece all) in
       let stands : has_message octets ≡ true =
-      has_all (wrong_at octets) (length octets) (size_of octets) b.sound (omega (arith, total, exact, b.low, some.0)) (omega (arith, total, exact, b.size_is, some.0)) in
+      has_all (wrong_at octets) (length octets) (size_of octets) b.sound (omega (arith, total, exact, b.low, some.0))
+      (omega (arith, total, exact, b.size_is, some.0)) in
       let found : first_message octets ≡ found_at (take (size_of octets) octets) (drop (size_of octets) octets) =
       ap (λ (t : Bool). if t then found_at (take (size_of octets) octets) (drop (size_of octets) octets) else None) stands in
       let at_size : found_at (take size octets) (drop size octets) ≡ found_at last (drop all piece) =
@@ -175,8 +193,10 @@ size_read held count h =
 pub message_front : (held : List ℕ) (count : ℕ) → 19 ≤ count
     → (get_or held 18 0 ≡ get_or (take count held) 18 0) × (take (count - 19) (drop 19 held) ≡ drop 19 (take count held))
 message_front held count h =
-    let n : 19 + (count - 19) ≡ count = omega arith in
-    (sym (get_or-take count held 18 0 (omega arith)), sym (subst (λ (z : ℕ). drop 19 (take z held) ≡ take (count - 19) (drop 19 held)) n (drop-take 19 (count - 19) held)))
+    let n : 19 + (count - 19) ≡ count = omega arith in (
+      sym (get_or-take count held 18 0 (omega arith)),
+      sym (subst (λ (z : ℕ). drop 19 (take z held) ≡ take (count - 19) (drop 19 held)) n (drop-take 19 (count - 19) held)),
+    )
 
 -- the tests of a header, over Bools
 abbrev pub chain : Bool → Bool → Bool → Bool → Bool → Bool → Option MessageFault
@@ -196,7 +216,8 @@ low_size : (size : ℕ) → size_wrong size ≡ false → 19 ≤ size
 low_size size h = grind (arith, nat_tests)
 
 -- a whole header without a fault: its length is at least its own, and one that its type allows
-pub header_sound : (octets : List ℕ) → wrong_at octets ≡ None → 19 ≤ length octets → (19 ≤ size_of octets) × IsTrue (allows (get_or octets 18 0) (size_of octets))
+pub header_sound : (octets : List ℕ) → wrong_at octets ≡ None → 19 ≤ length octets
+    → (19 ≤ size_of octets) × IsTrue (allows (get_or octets 18 0) (size_of octets))
 header_sound octets sound long =
     let header : List ℕ = take 19 octets in
     let size : length header ≡ 19 = omega (arith, length-take 19 octets) in

@@ -1,5 +1,11 @@
 -- What the reader of OPEN's capabilities has found, field by field, is what the list says.
-use Rattle.fs_message.{proofs.Words.{◌≡◌, ℕ, Bool, true, false, not, ◌&&◌, ◌||◌, ◌==◌, List, [], ◌∷◌, ◌++◌, length, drop, Option, Some, None, Result, Err, refl, sym, ap, ◌∙◌, arith, if◌then◌else◌, flat_map, find, option_map, list_any, list_all, nat_tests, common_steps, big_number, list_any-append, Shrinks, parts_of, parts_step, parts_end, Field, first_field, fields_of, are_fields, is_capability, is_parameter, are_parameters, capabilities_of, four_octet_as, names_family, found_in, first_of_two, with_later, added, gathered, all_gathered, fields_fault, opened, open_of, MessageFault, Open, fault}, specs.declared.capabilities.Found.{Found}}
+use Rattle.fs_message.proofs.Words.{◌≡◌, ℕ, Bool, true, false, not, ◌&&◌, ◌||◌, ◌==◌, List, [], ◌∷◌, ◌++◌, length, drop, Option, Some, None, Result}
+use Rattle.fs_message.proofs.Words.{Err, refl, sym, ap, ◌∙◌, arith, if◌then◌else◌, flat_map, find, option_map, list_any, list_all, nat_tests}
+use Rattle.fs_message.proofs.Words.{common_steps, big_number, list_any-append, Shrinks, parts_of, parts_step, parts_end, Field, first_field}
+use Rattle.fs_message.proofs.Words.{fields_of, are_fields, is_capability, is_parameter, are_parameters, capabilities_of, four_octet_as, names_family}
+use Rattle.fs_message.proofs.Words.{found_in, first_of_two, with_later, added, gathered, all_gathered, fields_fault, opened, open_of, MessageFault}
+use Rattle.fs_message.proofs.Words.{Open, fault}
+use Rattle.fs_message.specs.declared.capabilities.Found.{Found}
 use Rattle.std.proofs.Math.Bool.{or_assoc, or-false, and-true}
 use Rattle.fs_base.proofs.Bools.{and_false}
 
@@ -16,7 +22,8 @@ abbrev asn_or : Bool → Field → Option Field → Option ℕ
 asn_or here x later = option_map (λ capability. big_number 4 capability.value) (if here then Some x else later)
 
 asn_step : (here : Bool) (x : Field) (zs xs ys : List Field) → four_octet_as zs ≡ first_of_two (four_octet_as xs) (four_octet_as ys)
-    → asn_or here x (find (λ capability. capability.kind == 65) zs) ≡ first_of_two (asn_or here x (find (λ capability. capability.kind == 65) xs)) (four_octet_as ys)
+    → asn_or here x (find (λ capability. capability.kind == 65) zs) ≡ first_of_two (asn_or here x (find (λ capability. capability.kind == 65) xs))
+    (four_octet_as ys)
 asn_step true x zs xs ys h = refl
 asn_step false x zs xs ys h = h
 
@@ -24,7 +31,8 @@ asn_append : (xs ys : List Field) → four_octet_as (xs ++ ys) ≡ first_of_two 
 asn_append [] ys = refl
 asn_append (x ∷ xs) ys = asn_step (x.kind == 65) x (xs ++ ys) xs ys (asn_append xs ys)
 
-asn_later : (asn : Option ℕ) (xs ys : List Field) → first_of_two asn (four_octet_as (xs ++ ys)) ≡ first_of_two (first_of_two asn (four_octet_as xs)) (four_octet_as ys)
+asn_later : (asn : Option ℕ) (xs ys : List Field)
+    → first_of_two asn (four_octet_as (xs ++ ys)) ≡ first_of_two (first_of_two asn (four_octet_as xs)) (four_octet_as ys)
 asn_later (Some n) xs ys = refl
 asn_later None xs ys = asn_append xs ys
 
@@ -46,7 +54,8 @@ later_append found xs ys = same_found _ _ _ _ _ _ _ _ _ _ (asn_later found.asn x
     (any_later found.v6_unicast (names_family 2 1) xs ys) (any_later found.v6_flow (names_family 2 133) xs ys)
 
 later_none : (found : Found) → with_later found (found_in []) ≡ found
-later_none found = same_found _ _ _ _ _ _ _ _ _ _ (first_none found.asn) (or-false found.v4_unicast) (or-false found.v4_flow) (or-false found.v6_unicast) (or-false found.v6_flow)
+later_none found = same_found _ _ _ _ _ _ _ _ _ _ (first_none found.asn) (or-false found.v4_unicast) (or-false found.v4_flow)
+    (or-false found.v6_unicast) (or-false found.v6_flow)
 
 chosen : {A : Type 0} (right : Bool) (a b : A) → Some b ≡ (if right then Some a else None) → (right ≡ true) × (b ≡ a)
 chosen true a b h = (refl, cc)
@@ -92,7 +101,8 @@ module _ (test : Field → Bool) (held : List Field → List Field) (here : Fiel
       → from_parts found (parts_of first_field octets) ≡ (if length octets == 0 then Some found else None)
   step_end found octets h =
       ap (from_parts found) (parts_end first_field octets h)
-      ∙ and_end (length octets == 0) (with_later found (found_in (held []))) found (ap (λ (z : List Field). with_later found (found_in z)) none ∙ later_none found)
+      ∙ and_end (length octets == 0) (with_later found (found_in (held []))) found (ap (λ (z : List Field). with_later found (found_in z)) none
+      ∙ later_none found)
 
 -- one capability after the other
 pub gathered_more : (found later : Found) (octets : List ℕ) (next : Field × List ℕ) → first_field octets ≡ Some next → Some later ≡ added found next.0
@@ -102,7 +112,8 @@ gathered_more found later octets next h some =
     step_right is_capability (λ fields. fields) (λ field. field ∷ []) refl (λ field fields. refl) found octets next h c.0
     ∙ ap (λ (z : Found). gathered z next.1) (sym c.1)
 
-pub gathered_not : (found : Found) (octets : List ℕ) (next : Field × List ℕ) → first_field octets ≡ Some next → None ≡ added found next.0 → gathered found octets ≡ None
+pub gathered_not : (found : Found) (octets : List ℕ) (next : Field × List ℕ) → first_field octets ≡ Some next → None ≡ added found next.0
+    → gathered found octets ≡ None
 gathered_not found octets next h none =
     step_wrong is_capability (λ fields. fields) (λ field. field ∷ []) refl (λ field fields. refl) found octets next h
     (not_chosen (is_capability next.0) (with_later found (found_in (next.0 ∷ []))) none)
@@ -122,7 +133,8 @@ all_more found later octets next h known some =
     step_right is_parameter (flat_map values) values refl (λ field fields. refl) found octets next h (rw (kind, c.0) refl)
     ∙ ap (λ (z : Found). all_gathered z next.1) (sym c.1)
 
-pub all_not : (found : Found) (octets : List ℕ) (next : Field × List ℕ) → first_field octets ≡ Some next → is_parameter next.0 ≡ false → all_gathered found octets ≡ None
+pub all_not : (found : Found) (octets : List ℕ) (next : Field × List ℕ) → first_field octets ≡ Some next → is_parameter next.0 ≡ false
+    → all_gathered found octets ≡ None
 all_not = step_wrong is_parameter (flat_map values) values refl (λ field fields. refl)
 
 pub none_gathered : (found : Found) (parameter : Field) → None ≡ gathered found parameter.value → is_parameter parameter ≡ false
@@ -139,7 +151,8 @@ fields_chain version asn hold id size =
     if not version then Some (fault 2 1) else if asn then Some (fault 2 2) else if hold then Some (fault 2 6) else if id then Some (fault 2 3)
     else if not size then Some (fault 2 4) else None
 
-pub fields_right : (version asn hold id size : Bool) → version ≡ true → asn ≡ false → hold ≡ false → id ≡ false → size ≡ true → fields_chain version asn hold id size ≡ None
+pub fields_right : (version asn hold id size : Bool) → version ≡ true → asn ≡ false → hold ≡ false → id ≡ false → size ≡ true
+    → fields_chain version asn hold id size ≡ None
 fields_right version asn hold id size a b c d e = rw (a, b, c, d, e) refl
 
 pub fields_sized : (version asn hold id size : Bool) → version ≡ true → asn ≡ false → hold ≡ false → id ≡ false → size ≡ false

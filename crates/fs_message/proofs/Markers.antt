@@ -1,5 +1,7 @@
 -- A number of so many octets is the greatest exactly where each of them is 255.
-use Rattle.fs_message.proofs.Words.{◌≡◌, ℕ, zero, suc, ◌+◌, ◌-◌, ◌*◌, ◌^◌, ◌<◌, ◌≤◌, ◌==◌, Bool, false, not, ◌||◌, List, [], ◌∷◌, length, take, refl, ap, ap₂, sym, ◌∙◌, arith, inl, inr, slice_index, list_any, cases_eq, ne_eqb, nat_tests, big_from, big_from-cons, big_from-lt}
+use Rattle.fs_message.proofs.Words.{◌≡◌, ℕ, zero, suc, ◌+◌, ◌-◌, ◌*◌, ◌^◌, ◌<◌, ◌≤◌, ◌==◌, Bool, false, not, ◌||◌, List, [], ◌∷◌, length, take, refl}
+use Rattle.fs_message.proofs.Words.{ap, ap₂, sym, ◌∙◌, arith, inl, inr, slice_index, list_any, cases_eq, ne_eqb, nat_tests, big_from, big_from-cons}
+use Rattle.fs_message.proofs.Words.{big_from-lt}
 use Rattle.std.proofs.Math.Nat.{pow-succ', mul-le-mul_right}
 
 abbrev wrong : ℕ → Bool

@@ -1,5 +1,11 @@
 -- Our own OPEN is read as what it says.
-use Rattle.fs_message.{proofs.{Words.{◌≡◌, ◌≢◌, ℕ, ◌^◌, ◌<◌, ◌==◌, ◌||◌, ◌&&◌, Bool, true, false, not, nat_lt, List, [], ◌∷◌, ◌++◌, drop, get_or, length, ◌-◌, Option, Some, None, Result, Ok, Err, refl, ap, ◌∙◌, arith, if◌then◌else◌, flat_map, list_all, byte_at, nat_tests, big_number, big_bytes, big_number-reads_back, with_part, parts_of, parts_step, parts_end, MessageFault, Open, fault, Field, field, first_field, fields_of, is_capability, is_parameter, are_parameters, capabilities_of, fields_fault, opened, open_of, as_field, family_text, open_body}, CapabilityLists.{field_shrinks, fields_chain, fields_right, tail}}, specs.Laws.{own_open}}
+use Rattle.fs_message.proofs.Words.{◌≡◌, ◌≢◌, ℕ, ◌^◌, ◌<◌, ◌==◌, ◌||◌, ◌&&◌, Bool, true, false, not, nat_lt, List, [], ◌∷◌, ◌++◌, drop, get_or}
+use Rattle.fs_message.proofs.Words.{length, ◌-◌, Option, Some, None, Result, Ok, Err, refl, ap, ◌∙◌, arith, if◌then◌else◌, flat_map, list_all}
+use Rattle.fs_message.proofs.Words.{byte_at, nat_tests, big_number, big_bytes, big_number-reads_back, with_part, parts_of, parts_step, parts_end}
+use Rattle.fs_message.proofs.Words.{MessageFault, Open, fault, Field, field, first_field, fields_of, is_capability, is_parameter, are_parameters}
+use Rattle.fs_message.proofs.Words.{capabilities_of, fields_fault, opened, open_of, as_field, family_text, open_body}
+use Rattle.fs_message.proofs.CapabilityLists.{field_shrinks, fields_chain, fields_right, tail}
+use Rattle.fs_message.specs.Laws.{own_open}
 use Rattle.fs_base.proofs.NumberTests.{eq_itself, not_zero}
 
 -- the capabilities of our OPEN, with the octets of the AS
@@ -14,7 +20,8 @@ own_fields a b c d =
 nothing_left : parts_of first_field [] ≡ ([], [])
 nothing_left = parts_end first_field [] refl
 
-one_field : (octets behind : List ℕ) (given : Field) (fields : List Field) → first_field octets ≡ Some (given, behind) → parts_of first_field behind ≡ (fields, [])
+one_field : (octets behind : List ℕ) (given : Field) (fields : List Field) → first_field octets ≡ Some (given, behind)
+    → parts_of first_field behind ≡ (fields, [])
     → parts_of first_field octets ≡ (given ∷ fields, [])
 one_field octets behind given fields h rest =
     parts_step first_field field_shrinks octets (given, behind) h ∙ ap (λ (parts : List Field × List ℕ). with_part given parts) rest
@@ -57,7 +64,8 @@ as_some asn some = at (nat_lt 65535 asn)
 small_is : (n : ℕ) → n ≢ 1 → n ≢ 2 → ((n == 1) || (n == 2)) ≡ false
 small_is n one two = grind (arith, nat_tests)
 
-unnamed_chain : (version asn hold id size : Bool) → version ≡ true → asn ≡ false → hold ≡ false → id ≡ true → fields_chain version asn hold id size ≡ Some (fault 2 3)
+unnamed_chain : (version asn hold id size : Bool) → version ≡ true → asn ≡ false → hold ≡ false → id ≡ true
+    → fields_chain version asn hold id size ≡ Some (fault 2 3)
 unnamed_chain version asn hold id size a b c d = rw (a, b, c, d) refl
 
 module _ (asn hold_time id : ℕ) (small : asn < 2 ^ 32) (timed : hold_time < 2 ^ 16) (named : id < 2 ^ 32) where

@@ -1,6 +1,11 @@
 -- A message and a fault at the front of a stream stay what they are, whatever follows. So a stream that
 -- comes in pieces has the messages, and the fault, of the whole.
-use Rattle.fs_message.proofs.{Words.{◌≡◌, ℕ, ◌+◌, ◌-◌, ◌<◌, ◌≤◌, Bool, true, false, not, ◌||◌, ◌==◌, nat_lt, List, ◌++◌, length, take, drop, Option, Some, None, refl, sym, ap, ◌∙◌, subst, inl, inr, arith, if◌then◌else◌, list_any, length-drop, length-append, take-append-le, drop-append-le, take_all, cases_lt, lt-ltb, le-ltb, nat_tests, list_any-append, take-append-add, big_number, big_from-append, Shrinks, Stable, MessageFault, Message, message_of, wrong_at, size_of, has_message, first_message, fault, marker_wrong, size_wrong, kind_wrong, kind_at, allows, header_fault, size_at}, BegunMessages.{chain, has, has_all, header_sound}}
+use Rattle.fs_message.proofs.Words.{◌≡◌, ℕ, ◌+◌, ◌-◌, ◌<◌, ◌≤◌, Bool, true, false, not, ◌||◌, ◌==◌, nat_lt, List, ◌++◌, length, take, drop, Option}
+use Rattle.fs_message.proofs.Words.{Some, None, refl, sym, ap, ◌∙◌, subst, inl, inr, arith, if◌then◌else◌, list_any, length-drop, length-append}
+use Rattle.fs_message.proofs.Words.{take-append-le, drop-append-le, take_all, cases_lt, lt-ltb, le-ltb, nat_tests, list_any-append, take-append-add}
+use Rattle.fs_message.proofs.Words.{big_number, big_from-append, Shrinks, Stable, MessageFault, Message, message_of, wrong_at, size_of, has_message}
+use Rattle.fs_message.proofs.Words.{first_message, fault, marker_wrong, size_wrong, kind_wrong, kind_at, allows, header_fault, size_at}
+use Rattle.fs_message.proofs.BegunMessages.{chain, has, has_all, header_sound}
 use Rattle.std.proofs.lemmas.Option.{cond_some}
 
 pub has_tells : (wrong : Option MessageFault) (count size : ℕ) → has wrong count size ≡ true → (wrong ≡ None) × (19 ≤ count) × (size ≤ count)
@@ -49,7 +54,8 @@ message_stable octets more found h =
     ap (λ (n : ℕ). drop n (octets ++ more)) size ∙ drop-append-le (size_of octets) octets more f.sized ∙ ap (λ (z : List ℕ). z ++ more) (sym f.behind) in
     let Pair : Type 0 = Message × List ℕ in
     let pair : Message → List ℕ → Pair = λ m r. (m, r) in
-    ap (λ (t : Bool). if t then Some (pair (message_of (take (size_of (octets ++ more)) (octets ++ more))) (drop (size_of (octets ++ more)) (octets ++ more))) else None) all
+    ap (λ (t : Bool). if t then Some
+    (pair (message_of (take (size_of (octets ++ more)) (octets ++ more))) (drop (size_of (octets ++ more)) (octets ++ more))) else None) all
     ∙ ap (λ (z : List ℕ). Some (pair (message_of z) (drop (size_of (octets ++ more)) (octets ++ more)))) front
     ∙ ap (λ (z : List ℕ). Some (pair (message_of (take (size_of octets) octets)) z)) behind
     ∙ ap (λ (z : Message). Some (pair z (found.1 ++ more))) (sym f.message)
@@ -74,7 +80,8 @@ short_marked true short size short' kind allowed f e h = (refl, h)
 short_marked false true size short' kind allowed f e h = cc
 short_marked false false size short' kind allowed f e h = cc
 
-still_marked : (marks short size short' kind allowed : Bool) (f : MessageFault) → marks ≡ true → Some (fault 1 1) ≡ Some f → chain marks short size short' kind allowed ≡ Some f
+still_marked : (marks short size short' kind allowed : Bool) (f : MessageFault) → marks ≡ true → Some (fault 1 1) ≡ Some f
+    → chain marks short size short' kind allowed ≡ Some f
 still_marked true short size short' kind allowed f e h = h
 still_marked false short size short' kind allowed f e h = cc
 

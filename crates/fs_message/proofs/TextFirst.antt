@@ -1,6 +1,9 @@
 -- The text of a message is the first message of any octets that begin with it.
 use Rattle.std.proofs.Common.{length-append}
-use Rattle.fs_message.proofs.{Words.{◌≡◌, ℕ, ◌+◌, ◌≤◌, Bool, true, false, List, [], ◌∷◌, ◌++◌, length, take, drop, Option, Some, None, refl, ap, ◌∙◌, arith, if◌then◌else◌, replicate, byte_at, take_at, drop_at, nat_tests, big_number, big_number-reads_back, size_wrong, kind_wrong, allows, Message, message_of, wrong_at, size_of, has_message, first_message, message_text}, BegunMessages.{chain, has_all}}
+use Rattle.fs_message.proofs.Words.{◌≡◌, ℕ, ◌+◌, ◌≤◌, Bool, true, false, List, [], ◌∷◌, ◌++◌, length, take, drop, Option, Some, None, refl, ap, ◌∙◌}
+use Rattle.fs_message.proofs.Words.{arith, if◌then◌else◌, replicate, byte_at, take_at, drop_at, nat_tests, big_number, big_number-reads_back}
+use Rattle.fs_message.proofs.Words.{size_wrong, kind_wrong, allows, Message, message_of, wrong_at, size_of, has_message, first_message, message_text}
+use Rattle.fs_message.proofs.BegunMessages.{chain, has_all}
 
 -- a message with its length in two octets
 abbrev headed : ℕ → ℕ → ℕ → List ℕ → List ℕ
@@ -29,7 +32,8 @@ first_of high low kind body more size_is one five right long =
     (ap size_wrong size ∙ size_fits (19 + length body) (omega arith) long) refl (kind_fits kind one five) (ap (λ (n : ℕ). allows kind n) size ∙ right) in
     let both : length (body ++ more) ≡ length body + length more = length-append body more in
     let count : length octets ≡ 19 + length (body ++ more) = omega arith in
-    let whole : has_message octets ≡ true = has_all (wrong_at octets) (length octets) (size_of octets) sound (omega (arith, count)) (omega (arith, count, both, size)) in
+    let whole : has_message octets ≡ true =
+    has_all (wrong_at octets) (length octets) (size_of octets) sound (omega (arith, count)) (omega (arith, count, both, size)) in
     let front : take (19 + length body) octets ≡ headed high low kind body = take_at (headed high low kind body) more (19 + length body) (omega arith) in
     let behind : drop (19 + length body) octets ≡ more = drop_at (headed high low kind body) more (19 + length body) (omega arith) in
     let pair : List ℕ → List ℕ → Option (Message × List ℕ) = λ head rest. Some (message_of head, rest) in

@@ -1,5 +1,7 @@
 -- The parameters of an OPEN, their capabilities, and what these say (RFC 5492; RFC 4760, section 8; RFC 6793, section 3).
-use Rattle.std.specs.{Prelude.{ℕ, Bool, true, ◌&&◌, ◌||◌, ◌==◌, nat_le, if◌then◌else◌, List, [], ◌∷◌, length, take, drop, get_or, Option, Some, None, option_map, find, flat_map}, List.{list_any, list_all}}
+use Rattle.std.specs.Prelude.{ℕ, Bool, true, ◌&&◌, ◌||◌, ◌==◌, nat_le, if◌then◌else◌, List, [], ◌∷◌, length, take, drop, get_or, Option, Some, None}
+use Rattle.std.specs.Prelude.{option_map, find, flat_map}
+use Rattle.std.specs.List.{list_any, list_all}
 use Rattle.byteorder.specs.Endian.{big_number}
 use Rattle.fs_base.specs.Parts.{parts_of}
 use Rattle.fs_message.specs.declared.capabilities.{Found.{Found}, Field.{Field as Lent}}

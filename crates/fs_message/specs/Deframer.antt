@@ -1,6 +1,7 @@
 -- What a deframer keeps, and what a call of it does with a piece of the stream.
 use Rattle.std.specs.Prelude.{◌≡◌, ℕ, ◌≤◌, Bool, true, false, ⊤, if◌then◌else◌, List, [], ◌++◌, length, take, drop, Option, Some, None, Result, Ok, Err, IfSome}
-use Rattle.fs_message.specs.{declared.{fault.MessageFault.{MessageFault}, deframer.Frame.{Frame}}, Stream.{Message, message_of, wrong_at, size_of, has_message, first_message}}
+use Rattle.fs_message.specs.declared.{fault.MessageFault.{MessageFault}, deframer.Frame.{Frame}}
+use Rattle.fs_message.specs.Stream.{Message, message_of, wrong_at, size_of, has_message, first_message}
 
 -- The octets of the message begun, whether they are that message whole, and the fault that stays.
 pub record Framing : Type 0 where

@@ -1,6 +1,7 @@
 -- That a message and a fault of a stream stay, whatever follows them, and that what is written is read as it was.
 use Rattle.std.specs.Prelude.{◌≡◌, ◌≢◌, ℕ, ◌+◌, ◌^◌, ◌<◌, ◌≤◌, true, List, ◌++◌, length, Some, Ok, Err}
-use Rattle.fs_message.specs.{declared.{fault.MessageFault.{MessageFault}, open_.Open.{Open}}, Header.{fault, allows}, Stream.{wrong_at, first_message}, Open.{open_of}, Write.{message_text, open_body}}
+use Rattle.fs_message.specs.declared.{fault.MessageFault.{MessageFault}, open_.Open.{Open}}
+use Rattle.fs_message.specs.{Header.{fault, allows}, Stream.{wrong_at, first_message}, Open.{open_of}, Write.{message_text, open_body}}
 
 -- A fault stays, whatever follows.
 abbrev pub FaultStays : Type 0

@@ -1,7 +1,10 @@
 -- OPEN (RFC 4271, sections 4.2 and 6.2).
-use Rattle.std.specs.{Prelude.{◌≡◌, ℕ, ◌-◌, not, ◌||◌, ◌==◌, if◌then◌else◌, List, length, drop, get_or, Option, Some, None, Result, Ok, Err, unwrap_or}, List.{list_any}, Option.{is_some}}
+use Rattle.std.specs.Prelude.{◌≡◌, ℕ, ◌-◌, not, ◌||◌, ◌==◌, if◌then◌else◌, List, length, drop, get_or, Option, Some, None, Result, Ok, Err, unwrap_or}
+use Rattle.std.specs.{List.{list_any}, Option.{is_some}}
 use Rattle.byteorder.specs.Endian.{big_number}
-use Rattle.fs_message.specs.{declared.{fault.MessageFault.{MessageFault}, open_.Open.{Open}, capabilities.Found.{Found}}, Header.{fault}, Capabilities.{Field, are_parameters, capabilities_of, four_octet_as, names_family, found_in}}
+use Rattle.fs_message.specs.declared.{fault.MessageFault.{MessageFault}, open_.Open.{Open}, capabilities.Found.{Found}}
+use Rattle.fs_message.specs.Header.{fault}
+use Rattle.fs_message.specs.Capabilities.{Field, are_parameters, capabilities_of, four_octet_as, names_family, found_in}
 
 -- The first fault of the fields before the parameters (RFC 4271, section 6.2): version, AS, hold time,
 -- identifier; and a parameters' length that isn't that of the rest.

@@ -86,7 +86,8 @@ impl Deframer {
     }
 }
 
-ghost use Rattle.fs_message.specs.{Deframer.{Feeds, IsBegun, IsWhole, IsFraming, stands_after, fault_after, Repeats, FeedsFrom, frame_of}, Stream.{Message, message_of}, Header.{allows}};
+ghost use Rattle.fs_message.specs.Deframer.{Feeds, IsBegun, IsWhole, IsFraming, stands_after, fault_after, Repeats, FeedsFrom, frame_of};
+ghost use Rattle.fs_message.specs.{Stream.{Message, message_of}, Header.{allows}};
 
 /// The message in the first `count` octets of `held`.
 fn message_in(held: &[u8], count: usize) -> Frame<'_>

@@ -1,7 +1,14 @@
 -- What is known of all that is heard in a dump of octets.
-use Rattle.fs_mrt.{proofs.{Words.{◌≡◌, ℕ, List, [], ◌∷◌, ◌++◌, Option, Some, None, Bool, true, false, ◌<◌, ◌≤◌, ◌+◌, ◌-◌, ◌*◌, ◌^◌, ◌==◌, max, min, length, refl, sym, subst, ◌∙◌, arith, length-append, append_assoc, ◌⊎◌, inl, inr, if◌then◌else◌, IsSome, find, ⊤, nat_tests, big_number, Address, Peer, Placed, all_told, first_part, placed, got, AreHeard, HeardFits, IsHeard, IsSaid, is_same, lesser, lowest, number_at, Spoken, moment_behind, record_in, time_of, address_of, Entry, IsEntry, body_text, entry_text, entry_told, header_text, heard_as, peer_in, said_of, told, unread}, Written.{record_spells, record_takes}}, specs.declared.shape.Shape.{Shape as RecordShape}}
+use Rattle.fs_mrt.proofs.Words.{◌≡◌, ℕ, List, [], ◌∷◌, ◌++◌, Option, Some, None, Bool, true, false, ◌<◌, ◌≤◌, ◌+◌, ◌-◌, ◌*◌, ◌^◌, ◌==◌, max, min}
+use Rattle.fs_mrt.proofs.Words.{length, refl, sym, subst, ◌∙◌, arith, length-append, append_assoc, ◌⊎◌, inl, inr, if◌then◌else◌, IsSome, find, ⊤}
+use Rattle.fs_mrt.proofs.Words.{nat_tests, big_number, Address, Peer, Placed, all_told, first_part, placed, got, AreHeard, HeardFits, IsHeard, IsSaid}
+use Rattle.fs_mrt.proofs.Words.{is_same, lesser, lowest, number_at, Spoken, moment_behind, record_in, time_of, address_of, Entry, IsEntry, body_text}
+use Rattle.fs_mrt.proofs.Words.{entry_text, entry_told, header_text, heard_as, peer_in, said_of, told, unread}
+use Rattle.fs_mrt.proofs.Written.{record_spells, record_takes}
+use Rattle.fs_mrt.specs.declared.shape.Shape.{Shape as RecordShape}
 use Rattle.std.proofs.lemmas.Bool.{cases_lt}
-use Rattle.fs_base.{specs.{Config.{peer_of}, Language.{IsOctets}, Parts.{window}}, proofs.{Digits.{big_below}, Octets.{octets_drop, octets_left, octets_right, octets_take}}}
+use Rattle.fs_base.specs.{Config.{peer_of}, Language.{IsOctets}, Parts.{window}}
+use Rattle.fs_base.proofs.{Digits.{big_below}, Octets.{octets_drop, octets_left, octets_right, octets_take}}
 use Rattle.fs_input.{specs.Parts.{At, at, parts_from, to_come}, proofs.{Coming.{part_found, shrinks}, PartsOfRecords.{parts_all}}}
 
 -- the peer of an address is configured
@@ -32,7 +39,8 @@ lesser_known all (Some other) number f n = elim (min_either number other) [
   | inr e ↦ subst (λ (k : ℕ). IsSome (peer_of k all)) (sym e) f
 ]
 
-lowest_known : (all front peers : List Peer) (address : Address) (found : Option ℕ) → all ≡ front ++ peers → IfKnown all found → IfKnown all (lowest address found peers)
+lowest_known : (all front peers : List Peer) (address : Address) (found : Option ℕ) → all ≡ front ++ peers → IfKnown all found
+    → IfKnown all (lowest address found peers)
 lowest_known all front [] address found e f = f
 lowest_known all front (peer ∷ peers) address found e f =
     lowest_known all (front ++ peer ∷ []) peers address (if is_same peer.address address then Some (lesser found peer.number) else found)

@@ -1,5 +1,10 @@
 -- What the parts of a body say.
-use Rattle.fs_mrt.{proofs.Words.{◌≡◌, ℕ, List, Bool, true, false, Option, Some, Result, Ok, ◌≤◌, ◌+◌, ◌-◌, ◌*◌, max, take, drop, refl, ap, sym, ◌∙◌, arith, nat_le, if◌then◌else◌, drop-take, nat_tests, big_number, big_from-take, Peer, Counted, Fault, Calls, Reads, whole, and, field, gives, reads_as, reads_gives, reads_then, Spoken, addressed_in, body_in, ends_in, ends_size, front_behind, front_in, front_of, asn_of, time_of, family_of, front_size, states_size, DumpReason, Cut, Front, Head, Family}, specs.declared.shape.Shape.{Shape as RecordShape}}
+use Rattle.fs_mrt.proofs.Words.{◌≡◌, ℕ, List, Bool, true, false, Option, Some, Result, Ok, ◌≤◌, ◌+◌, ◌-◌, ◌*◌, max, take, drop, refl, ap, sym, ◌∙◌}
+use Rattle.fs_mrt.proofs.Words.{arith, nat_le, if◌then◌else◌, drop-take, nat_tests, big_number, big_from-take, Peer, Counted, Fault, Calls, Reads}
+use Rattle.fs_mrt.proofs.Words.{whole, and, field, gives, reads_as, reads_gives, reads_then, Spoken, addressed_in, body_in, ends_in, ends_size}
+use Rattle.fs_mrt.proofs.Words.{front_behind, front_in, front_of, asn_of, time_of, family_of, front_size, states_size, DumpReason, Cut, Front, Head}
+use Rattle.fs_mrt.proofs.Words.{Family}
+use Rattle.fs_mrt.specs.declared.shape.Shape.{Shape as RecordShape}
 
 time_same : (timed : Bool) (seconds n : ℕ) (octets : List ℕ) → 4 ≤ n
     → seconds * 1000000000 + (if timed then big_number 4 (take n octets) * 1000 else 0)

@@ -1,23 +1,29 @@
 -- What is noted of a record takes its octets.
-use Rattle.fs_mrt.proofs.{Words.{◌≡◌, ℕ, List, Option, Some, None, ◌≤◌, ◌+◌, ◌-◌, ◌*◌, ◌++◌, length, length-append, take, arith, got, Takes, whole, field, gives, skips, Peer, front_in, ends_size, states_size, heard_in, head_of, address_of, address_size, number_at, Front, Head}, Written.{FrontSpelled, HeardSpelled, front_spells, heard_spells}}
+use Rattle.fs_mrt.proofs.Words.{◌≡◌, ℕ, List, Option, Some, None, ◌≤◌, ◌+◌, ◌-◌, ◌*◌, ◌++◌, length, length-append, take, arith, got, Takes, whole}
+use Rattle.fs_mrt.proofs.Words.{field, gives, skips, Peer, front_in, ends_size, states_size, heard_in, head_of, address_of, address_size, number_at}
+use Rattle.fs_mrt.proofs.Words.{Front, Head}
+use Rattle.fs_mrt.proofs.Written.{FrontSpelled, HeardSpelled, front_spells, heard_spells}
 use Rattle.std.specs.Prelude.{drop, ⊤}
 use Rattle.std.proofs.lemmas.List.{length-take}
 use Rattle.byteorder.specs.Endian.{big_number}
 use Rattle.fs_base.specs.declared.config.Address.{Address}
 use Rattle.fs_input.{proofs.Spelling.{Part, Spells, and_spells, field_spells, gives_spells, part_spells, skips_spells, weaker_spells}, specs.Coming.{part_in}}
-use Rattle.fs_mrt.specs.{Notes.{note_behind, note_body, note_ends, note_record, spoke}, declared.{notes.{Note.{Note, TheVariants.{Skipped}}, Notes.{Notes}}, shape.Shape.{Shape as RecordShape}}}
+use Rattle.fs_mrt.specs.Notes.{note_behind, note_body, note_ends, note_record, spoke}
+use Rattle.fs_mrt.specs.declared.{notes.{Note.{Note, TheVariants.{Skipped}}, Notes.{Notes}}, shape.Shape.{Shape as RecordShape}}
 
 abbrev Any : {A : Type 0} → A → List ℕ → Type 0
 Any value octets = ⊤
 
-behind_spells : (peers : List Peer) (size : ℕ) (shape : RecordShape) (front : Front) (address : Address) → states_size shape ≤ size → Spells Any (note_behind peers size shape front address)
+behind_spells : (peers : List Peer) (size : ℕ) (shape : RecordShape) (front : Front) (address : Address) → states_size shape ≤ size
+    → Spells Any (note_behind peers size shape front address)
 behind_spells peers size shape front address least =
     and_spells (HeardSpelled 0 size shape (number_at address peers)) Any (heard_in 0 size shape (number_at address peers))
     (λ _. gives (Some (spoke shape front address (number_at address peers))))
     (heard_spells 0 size shape (number_at address peers) least)
     (λ heard part h. gives_spells Any (Some (spoke shape front address (number_at address peers))) tt)
 
-ends_spells : (peers : List Peer) (size : ℕ) (shape : RecordShape) (front : Front) → ends_size shape front.family + states_size shape ≤ size → Spells Any (note_ends peers size shape front)
+ends_spells : (peers : List Peer) (size : ℕ) (shape : RecordShape) (front : Front) → ends_size shape front.family + states_size shape ≤ size
+    → Spells Any (note_ends peers size shape front)
 ends_spells peers size shape front fits =
     and_spells Any Any (field (2 * address_size front.family) (address_of front.family)) (note_behind peers (size - ends_size shape front.family) shape front)
     (field_spells Any (2 * address_size front.family) (address_of front.family) (λ part long. tt))

@@ -1,7 +1,18 @@
 -- Records as they stand in a dump: what is read of one, and that no other octets are.
-use Rattle.fs_mrt.{proofs.Words.{◌≡◌, ℕ, List, [], ◌++◌, Option, Some, None, Bool, true, false, ◌<◌, ◌≤◌, ◌+◌, ◌-◌, ◌*◌, ◌==◌, ◌&&◌, max, length, take, drop, refl, ap, sym, subst, ◌∙◌, arith, append-nil, append_assoc, length-append, if◌then◌else◌, nat_le, drop-drop, drop_at, length-drop, nat_tests, big_number, big_from-append, Address, Peer, Takes, whole, Scanner, and, field, gives, skips, ReadsBack, number_at, Said, Spoken, body_in, change, ends_in, ends_size, family_in, front_behind, front_in, front_of, asn_of, head_of, headed_in, heard_in, message, message_behind, message_in, moment_behind, record_behind, record_in, said_at, said_in, spoken, states_behind, states_in, time_of, address_of, address_size, family_of, front_size, shape_of, states_size, Body, Entry, Header, IsBody, IsEntry, IsHeader, IsSaidBy, body_text, entry_gives, entry_text, entry_told, header_text, heard_as, peer_in, said_of, shape_in, told, unread, DumpReason, Cut, Length, Front, Head, Family}, specs.declared.{fault.DumpReason.TheVariants.{Family as WrongFamily, Message as WrongMessage}, shape.Shape.{Shape as RecordShape}}}
+use Rattle.fs_mrt.proofs.Words.{◌≡◌, ℕ, List, [], ◌++◌, Option, Some, None, Bool, true, false, ◌<◌, ◌≤◌, ◌+◌, ◌-◌, ◌*◌, ◌==◌, ◌&&◌, max, length, take}
+use Rattle.fs_mrt.proofs.Words.{drop, refl, ap, sym, subst, ◌∙◌, arith, append-nil, append_assoc, length-append, if◌then◌else◌, nat_le, drop-drop}
+use Rattle.fs_mrt.proofs.Words.{drop_at, length-drop, nat_tests, big_number, big_from-append, Address, Peer, Takes, whole, Scanner, and, field, gives}
+use Rattle.fs_mrt.proofs.Words.{skips, ReadsBack, number_at, Said, Spoken, body_in, change, ends_in, ends_size, family_in, front_behind, front_in}
+use Rattle.fs_mrt.proofs.Words.{front_of, asn_of, head_of, headed_in, heard_in, message, message_behind, message_in, moment_behind, record_behind}
+use Rattle.fs_mrt.proofs.Words.{record_in, said_at, said_in, spoken, states_behind, states_in, time_of, address_of, address_size, family_of}
+use Rattle.fs_mrt.proofs.Words.{front_size, shape_of, states_size, Body, Entry, Header, IsBody, IsEntry, IsHeader, IsSaidBy, body_text, entry_gives}
+use Rattle.fs_mrt.proofs.Words.{entry_text, entry_told, header_text, heard_as, peer_in, said_of, shape_in, told, unread, DumpReason, Cut, Length}
+use Rattle.fs_mrt.proofs.Words.{Front, Head, Family}
+use Rattle.fs_mrt.specs.declared.{fault.DumpReason.TheVariants.{Family as WrongFamily, Message as WrongMessage}, shape.Shape.{Shape as RecordShape}}
 use Rattle.fs_base.proofs.Bools.{and_parts}
-use Rattle.fs_input.proofs.{Spelling.{Part, Reads, Spells, and_reads, and_spells, cut_at, fails_spells, field_reads, field_spells, gives_reads, gives_spells, map_reads, map_spells, needs_reads, needs_spells, part_spells, skips_reads, skips_spells}, Written.{IsSpelled, spelled_takes, told_text}}
+use Rattle.fs_input.proofs.Spelling.{Part, Reads, Spells, and_reads, and_spells, cut_at, fails_spells, field_reads, field_spells, gives_reads}
+use Rattle.fs_input.proofs.Spelling.{gives_spells, map_reads, map_spells, needs_reads, needs_spells, part_spells, skips_reads, skips_spells}
+use Rattle.fs_input.proofs.Written.{IsSpelled, spelled_takes, told_text}
 
 -- messages and states
 
@@ -118,7 +129,8 @@ pub record FrontSpelled (seconds size : ℕ) (shape : RecordShape) (front : Fron
   pub most : size ≤ 65536
 
 time_front : (timed : Bool) (seconds : ℕ) (micros rest : List ℕ) → length micros ≡ (if timed then 4 else 0)
-    → seconds * 1000000000 + (if timed then big_number 4 (micros ++ rest) * 1000 else 0) ≡ seconds * 1000000000 + (if timed then big_number 4 micros * 1000 else 0)
+    → seconds * 1000000000 + (if timed then big_number 4 (micros ++ rest) * 1000 else 0)
+    ≡ seconds * 1000000000 + (if timed then big_number 4 micros * 1000 else 0)
 time_front true seconds micros rest long =
     ap (λ n. seconds * 1000000000 + n * 1000) (big_from-append 4 micros rest (omega (arith, long)))
 time_front false seconds micros rest long = refl
@@ -131,14 +143,16 @@ behind_front shape micros numbers family m n =
 
 family_spells : (spot start seconds size : ℕ) (shape : RecordShape) (octets part : List ℕ) (family : Option Family)
     → size ≤ 65536 → octets ≡ part → length part ≡ front_size shape + 2 → family_of (big_number 2 (drop (front_size shape) octets)) ≡ family
-    → Spells (λ front more. FrontSpelled seconds size shape front (part ++ more)) (family_in spot start size (time_of shape seconds octets) (asn_of shape octets) shape family)
+    → Spells (λ front more. FrontSpelled seconds size shape front (part ++ more))
+    (family_in spot start size (time_of shape seconds octets) (asn_of shape octets) shape family)
 family_spells spot start seconds size shape octets part None most same long told_so =
     fails_spells (λ front more. FrontSpelled seconds size shape front (part ++ more)) WrongFamily start
 family_spells spot start seconds size shape octets part (Some family) most same long told_so =
     needs_spells (λ front more. FrontSpelled seconds size shape front (part ++ more)) (nat_le (ends_size shape family + states_size shape) size) Length spot
     (gives (front_of (time_of shape seconds octets) (asn_of shape octets) family))
     (λ test.
-    gives_spells (λ front more. FrontSpelled seconds size shape front (part ++ more)) (front_of (time_of shape seconds octets) (asn_of shape octets) family) (found test))
+    gives_spells (λ front more. FrontSpelled seconds size shape front (part ++ more))
+    (front_of (time_of shape seconds octets) (asn_of shape octets) family) (found test))
   where
     found : nat_le (ends_size shape family + states_size shape) size ≡ true
         → FrontSpelled seconds size shape (front_of (time_of shape seconds octets) (asn_of shape octets) family) (part ++ [])
@@ -172,7 +186,8 @@ front_spells spot seconds size shape place =
     and_spells (Part (front_size shape + 2)) (FrontSpelled seconds size shape) (field (front_size shape + 2) whole) (front_behind spot place seconds size shape)
     (part_spells (front_size shape + 2))
     (λ octets part p.
-    family_spells spot (place + front_size shape) seconds size shape octets part (family_of (big_number 2 (drop (front_size shape) octets))) most p.is p.long refl))
+    family_spells spot (place + front_size shape) seconds size shape octets part (family_of (big_number 2 (drop (front_size shape) octets))) most p.is
+    p.long refl))
     place
 
 -- bodies
@@ -190,7 +205,8 @@ record AddressesRead (family : Family) (address : Address) (octets : List ℕ) :
   pub is : address ≡ address_of family octets
   pub long : length octets ≡ 2 * address_size family
 
-body_spelled : (peers : List Peer) (moment seconds size : ℕ) (shape : RecordShape) (front : Front) (first addresses said : List ℕ) (address : Address) (heard : Option Spoken)
+body_spelled : (peers : List Peer) (moment seconds size : ℕ) (shape : RecordShape) (front : Front) (first addresses said : List ℕ) (address : Address)
+    (heard : Option Spoken)
     → FrontSpelled seconds size shape front first → AddressesRead front.family address addresses
     → HeardSpelled (max moment front.time) (size - ends_size shape front.family) shape (number_at address peers) heard said
     → BodySpelled peers moment seconds size shape heard (first ++ (addresses ++ said))
@@ -253,7 +269,8 @@ body_spells peers moment spot seconds size None =
     map_spells (λ n part. length part ≡ size) (InBody peers moment seconds size None) (skips size) (λ _. None)
     (skips_spells (λ n part. length part ≡ size) size (λ part long. long)) (λ n part long. (long, refl))
 body_spells peers moment spot seconds size (Some shape) =
-    and_spells (FrontSpelled seconds size shape) (BodySpelled peers moment seconds size shape) (front_in spot seconds size shape) (ends_in peers moment size shape)
+    and_spells (FrontSpelled seconds size shape) (BodySpelled peers moment seconds size shape) (front_in spot seconds size shape)
+    (ends_in peers moment size shape)
     (front_spells spot seconds size shape) (λ front first f. ends_spells peers moment seconds size shape front first f)
 
 -- heads
@@ -304,7 +321,8 @@ head_is spot h a b c d =
 abbrev pub Given : List Peer → ℕ → Option Spoken × ℕ → List ℕ → Type 0
 Given peers moment = IsSpelled (record_in peers) entry_text (λ moment. IsEntry peers) (entry_gives peers) moment
 
-record_given : (peers : List Peer) (moment : ℕ) (octets : List ℕ) (h : HeaderSpelled octets) (shape : Option RecordShape) (heard : Option Spoken) (body : List ℕ)
+record_given : (peers : List Peer) (moment : ℕ) (octets : List ℕ) (h : HeaderSpelled octets) (shape : Option RecordShape) (heard : Option Spoken)
+    (body : List ℕ)
     → shape_in h.header ≡ shape → InBody peers moment (big_number 4 h.header.seconds) (big_number 4 h.header.size) shape heard body
     → Given peers moment (heard, moment_behind moment heard) (octets ++ body)
 record_given peers moment octets h None heard body known b = record {
@@ -370,11 +388,13 @@ message_read size front rest first behind least size_is place =
     let same : (big_number 2 (drop 16 front) == size) ≡ true = grind (arith, nat_tests, size_is) in
     needs_reads (nat_le 19 size) WrongMessage place (and (field 18 whole) (message_behind size place)) (front ++ rest) (message (front ++ rest)) enough
     (and_reads (field 18 whole) (message_behind size place) front rest front (message (front ++ rest)) (field_reads 18 whole front first)
-    (needs_reads (big_number 2 (drop 16 front) == size) WrongMessage place (and (field (size - 18) whole) (λ more. gives (message (front ++ more)))) rest (message (front ++ rest)) same
+    (needs_reads (big_number 2 (drop 16 front) == size) WrongMessage place (and (field (size - 18) whole) (λ more. gives (message (front ++ more))))
+    rest (message (front ++ rest)) same
     (map_reads (field (size - 18) whole) (λ more. message (front ++ more)) rest rest (field_reads (size - 18) whole rest behind))))
     place
 
-said_read : (is_change : Bool) (size peer : ℕ) (octets : List ℕ) → (if is_change then 4 else 0) ≤ size → length octets ≡ size → IsSaidBy (Some peer) is_change octets
+said_read : (is_change : Bool) (size peer : ℕ) (octets : List ℕ) → (if is_change then 4 else 0) ≤ size → length octets ≡ size
+    → IsSaidBy (Some peer) is_change octets
     → Reads (said_in is_change size) octets (said_of is_change octets)
 said_read true size peer octets least long said = states_read size octets least long
 said_read false size peer octets least long said =
@@ -442,7 +462,8 @@ module _ (peers : List Peer) (moment spot seconds size : ℕ) (shape : RecordSha
   ends_read =
       let later = max moment front.time in
       let rest = size - ends_size shape family in
-      and_reads (field (2 * address_size family) (address_of family)) (said_at peers later rest shape) body.addresses body.said (address_of family body.addresses) tells
+      and_reads (field (2 * address_size family) (address_of family)) (said_at peers later rest shape) body.addresses body.said
+      (address_of family body.addresses) tells
       (field_reads (2 * address_size family) (address_of family) body.addresses is.addresses)
       (heard_read later rest shape (peer_in peers family body) body.said (omega (arith, parts_size, is.states)) (omega (arith, parts_size)) said)
 
@@ -450,12 +471,22 @@ module _ (peers : List Peer) (moment spot seconds size : ℕ) (shape : RecordSha
   body_read =
       and_reads (front_in spot seconds size shape) (ends_in peers moment size shape) first (body.addresses ++ body.said) front tells front_read ends_read
 
-header_read : (peers : List Peer) (moment size : ℕ) (h : Header) (body : List ℕ) (shape : Option RecordShape) (heard : Option Spoken) → IsHeader size h → shape_in h ≡ shape
+header_read : (peers : List Peer) (moment size : ℕ) (h : Header) (body : List ℕ) (shape : Option RecordShape) (heard : Option Spoken)
+    → IsHeader size h → shape_in h ≡ shape
     → ((spot : ℕ) → Reads (body_in peers moment spot (big_number 4 h.seconds) size shape) body heard)
     → Reads (record_in peers moment) (header_text h ++ body) (heard, moment_behind moment heard)
 header_read peers moment size h body shape heard is known read place =
     let long : length (header_text h) ≡ 12 =
-    omega (arith, length-append h.seconds (h.kind ++ (h.subtype ++ h.size)), length-append h.kind (h.subtype ++ h.size), length-append h.subtype h.size, is.seconds, is.kind, is.subtype, is.room) in
+    omega (
+      arith,
+      length-append h.seconds (h.kind ++ (h.subtype ++ h.size)),
+      length-append h.kind (h.subtype ++ h.size),
+      length-append h.subtype h.size,
+      is.seconds,
+      is.kind,
+      is.subtype,
+      is.room,
+    ) in
     let made : Option Spoken → Option Spoken × ℕ = λ found. (found, moment_behind moment found) in
     let same = head_is (place + 8) h is.seconds is.kind is.subtype is.room in
     and_reads (field 12 whole) (record_behind peers moment place) (header_text h) body (header_text h) (made heard) (field_reads 12 whole (header_text h) long)
@@ -465,12 +496,14 @@ header_read peers moment size h body shape heard is known read place =
     (sym (λ i. (is.size_is i, known i))) (read (place + 8)))))
     place
 
-record_reads : (peers : List Peer) (moment : ℕ) (entry : Entry) → IsEntry peers entry → Reads (record_in peers moment) (entry_text entry) (entry_gives peers moment entry)
+record_reads : (peers : List Peer) (moment : ℕ) (entry : Entry) → IsEntry peers entry
+    → Reads (record_in peers moment) (entry_text entry) (entry_gives peers moment entry)
 record_reads peers moment (unread h body) is =
     header_read peers moment (length body) h body None None is.0 is.1
     (λ spot. map_reads (skips (length body)) (λ _. None) body (length body) (skips_reads (length body) body refl))
 record_reads peers moment (told h shape family body) is =
-    header_read peers moment (length (body_text body)) h (body_text body) (Some shape) (entry_told peers moment (told h shape family body)) is.header is.shape_is
+    header_read peers moment (length (body_text body)) h (body_text body) (Some shape) (entry_told peers moment (told h shape family body)) is.header
+    is.shape_is
     (λ spot. body_read peers moment spot (big_number 4 h.seconds) (length (body_text body)) shape family body is.body_is refl is.said_is)
 
 pub reads_back : ReadsBack

@@ -2,7 +2,8 @@
 use Rattle.std.specs.Prelude.{ℕ, List, Option, Some, None, Result, Ok, Err, ◌≡◌, ◌≤◌, ◌++◌, take, ⊤}
 use Rattle.fs_base.specs.declared.config.{Config.{Config}, Peer.{Peer}}
 use Rattle.fs_input.specs.{NextRecord.{Grows as GrowsBy}, Records.{End}, declared.fault.{Ended.{Ended}, Fault.{Fault}}, Coming.{told_to_come}}
-use Rattle.fs_mrt.specs.{Record.{Said, Spoken, change, message, record_in, spoken}, declared.{fault.DumpReason.{DumpReason, TheVariants.{Cut}}, heard.{Heard.{Heard}, What.{What, TheVariants.{Message, Change}}}}}
+use Rattle.fs_mrt.specs.Record.{Said, Spoken, change, message, record_in, spoken}
+use Rattle.fs_mrt.specs.declared.{fault.DumpReason.{DumpReason, TheVariants.{Cut}}, heard.{Heard.{Heard}, What.{What, TheVariants.{Message, Change}}}}
 
 -- what is still to be heard behind so many octets and a record of this moment, and how the dump ends
 abbrev pub heard_to_come : List Peer → (limit taken moment : ℕ) → List ℕ → List Spoken × End DumpReason

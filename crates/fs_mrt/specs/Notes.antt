@@ -4,7 +4,10 @@ use Rattle.std.specs.Prelude.{ℕ, Bool, false, List, Option, Some, None, ◌+�
 use Rattle.byteorder.specs.Endian.{big_number}
 use Rattle.fs_base.specs.declared.{config.{Address.{Address}, Config.{Config}, Peer.{Peer}}}
 use Rattle.fs_input.specs.{Coming.{part_in, told_to_come}, Records.{End}, Scan.{Scanner, and, field, gives, skips}, declared.fault.Ended.{Ended}}
-use Rattle.fs_mrt.specs.{Peers.{is_same, number_at}, Record.{ends_size, front_in, head_of, heard_in}, Shape.{address_of, address_size}, declared.{fault.DumpReason.{DumpReason, TheVariants.{Cut}}, notes.{Note.{Note, TheVariants.{Skipped, Spoke}}, Notes.{Notes}}, «record».{Front.{Front}, Head.{Head}}, shape.Shape.{Shape as RecordShape}}}
+use Rattle.fs_mrt.specs.{Peers.{is_same, number_at}, Record.{ends_size, front_in, head_of, heard_in}, Shape.{address_of, address_size}}
+use Rattle.fs_mrt.specs.declared.fault.DumpReason.{DumpReason, TheVariants.{Cut}}
+use Rattle.fs_mrt.specs.declared.notes.{Note.{Note, TheVariants.{Skipped, Spoke}}, Notes.{Notes}}
+use Rattle.fs_mrt.specs.declared.{«record».{Front.{Front}, Head.{Head}}, shape.Shape.{Shape as RecordShape}}
 
 -- a message, or a change of state, of a peer of this address and AS, which may be configured
 abbrev pub spoke : RecordShape → Front → Address → Option ℕ → Note

@@ -4,7 +4,10 @@ use Rattle.std.specs.Prelude.{ℕ, List, ◌++◌, Option, Some, None, Bool, tru
 use Rattle.byteorder.specs.Endian.{big_number}
 use Rattle.fs_base.specs.declared.{config.{Address.{Address}, Peer.{Peer}}, prefix.Family.{Family}}
 use Rattle.fs_input.specs.{Reads.{whole}, Scan.{Scanner, and, fails, field, gives, needs, skips}}
-use Rattle.fs_mrt.specs.{Peers.{number_at}, Shape.{address_of, address_size, family_of, front_size, shape_of, states_size}, declared.{fault.DumpReason.{DumpReason, TheVariants.{Family as WrongFamily, Length, Message as WrongMessage}}, «record».{Front.{Front}, Head.{Head}}, shape.Shape.{Shape as RecordShape}}}
+use Rattle.fs_mrt.specs.Peers.{number_at}
+use Rattle.fs_mrt.specs.Shape.{address_of, address_size, family_of, front_size, shape_of, states_size}
+use Rattle.fs_mrt.specs.declared.fault.DumpReason.{DumpReason, TheVariants.{Family as WrongFamily, Length, Message as WrongMessage}}
+use Rattle.fs_mrt.specs.declared.{«record».{Front.{Front}, Head.{Head}}, shape.Shape.{Shape as RecordShape}}
 
 -- a message, or the old and the new state
 pub data Said : Type 0 where

@@ -2,7 +2,9 @@
 use Rattle.std.specs.Prelude.{ℕ, List, ◌++◌, Option, Some, None, Bool, true, false, ◌≡◌, ◌≤◌, ◌+◌, ◌*◌, drop, length, max, if◌then◌else◌, ⊤}
 use Rattle.byteorder.specs.Endian.{big_number}
 use Rattle.fs_base.specs.declared.{config.Peer.{Peer}, prefix.Family.{Family}}
-use Rattle.fs_mrt.specs.{Peers.{number_at}, Record.{Said, Spoken, change, message, moment_behind, spoken, time_of}, Shape.{address_of, address_size, family_of, shape_of, states_size}, declared.shape.Shape.{Shape as RecordShape}}
+use Rattle.fs_mrt.specs.Peers.{number_at}
+use Rattle.fs_mrt.specs.Record.{Said, Spoken, change, message, moment_behind, spoken, time_of}
+use Rattle.fs_mrt.specs.{Shape.{address_of, address_size, family_of, shape_of, states_size}, declared.shape.Shape.{Shape as RecordShape}}
 
 -- seconds, type, subtype, and the length of the body
 pub record Header : Type 0 where

@@ -2,7 +2,9 @@
 ghost use Rattle.std.specs.{Prelude.{◌≡◌, ◌≤◌, ◌<◌, ◌+◌, ◌*◌, ◌-◌, [], ℕ, IfOk, IfSome, length, max}, Option.{option_map}};
 ghost use Rattle.byteorder.specs.Endian.{big_number};
 ghost use Rattle.fs_input.specs.{Reads.{Scans}, Scan.{field}};
-ghost use Rattle.fs_mrt.specs.{Dump.{IsWithin, spoken_from}, Record.{asn_of, body_in, ends_size, family_in, front_in, heard_in, time_of}, Shape.{address_of, address_size, front_size, states_size}, declared.fault.DumpReason.TheVariants.{Cut}};
+ghost use Rattle.fs_mrt.specs.Dump.{IsWithin, spoken_from};
+ghost use Rattle.fs_mrt.specs.Record.{asn_of, body_in, ends_size, family_in, front_in, heard_in, time_of};
+ghost use Rattle.fs_mrt.specs.{Shape.{address_of, address_size, front_size, states_size}, declared.fault.DumpReason.TheVariants.{Cut}};
 
 use crate::fault::{DumpFault, DumpReason};
 use crate::fields::{take_part, take_said};

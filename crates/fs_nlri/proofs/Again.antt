@@ -1,18 +1,28 @@
 -- The canonical octets of what is in normal form spell it.
-use Rattle.fs_nlri.proofs.{Words.{◌≡◌, ℕ, suc, ◌+◌, ◌-◌, ◌*◌, ◌/◌, ◌%◌, ◌^◌, ◌<◌, ◌≤◌, ◌==◌, ◌↔◌, Bool, true, false, List, [], ◌∷◌, ◌++◌, Option, Some, None, Contains, length, nat_lt, if◌then◌else◌, refl, ap, sym, subst, ◌∙◌, arith, inl, inr, list_any, mod-eq_of_lt, mul_assoc, pow-add, shl-shr, append-nil, false≢true, and_parts, eqb-true, ltb-true, or_cases, big_number, length-bytes_high_first, big_number-reads_back, Family, V4, cleared, IsOctets, block_of, block_below, octets_right, width_code, AreAllowed, canonical_spells, Form, V4Form, V6Form, ListForm, form_of, all_allowed, Body, V4Body, V6Body, ListBody, Part, Ruled, octets_for, first_bits, SpellsBody, SpellsAt, Spells, IsLength, IsFrame, IsNormalBody, IsNormalAt, AreNormal, IsRule, first_octets, canonical_body, canonical_value, canonical_length, canonical_frame}, Writable.{high_octets_fit}, NormalForm.{kept_value}, Frames.{one_rule, length_small}}
+use Rattle.fs_nlri.proofs.Words.{◌≡◌, ℕ, suc, ◌+◌, ◌-◌, ◌*◌, ◌/◌, ◌%◌, ◌^◌, ◌<◌, ◌≤◌, ◌==◌, ◌↔◌, Bool, true, false, List, [], ◌∷◌, ◌++◌, Option, Some}
+use Rattle.fs_nlri.proofs.Words.{None, Contains, length, nat_lt, if◌then◌else◌, refl, ap, sym, subst, ◌∙◌, arith, inl, inr, list_any, mod-eq_of_lt}
+use Rattle.fs_nlri.proofs.Words.{mul_assoc, pow-add, shl-shr, append-nil, false≢true, and_parts, eqb-true, ltb-true, or_cases, big_number}
+use Rattle.fs_nlri.proofs.Words.{length-bytes_high_first, big_number-reads_back, Family, V4, cleared, IsOctets, block_of, block_below, octets_right}
+use Rattle.fs_nlri.proofs.Words.{width_code, AreAllowed, canonical_spells, Form, V4Form, V6Form, ListForm, form_of, all_allowed, Body, V4Body, V6Body}
+use Rattle.fs_nlri.proofs.Words.{ListBody, Part, Ruled, octets_for, first_bits, SpellsBody, SpellsAt, Spells, IsLength, IsFrame, IsNormalBody}
+use Rattle.fs_nlri.proofs.Words.{IsNormalAt, AreNormal, IsRule, first_octets, canonical_body, canonical_value, canonical_length, canonical_frame}
+use Rattle.fs_nlri.proofs.{Writable.{high_octets_fit}, NormalForm.{kept_value}, Frames.{one_rule, length_small}}
 
 -- a number whose low bits are 0 loses nothing where fewer low bits are dropped and put back
 put_back : (j k bits : ℕ) → k ≤ j → bits ≡ bits / 2 ^ j * 2 ^ j → bits / 2 ^ k * 2 ^ k ≡ bits
 put_back j k bits le whole =
     let parts : j ≡ (j - k) + k = omega arith in
     let split : bits ≡ bits / 2 ^ j * 2 ^ (j - k) * 2 ^ k =
-    whole ∙ ap (λ (n : ℕ). bits / 2 ^ j * 2 ^ n) parts ∙ ap (λ (n : ℕ). bits / 2 ^ j * n) (pow-add 2 (j - k) k) ∙ sym (mul_assoc (bits / 2 ^ j) (2 ^ (j - k)) (2 ^ k)) in
+    whole ∙ ap (λ (n : ℕ). bits / 2 ^ j * 2 ^ n) parts ∙ ap (λ (n : ℕ). bits / 2 ^ j * n) (pow-add 2 (j - k) k)
+    ∙ sym (mul_assoc (bits / 2 ^ j) (2 ^ (j - k)) (2 ^ k)) in
     ap (λ (n : ℕ). n / 2 ^ k * 2 ^ k) split ∙ ap (λ (n : ℕ). n * 2 ^ k) (shl-shr (bits / 2 ^ j * 2 ^ (j - k)) k) ∙ sym split
 
 -- the octets of a number's first bits give these bits back
-pub octets_back : (width count bits : ℕ) → count ≤ width → 8 * octets_for count ≤ width → bits ≡ cleared width count bits → first_bits width count (first_octets width count bits) ≡ bits
+pub octets_back : (width count bits : ℕ) → count ≤ width → 8 * octets_for count ≤ width → bits ≡ cleared width count bits
+    → first_bits width count (first_octets width count bits) ≡ bits
 octets_back width count bits short room clear =
-    let size : length (first_octets width count bits) ≡ octets_for count = length-bytes_high_first (octets_for count) (bits / 2 ^ (width - 8 * octets_for count)) in
+    let size : length (first_octets width count bits) ≡ octets_for count =
+    length-bytes_high_first (octets_for count) (bits / 2 ^ (width - 8 * octets_for count)) in
     let below : bits < 2 ^ width = block_below width count bits (block_of width count bits short clear) in
     let fits = high_octets_fit bits width (octets_for count) room below in
     let number : big_number (octets_for count) (first_octets width count bits) ≡ bits / 2 ^ (width - 8 * octets_for count) =
@@ -81,8 +91,14 @@ again_at (Some form) body normal = again_body form body normal
 -- the canonical value of components in normal form spells them
 pub again_value : (family : Family) (last : ℕ) (parts : List Part) → AreNormal family last parts → Spells family last (canonical_value parts) parts
 again_value family last [] normal = refl
-again_value family last (part ∷ parts) normal =
-    (canonical_body part.body, canonical_value parts, refl, normal.0, again_at (form_of family part.kind) part.body normal.1, again_value family part.kind parts normal.2)
+again_value family last (part ∷ parts) normal = (
+  canonical_body part.body,
+  canonical_value parts,
+  refl,
+  normal.0,
+  again_at (form_of family part.kind) part.body normal.1,
+  again_value family part.kind parts normal.2,
+)
 
 length_again : (len : ℕ) → len ≤ 4095 → IsLength (canonical_length len) len
 length_again len small = by (nat_lt len 240) refl where
@@ -115,7 +131,8 @@ frame_is_rule frame rule are is =
     let most : length is.value ≤ 4095 = length_small is.head (length is.value) is.size in
     record { normal = kept.normal; fits = omega arith }
 
-pub canonical_tells : (one other : Ruled) (frame also : List ℕ) → one.family ≡ other.family → IsOctets frame → IsOctets also → IsFrame frame one → IsFrame also other → (one ≡ other) ↔ (canonical_frame one ≡ canonical_frame other)
+pub canonical_tells : (one other : Ruled) (frame also : List ℕ) → one.family ≡ other.family → IsOctets frame → IsOctets also → IsFrame frame one
+    → IsFrame also other → (one ≡ other) ↔ (canonical_frame one ≡ canonical_frame other)
 canonical_tells one other frame also families are too is and_is = (
   (λ same. ap canonical_frame same),
   (λ same. canonical_is_own one other (frame_is_rule frame one are is) families

@@ -1,4 +1,8 @@
-use Rattle.fs_nlri.proofs.Words.{◌≡◌, ℕ, zero, suc, ◌+◌, ◌-◌, ◌<◌, ◌≤◌, inl, inr, List, [], ◌∷◌, ◌++◌, Option, length, take, drop, replicate, refl, ap, sym, subst, ◌∙◌, arith, length-append, append-nil, length-replicate, take_all, take-append-drop, All-replicate, V4, IsOctets, Begins, NoFront, IsCut, IsFirstFault, append_same, octets_cons, Kind, text, no_list, same_list, Form, V4Form, V6Form, ListForm, kept_bits, Body, V4Body, V6Body, ListBody, SpellsV4, SpellsV6, SpellsList, SpellsBody, IsRange, octets_for, first_bits, IsBody}
+use Rattle.fs_nlri.proofs.Words.{◌≡◌, ℕ, zero, suc, ◌+◌, ◌-◌, ◌<◌, ◌≤◌, inl, inr, List, [], ◌∷◌, ◌++◌, Option, length, take, drop, replicate, refl}
+use Rattle.fs_nlri.proofs.Words.{ap, sym, subst, ◌∙◌, arith, length-append, append-nil, length-replicate, take_all, take-append-drop, All-replicate}
+use Rattle.fs_nlri.proofs.Words.{V4, IsOctets, Begins, NoFront, IsCut, IsFirstFault, append_same, octets_cons, Kind, text, no_list, same_list, Form}
+use Rattle.fs_nlri.proofs.Words.{V4Form, V6Form, ListForm, kept_bits, Body, V4Body, V6Body, ListBody, SpellsV4, SpellsV6, SpellsList, SpellsBody}
+use Rattle.fs_nlri.proofs.Words.{IsRange, octets_for, first_bits, IsBody}
 
 -- What stands behind a type: of each form one body at most stands at the front, and what reading finds says what is wrong.
 
@@ -54,7 +58,8 @@ same_v6 a b s t p q one other same =
       rest = found.1;
     }
 
-same_lists : (kind : Kind) (widths : List ℕ) (bits : Option ℕ) (a b s t : List ℕ) (p q : Body) → SpellsList kind widths bits a p → SpellsList kind widths bits b q → a ++ s ≡ b ++ t → SameBody a b p q s t
+same_lists : (kind : Kind) (widths : List ℕ) (bits : Option ℕ) (a b s t : List ℕ) (p q : Body) → SpellsList kind widths bits a p
+    → SpellsList kind widths bits b q → a ++ s ≡ b ++ t → SameBody a b p q s t
 same_lists kind widths bits a b s t p q one other same =
     let found = same_list kind widths a b s t one.pairs other.pairs one.spells other.spells same in
     record {
@@ -86,7 +91,8 @@ Opens form len Opening = (octets more tail : List ℕ) → IsBody form octets �
 no_body : (form : Form) (len : ℕ) (tail : List ℕ) (Opening : List ℕ → Type 0) → Opens form len Opening → (Opening tail → ⊥) → NoFront (IsBody form) (len ∷ tail)
 no_body form len tail Opening opens none n whole = none (opens (take n (len ∷ tail)) (drop n (len ∷ tail)) tail whole (take-append-drop n (len ∷ tail)))
 
-bad_length : (form : Form) (len : ℕ) (tail : List ℕ) (Opening : List ℕ → Type 0) → Opens form len Opening → ((rest : List ℕ) → Opening rest → ⊥) → Begins (IsBody form) []
+bad_length : (form : Form) (len : ℕ) (tail : List ℕ) (Opening : List ℕ → Type 0) → Opens form len Opening → ((rest : List ℕ) → Opening rest → ⊥)
+    → Begins (IsBody form) []
     → NoFront (IsBody form) (len ∷ tail) × IsFirstFault (IsBody form) (len ∷ tail) 0 × ◌≡◌ {A = ℕ} 0 0
 bad_length form len tail Opening opens none begins = (
   no_body form len tail Opening opens (none tail),
@@ -102,8 +108,14 @@ cut_body : (form : Form) (octets tail : List ℕ) (size place : ℕ) → place �
     → ((more : List ℕ) → length (tail ++ more) ≡ size → IsBody form (octets ++ more)) → NoFront (IsBody form) octets × IsCut (IsBody form) octets place
 cut_body form octets tail size place here few none whole =
     let count = size - length tail in
-    let filled : length (tail ++ replicate count 0) ≡ size = length-append tail (replicate count 0) ∙ omega (arith, length-replicate {A = ℕ} count 0) in
-    (none, record { at_end = here; begins = record { more = replicate count 0; are_octets = zeros_are_octets count; whole = whole (replicate count 0) filled } })
+    let filled : length (tail ++ replicate count 0) ≡ size = length-append tail (replicate count 0) ∙ omega (arith, length-replicate {A = ℕ} count 0) in (
+      none,
+      record {
+        at_end = here;
+        begins =
+            record { more = replicate count 0; are_octets = zeros_are_octets count; whole = whole (replicate count 0) filled };
+      },
+    )
 
 -- IPv4
 
@@ -129,7 +141,11 @@ IsV4 = IsBody V4Form
 
 v4_is : (len : ℕ) (address : List ℕ) → len ≤ 32 → length address ≡ octets_for len → IsV4 (len ∷ address)
 v4_is len address short size =
-    record { body = V4Body V4 len (first_bits 32 len address); spells = record { len = len; address = address; split = refl; short = short; size = size; says = refl } }
+    record {
+      body = V4Body V4 len (first_bits 32 len address);
+      spells =
+          record { len = len; address = address; split = refl; short = short; size = size; says = refl };
+    }
 
 v4_begins_empty : Begins IsV4 []
 v4_begins_empty = record { more = 0 ∷ []; are_octets = zeros_are_octets 1; whole = v4_is 0 [] (omega arith) refl }
@@ -138,7 +154,8 @@ pub v4_empty : NoFront IsV4 [] × IsCut IsV4 [] 0
 v4_empty = empty_cut V4Form v4_begins_empty
 
 pub v4_length : (len : ℕ) (tail : List ℕ) → 32 < len → NoFront IsV4 (len ∷ tail) × IsFirstFault IsV4 (len ∷ tail) 0 × ◌≡◌ {A = ℕ} 0 0
-v4_length len tail long = bad_length V4Form len tail (V4Opening len) (v4_opening len) (λ rest given. let short : len ≤ 32 = given.short in omega arith) v4_begins_empty
+v4_length len tail long = bad_length V4Form len tail (V4Opening len) (v4_opening len) (λ rest given. let short : len ≤ 32 = given.short in
+    omega arith) v4_begins_empty
 
 pub v4_cut : (len : ℕ) (tail : List ℕ) → len ≤ 32 → length tail < octets_for len → NoFront IsV4 (len ∷ tail) × IsCut IsV4 (len ∷ tail) (1 + length tail)
 v4_cut len tail short few =
@@ -205,7 +222,8 @@ pub v6_empty : NoFront IsV6 [] × IsCut IsV6 [] 0
 v6_empty = empty_cut V6Form v6_begins_empty
 
 pub v6_length : (len : ℕ) (tail : List ℕ) → 128 < len → NoFront IsV6 (len ∷ tail) × IsFirstFault IsV6 (len ∷ tail) 0 × ◌≡◌ {A = ℕ} 0 0
-v6_length len tail long = bad_length V6Form len tail (V6Opening len) (v6_opening len) (λ rest given. let short : len ≤ 128 = given.short in omega arith) v6_begins_empty
+v6_length len tail long = bad_length V6Form len tail (V6Opening len) (v6_opening len) (λ rest given. let short : len ≤ 128 = given.short in
+    omega arith) v6_begins_empty
 
 pub v6_one : (len : ℕ) → len ≤ 128 → NoFront IsV6 (len ∷ []) × IsCut IsV6 (len ∷ []) 1
 v6_one len short = (
@@ -223,7 +241,8 @@ at_offset len offset pattern given =
       subst (λ (p : List ℕ). octets_for (len - offset) ≤ length p) patterns (subst (λ (o : ℕ). octets_for (len - o) ≤ length given.pattern) offsets given.room),
     )
 
-pub v6_offset : (len offset : ℕ) (tail : List ℕ) → len ≤ 128 → (IsRange len offset → ⊥) → NoFront IsV6 (len ∷ offset ∷ tail) × IsFirstFault IsV6 (len ∷ offset ∷ tail) 1 × ◌≡◌ {A = ℕ} 1 1
+pub v6_offset : (len offset : ℕ) (tail : List ℕ) → len ≤ 128 → (IsRange len offset → ⊥)
+    → NoFront IsV6 (len ∷ offset ∷ tail) × IsFirstFault IsV6 (len ∷ offset ∷ tail) 1 × ◌≡◌ {A = ℕ} 1 1
 v6_offset len offset tail short bad = (
   no_body V6Form len (offset ∷ tail) (V6Opening len) (v6_opening len) (λ given. bad (at_offset len offset tail given).0),
   record {
@@ -235,7 +254,8 @@ v6_offset len offset tail short bad = (
   refl,
 )
 
-pub v6_cut : (len offset : ℕ) (tail : List ℕ) → IsRange len offset → length tail < octets_for (len - offset) → NoFront IsV6 (len ∷ offset ∷ tail) × IsCut IsV6 (len ∷ offset ∷ tail) (2 + length tail)
+pub v6_cut : (len offset : ℕ) (tail : List ℕ) → IsRange len offset → length tail < octets_for (len - offset)
+    → NoFront IsV6 (len ∷ offset ∷ tail) × IsCut IsV6 (len ∷ offset ∷ tail) (2 + length tail)
 v6_cut len offset tail range few =
     cut_body V6Form (len ∷ offset ∷ tail) tail (octets_for (len - offset)) (2 + length tail) (omega arith) few
     (no_body V6Form len (offset ∷ tail) (V6Opening len) (v6_opening len)

@@ -1,5 +1,9 @@
 -- The destination of a rule: types rise, so a component of type 1 stands first; and its prefix is made as any prefix is.
-use Rattle.fs_nlri.proofs.{Words.{◌≡◌, ℕ, ◌≤◌, ◌<◌, ◌==◌, Bool, true, false, cond, if◌then◌else◌, List, [], ◌∷◌, Option, Some, None, option_map, min, refl, ap, sym, subst, ◌∙◌, arith, eqb-true, Family, V4, V6, width_of, cleared, slice_get, Component, part_of, parts_of, form_of, Body, V4Body, V6Body, ListBody, Part, Ruled, IsRule, IsNormalAt, AreNormal, shown, destination_body, destination_part, destination_in, destination_of, destination_prefix, IsSoundBody}, Sound.{sound_part}}
+use Rattle.fs_nlri.proofs.Words.{◌≡◌, ℕ, ◌≤◌, ◌<◌, ◌==◌, Bool, true, false, cond, if◌then◌else◌, List, [], ◌∷◌, Option, Some, None, option_map, min}
+use Rattle.fs_nlri.proofs.Words.{refl, ap, sym, subst, ◌∙◌, arith, eqb-true, Family, V4, V6, width_of, cleared, slice_get, Component, part_of}
+use Rattle.fs_nlri.proofs.Words.{parts_of, form_of, Body, V4Body, V6Body, ListBody, Part, Ruled, IsRule, IsNormalAt, AreNormal, shown}
+use Rattle.fs_nlri.proofs.Words.{destination_body, destination_part, destination_in, destination_of, destination_prefix, IsSoundBody}
+use Rattle.fs_nlri.proofs.Sound.{sound_part}
 use Rattle.std.proofs.lemmas.Bool.Decides.{nat_tests}
 use Rattle.fs_base.specs.Prefix.{prefix_of}
 
@@ -19,7 +23,8 @@ pub destination_first : (family : Family) (part : Part) (parts : List Part) → 
     → destination_in (part ∷ parts) ≡ destination_part part
 destination_first family part parts normal =
     let risen : 0 < part.kind = normal.0 in
-    ap (λ (rest : Option (Family × ℕ × ℕ)). if part.kind == 1 then destination_body part.body else rest) (no_destination family part.kind parts (omega arith) normal.2)
+    ap (λ (rest : Option (Family × ℕ × ℕ)). if part.kind == 1 then destination_body part.body else rest)
+    (no_destination family part.kind parts (omega arith) normal.2)
 
 -- the first component of a rule: it is in normal form, and its destination is the rule's
 pub record IsFirst (parts : List Part) (part : Part) : Type 0 where

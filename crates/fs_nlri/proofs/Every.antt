@@ -1,5 +1,15 @@
 -- Each octet list has an outcome: as a value, as a frame, and as a field of frames.
-use Rattle.fs_nlri.proofs.{Words.{◌≡◌, ℕ, zero, suc, ◌+◌, ◌-◌, ◌*◌, ◌<◌, ◌≤◌, List, [], ◌∷◌, ◌++◌, Option, Some, None, IsSome, Result, false, Ok, Err, Any, get_or, length, take, drop, refl, ap, sym, subst, ◌∙◌, arith, ◌⊎◌, inl, inr, append_assoc, length-append, length-drop, take-append-drop, take_rest, length-take-le, cases_lt, cases_eq, both_ways, Family, V4, V6, Kind, Reason, Cut, NoType, Order, PrefixLength, Offset, Width, Length, Bad, Form, V4Form, V6Form, ListForm, form_of, forms, kept_bits, Body, V4Body, V6Body, ListBody, Part, part, Ruled, ruled, SpellsV4, SpellsV6, SpellsBody, SpellsAt, Spells, IsRange, IsLength, IsFrame, octets_for, first_bits, IsValueBad, IsOpen, IsBodyBad, IsFrameOutcome, IsFieldOutcome}, Bodies.{v4_empty, v4_length, v4_cut, v6_empty, v6_length, v6_one, v6_offset, v6_cut}, BodyReaders.{list_bad}, Fronts.{front_more}, ValueSteps.{HasRead, start, finished, no_type, not_above, bad_at}, Frames.{same_head, frame_found, frame_bad}}
+use Rattle.fs_nlri.proofs.Words.{◌≡◌, ℕ, zero, suc, ◌+◌, ◌-◌, ◌*◌, ◌<◌, ◌≤◌, List, [], ◌∷◌, ◌++◌, Option, Some, None, IsSome, Result, false, Ok, Err}
+use Rattle.fs_nlri.proofs.Words.{Any, get_or, length, take, drop, refl, ap, sym, subst, ◌∙◌, arith, ◌⊎◌, inl, inr, append_assoc, length-append}
+use Rattle.fs_nlri.proofs.Words.{length-drop, take-append-drop, take_rest, length-take-le, cases_lt, cases_eq, both_ways, Family, V4, V6, Kind}
+use Rattle.fs_nlri.proofs.Words.{Reason, Cut, NoType, Order, PrefixLength, Offset, Width, Length, Bad, Form, V4Form, V6Form, ListForm, form_of, forms}
+use Rattle.fs_nlri.proofs.Words.{kept_bits, Body, V4Body, V6Body, ListBody, Part, part, Ruled, ruled, SpellsV4, SpellsV6, SpellsBody, SpellsAt}
+use Rattle.fs_nlri.proofs.Words.{Spells, IsRange, IsLength, IsFrame, octets_for, first_bits, IsValueBad, IsOpen, IsBodyBad, IsFrameOutcome}
+use Rattle.fs_nlri.proofs.Words.{IsFieldOutcome}
+use Rattle.fs_nlri.proofs.Bodies.{v4_empty, v4_length, v4_cut, v6_empty, v6_length, v6_one, v6_offset, v6_cut}
+use Rattle.fs_nlri.proofs.{BodyReaders.{list_bad}, Fronts.{front_more}}
+use Rattle.fs_nlri.proofs.ValueSteps.{HasRead, start, finished, no_type, not_above, bad_at}
+use Rattle.fs_nlri.proofs.Frames.{same_head, frame_found, frame_bad}
 use Rattle.fs_ops.{specs.declared.fault.OpsFault.TheVariants.{Cut as ListCut, Width as ListWidth, Memory as ListMemory}, proofs.Every.{every, IsOutcome}}
 
 -- Bodies
@@ -12,7 +22,8 @@ pub record BodyOutcome (form : Form) (octets : List ℕ) : Type 0 where
   pub result : Result (Body × ℕ) (Reason × ℕ)
   pub holds : IsBodyOutcome form octets result
 
-pub v4_whole : (len : ℕ) (tail : List ℕ) → len ≤ 32 → octets_for len ≤ length tail → SpellsV4 (take (1 + octets_for len) (len ∷ tail)) (V4Body V4 len (first_bits 32 len (take (octets_for len) tail)))
+pub v4_whole : (len : ℕ) (tail : List ℕ) → len ≤ 32 → octets_for len ≤ length tail
+    → SpellsV4 (take (1 + octets_for len) (len ∷ tail)) (V4Body V4 len (first_bits 32 len (take (octets_for len) tail)))
 v4_whole len tail short room = record {
   len = len;
   address = take (octets_for len) tail;
@@ -47,7 +58,9 @@ range_or_not len offset short = elim (cases_lt offset len) [
   ]
 ]
 
-pub v6_whole : (len offset : ℕ) (tail : List ℕ) → IsRange len offset → octets_for (len - offset) ≤ length tail → SpellsV6 (take (2 + octets_for (len - offset)) (len ∷ offset ∷ tail)) (V6Body len offset (first_bits 128 (len - offset) (take (octets_for (len - offset)) tail)))
+pub v6_whole : (len offset : ℕ) (tail : List ℕ) → IsRange len offset → octets_for (len - offset) ≤ length tail
+    → SpellsV6 (take (2 + octets_for (len - offset)) (len ∷ offset ∷ tail))
+    (V6Body len offset (first_bits 128 (len - offset) (take (octets_for (len - offset)) tail)))
 v6_whole len offset tail range room = record {
   len = len;
   offset = offset;
@@ -78,7 +91,8 @@ every_v6 (len ∷ tail) = elim (cases_lt 128 len) [
       ]
     ]
 
-every_list : (kind : Kind) (widths : List ℕ) (bits : Option ℕ) (octets : List ℕ) → Any (λ code. code < 4) widths → BodyOutcome (ListForm kind widths bits) octets
+every_list : (kind : Kind) (widths : List ℕ) (bits : Option ℕ) (octets : List ℕ) → Any (λ code. code < 4) widths
+    → BodyOutcome (ListForm kind widths bits) octets
 every_list kind widths bits octets some =
     let found = every kind widths octets some in
     elim found.result as (λ result. IsOutcome kind widths octets result → BodyOutcome (ListForm kind widths bits) octets) [
@@ -115,8 +129,53 @@ zero_allowed : (widths : List ℕ) → Any (λ code. code < 4) (0 ∷ widths)
 zero_allowed widths = (0, 0, omega arith, refl, omega arith)
 
 pub all_allow : (family : Family) → AllAllow (forms family)
-all_allow V4 = (tt, (tt, (zero_allowed (1 ∷ 2 ∷ 3 ∷ []), (zero_allowed (1 ∷ 2 ∷ 3 ∷ []), (zero_allowed (1 ∷ 2 ∷ 3 ∷ []), (zero_allowed (1 ∷ 2 ∷ 3 ∷ []), (zero_allowed (1 ∷ 2 ∷ 3 ∷ []), (zero_allowed (1 ∷ 2 ∷ 3 ∷ []), (zero_allowed (1 ∷ []), (zero_allowed (1 ∷ 2 ∷ 3 ∷ []), (zero_allowed [], (zero_allowed [], tt))))))))))))
-all_allow V6 = (tt, (tt, (zero_allowed (1 ∷ 2 ∷ 3 ∷ []), (zero_allowed (1 ∷ 2 ∷ 3 ∷ []), (zero_allowed (1 ∷ 2 ∷ 3 ∷ []), (zero_allowed (1 ∷ 2 ∷ 3 ∷ []), (zero_allowed (1 ∷ 2 ∷ 3 ∷ []), (zero_allowed (1 ∷ 2 ∷ 3 ∷ []), (zero_allowed (1 ∷ []), (zero_allowed (1 ∷ 2 ∷ 3 ∷ []), (zero_allowed [], (zero_allowed [], (zero_allowed (1 ∷ 2 ∷ 3 ∷ []), tt)))))))))))))
+all_allow V4 = (
+  tt,
+  (
+    tt,
+    (
+      zero_allowed (1 ∷ 2 ∷ 3 ∷ []),
+      (
+        zero_allowed (1 ∷ 2 ∷ 3 ∷ []),
+        (
+          zero_allowed (1 ∷ 2 ∷ 3 ∷ []),
+          (
+            zero_allowed (1 ∷ 2 ∷ 3 ∷ []),
+            (
+              zero_allowed (1 ∷ 2 ∷ 3 ∷ []),
+              (zero_allowed (1 ∷ 2 ∷ 3 ∷ []), (zero_allowed (1 ∷ []), (zero_allowed (1 ∷ 2 ∷ 3 ∷ []), (zero_allowed [], (zero_allowed [], tt))))),
+            ),
+          ),
+        ),
+      ),
+    ),
+  ),
+)
+all_allow V6 = (
+  tt,
+  (
+    tt,
+    (
+      zero_allowed (1 ∷ 2 ∷ 3 ∷ []),
+      (
+        zero_allowed (1 ∷ 2 ∷ 3 ∷ []),
+        (
+          zero_allowed (1 ∷ 2 ∷ 3 ∷ []),
+          (
+            zero_allowed (1 ∷ 2 ∷ 3 ∷ []),
+            (
+              zero_allowed (1 ∷ 2 ∷ 3 ∷ []),
+              (
+                zero_allowed (1 ∷ 2 ∷ 3 ∷ []),
+                (zero_allowed (1 ∷ []), (zero_allowed (1 ∷ 2 ∷ 3 ∷ []), (zero_allowed [], (zero_allowed [], (zero_allowed (1 ∷ 2 ∷ 3 ∷ []), tt))))),
+              ),
+            ),
+          ),
+        ),
+      ),
+    ),
+  ),
+)
 
 every_body : (form : Form) (octets : List ℕ) → AllowsSome form → BodyOutcome form octets
 every_body V4Form octets some = every_v4 octets
@@ -126,10 +185,13 @@ every_body (ListForm kind widths bits) octets some = every_list kind widths bits
 -- Values
 
 -- one more component
-pub more_part : (family : Family) (octets : List ℕ) (kind : ℕ) (tail : List ℕ) (last : ℕ) (parts : List Part) (form : Form) (taken : ℕ) (body : Body) → HasRead family octets (kind ∷ tail) last parts → last < kind → form_of family kind ≡ Some form → SpellsBody form (take taken tail) body → HasRead family octets (drop taken tail) kind (parts ++ part kind body ∷ [])
+pub more_part : (family : Family) (octets : List ℕ) (kind : ℕ) (tail : List ℕ) (last : ℕ) (parts : List Part) (form : Form) (taken : ℕ) (body : Body)
+    → HasRead family octets (kind ∷ tail) last parts → last < kind → form_of family kind ≡ Some form → SpellsBody form (take taken tail) body
+    → HasRead family octets (drop taken tail) kind (parts ++ part kind body ∷ [])
 more_part family octets kind tail last parts form taken body read rises is spells = record {
   front = read.front ++ kind ∷ take taken tail;
-  had = front_more family 0 last read.front (take taken tail) parts (part kind body) read.had rises (subst (λ (at : Option Form). SpellsAt at (take taken tail) body) (sym is) spells);
+  had = front_more family 0 last read.front (take taken tail) parts (part kind body) read.had rises
+      (subst (λ (at : Option Form). SpellsAt at (take taken tail) body) (sym is) spells);
   split =
       read.split
       ∙ ap (λ (l : List ℕ). read.front ++ kind ∷ l) (sym (take-append-drop taken tail))
@@ -175,7 +237,8 @@ every_value family octets = by (suc (length octets)) octets 0 [] (start family o
           let body = every_body found.0 tail (allows_at (forms family) kind found.0 (all_allow family) found.1) in
           elim body.result as (λ result. IsBodyOutcome found.0 tail result → ValueOutcome family octets) [
             | Ok got ↦ λ holds.
-                by fuel (drop got.1 tail) kind (parts ++ part kind got.0 ∷ []) (more_part family octets kind tail last parts found.0 got.1 got.0 read rises found.1 holds.1)
+                by fuel (drop got.1 tail) kind (parts ++ part kind got.0 ∷ [])
+                (more_part family octets kind tail last parts found.0 got.1 got.0 read rises found.1 holds.1)
                 (omega (arith, length-drop got.1 tail))
             | Err bad ↦ λ holds. record {
               result = Err (bad.0, length octets - length (kind ∷ tail) + 1 + bad.1);
@@ -238,9 +301,11 @@ every_length (a ∷ tail) = elim (cases_lt a 240) [
     ]
 
 -- a length that passes the end of the octets
-pub passes_end : (octets : List ℕ) (head len : ℕ) → IsLength (take head octets) len → length (take (length octets - head) (drop head octets)) < len → IsOpen octets
+pub passes_end : (octets : List ℕ) (head len : ℕ) → IsLength (take head octets) len → length (take (length octets - head) (drop head octets)) < len
+    → IsOpen octets
 passes_end octets head len is few own value rest own_is split =
-    let found = same_head own (take head octets) (length value) len (value ++ rest) (drop head octets) own_is is (sym split ∙ sym (take-append-drop head octets)) in
+    let found = same_head own (take head octets) (length value) len (value ++ rest) (drop head octets) own_is is (sym split
+    ∙ sym (take-append-drop head octets)) in
     let left : length (value ++ rest) ≡ length (take (length octets - head) (drop head octets)) = ap length (found.rest ∙ sym (take_rest octets head)) in
     let size : length value ≡ len = found.size in
     absurd (omega (arith, length-append value rest, left, size, few))
@@ -303,7 +368,8 @@ frame_before_bad family frame rest rule bad families is holds = record {
 }
 
 -- a frame before a field
-pub next_frame : (family : Family) (frame rest : List ℕ) (rule : Ruled) → rule.family ≡ family → IsFrame frame rule → FieldOutcome family rest → FieldOutcome family (frame ++ rest)
+pub next_frame : (family : Family) (frame rest : List ℕ) (rule : Ruled) → rule.family ≡ family → IsFrame frame rule → FieldOutcome family rest
+    → FieldOutcome family (frame ++ rest)
 next_frame family frame rest rule families is later =
     elim later.result as (λ result. IsFieldOutcome family rest result → FieldOutcome family (frame ++ rest)) [
       | Ok rules ↦ λ holds. record { result = Ok (rule ∷ rules); holds = (frame, rest, refl, families, is, holds) }

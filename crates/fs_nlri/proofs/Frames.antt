@@ -1,12 +1,19 @@
 -- Frames: one at most stands at the front of octets, and what its reader has found says what it answers.
-use Rattle.fs_nlri.proofs.{Words.{◌≡◌, ℕ, ◌+◌, ◌-◌, ◌*◌, ◌<◌, ◌≤◌, List, [], ◌∷◌, ◌++◌, Result, Ok, Err, IfOk, IfErr, length, take, drop, refl, ap, sym, subst, ◌∙◌, arith, append_assoc, append-nil, take-append-drop, take_rest, length-take-le, Family, IsOctets, fault_whole, append_same, octets_left, octets_right, octets_take, octets_drop, Reason, Cut, NoType, Order, PrefixLength, Offset, Width, Length, NlriFault, Bad, Memory, Part, Ruled, ruled, Spells, IsValue, IsLength, IsFrame, IsValueBad, IsValueFault, IsBadFrame, IsFrameBad, IsFrameFault, ReadsAs, IsRule, canonical_value}, Fronts.{whole_front, front_behind}, NormalForm.{kept_value}}
+use Rattle.fs_nlri.proofs.Words.{◌≡◌, ℕ, ◌+◌, ◌-◌, ◌*◌, ◌<◌, ◌≤◌, List, [], ◌∷◌, ◌++◌, Result, Ok, Err, IfOk, IfErr, length, take, drop, refl, ap}
+use Rattle.fs_nlri.proofs.Words.{sym, subst, ◌∙◌, arith, append_assoc, append-nil, take-append-drop, take_rest, length-take-le, Family, IsOctets}
+use Rattle.fs_nlri.proofs.Words.{fault_whole, append_same, octets_left, octets_right, octets_take, octets_drop, Reason, Cut, NoType, Order}
+use Rattle.fs_nlri.proofs.Words.{PrefixLength, Offset, Width, Length, NlriFault, Bad, Memory, Part, Ruled, ruled, Spells, IsValue, IsLength, IsFrame}
+use Rattle.fs_nlri.proofs.Words.{IsValueBad, IsValueFault, IsBadFrame, IsFrameBad, IsFrameFault, ReadsAs, IsRule, canonical_value}
+use Rattle.fs_nlri.proofs.{Fronts.{whole_front, front_behind}, NormalForm.{kept_value}}
 use Rattle.std.proofs.Math.Seq.{take-add}
 
 -- a value spells one list of components at most
-pub one_value : (family : Family) (last : ℕ) (octets : List ℕ) (one other : List Part) → Spells family last octets one → Spells family last octets other → one ≡ other
+pub one_value : (family : Family) (last : ℕ) (octets : List ℕ) (one other : List Part) → Spells family last octets one
+    → Spells family last octets other → one ≡ other
 one_value family last octets one other spells also =
     let front = whole_front family last octets one spells in
-    let found = front_behind family last front.end octets [] one other front.had (subst (λ (l : List ℕ). Spells family last l other) (sym (append-nil octets)) also) in
+    let found = front_behind family last front.end octets [] one other front.had
+    (subst (λ (l : List ℕ). Spells family last l other) (sym (append-nil octets)) also) in
     let none : found.after ≡ [] = nothing_left front.end found.after found.spells in
     sym (found.split ∙ ap (λ (l : List Part). one ++ l) none ∙ append-nil one)
   where
@@ -57,7 +64,8 @@ pub record SameFrame (one other v w s t : List ℕ) : Type 0 where
   pub value : v ≡ w
   pub rest : s ≡ t
 
-pub same_frame : (one other v w s t : List ℕ) → IsLength one (length v) → IsLength other (length w) → one ++ (v ++ s) ≡ other ++ (w ++ t) → SameFrame one other v w s t
+pub same_frame : (one other v w s t : List ℕ) → IsLength one (length v) → IsLength other (length w) → one ++ (v ++ s) ≡ other ++ (w ++ t)
+    → SameFrame one other v w s t
 same_frame one other v w s t is also same =
     let heads = same_head one other (length v) (length w) (v ++ s) (w ++ t) is also same in
     let values = append_same v s w t heads.size heads.rest in
@@ -75,7 +83,8 @@ length_small (a ∷ b ∷ []) len is =
 length_small (a ∷ b ∷ c ∷ more) len is = absurd is
 
 -- what spells a rule is no faulty value
-pub bad_no_value : (family : Family) (octets : List ℕ) (reason : Reason) (place : ℕ) → IsOctets octets → IsValueBad family octets reason place → IsValue family 0 octets → ⊥
+pub bad_no_value : (family : Family) (octets : List ℕ) (reason : Reason) (place : ℕ) → IsOctets octets → IsValueBad family octets reason place
+    → IsValue family 0 octets → ⊥
 bad_no_value family octets Cut place are bad value = bad.1 value
 bad_no_value family octets NoType place are bad value = fault_whole (IsValue family 0) octets place are bad.0 value
 bad_no_value family octets Order place are bad value = fault_whole (IsValue family 0) octets place are bad.0 value
@@ -90,10 +99,13 @@ bad_no_value family octets Length place are bad value = bad
 behind_head : (octets : List ℕ) (head len : ℕ) → take len (take (length octets - head) (drop head octets)) ≡ take len (drop head octets)
 behind_head octets head len = ap (λ (l : List ℕ). take len l) (take_rest octets head)
 
-value_length : (octets : List ℕ) (head len : ℕ) → len ≤ length (take (length octets - head) (drop head octets)) → length (take len (take (length octets - head) (drop head octets))) ≡ len
+value_length : (octets : List ℕ) (head len : ℕ) → len ≤ length (take (length octets - head) (drop head octets))
+    → length (take len (take (length octets - head) (drop head octets))) ≡ len
 value_length octets head len room = length-take-le len (take (length octets - head) (drop head octets)) room
 
-pub frame_found : (family : Family) (octets : List ℕ) (head len : ℕ) (parts : List Part) → IsLength (take head octets) len → len ≤ length (take (length octets - head) (drop head octets)) → Spells family 0 (take len (take (length octets - head) (drop head octets))) parts → IsFrame (take (head + len) octets) (ruled family parts)
+pub frame_found : (family : Family) (octets : List ℕ) (head len : ℕ) (parts : List Part) → IsLength (take head octets) len
+    → len ≤ length (take (length octets - head) (drop head octets)) → Spells family 0 (take len (take (length octets - head) (drop head octets))) parts
+    → IsFrame (take (head + len) octets) (ruled family parts)
 frame_found family octets head len parts is room spells = record {
   head = take head octets;
   value = take len (take (length octets - head) (drop head octets));
@@ -102,7 +114,9 @@ frame_found family octets head len parts is room spells = record {
   spells = spells;
 }
 
-pub frame_bad : (family : Family) (octets : List ℕ) (head len : ℕ) (fault : NlriFault) → IsLength (take head octets) len → len ≤ length (take (length octets - head) (drop head octets)) → IsValueFault family (take len (take (length octets - head) (drop head octets))) fault → IsFrameFault family octets fault
+pub frame_bad : (family : Family) (octets : List ℕ) (head len : ℕ) (fault : NlriFault) → IsLength (take head octets) len
+    → len ≤ length (take (length octets - head) (drop head octets))
+    → IsValueFault family (take len (take (length octets - head) (drop head octets))) fault → IsFrameFault family octets fault
 frame_bad family octets head len Memory is room bad = tt
 frame_bad family octets head len (Bad reason place) is room bad = by_reason reason bad where
   behind : List ℕ
@@ -122,10 +136,14 @@ frame_bad family octets head len (Bad reason place) is room bad = by_reason reas
   by_reason Length bad = absurd bad
   by_reason reason bad = bad_frame reason bad
 
-pub frame_rule : (family : Family) (octets : List ℕ) (head len : ℕ) (parts : List Part) → IsOctets octets → IsLength (take head octets) len → len ≤ length (take (length octets - head) (drop head octets)) → Spells family 0 (take len (take (length octets - head) (drop head octets))) parts → IsRule (ruled family parts)
+pub frame_rule : (family : Family) (octets : List ℕ) (head len : ℕ) (parts : List Part) → IsOctets octets → IsLength (take head octets) len
+    → len ≤ length (take (length octets - head) (drop head octets)) → Spells family 0 (take len (take (length octets - head) (drop head octets))) parts
+    → IsRule (ruled family parts)
 frame_rule family octets head len parts are is room spells =
     let value = take len (take (length octets - head) (drop head octets)) in
-    let kept = kept_value family 0 value parts (octets_take len (take (length octets - head) (drop head octets)) (octets_take (length octets - head) (drop head octets) (octets_drop head octets are))) spells in
+    let kept = kept_value family 0 value parts
+    (octets_take len (take (length octets - head) (drop head octets))
+    (octets_take (length octets - head) (drop head octets) (octets_drop head octets are))) spells in
     let small : len ≤ 4095 = length_small (take head octets) len is in
     let size : length (canonical_value parts) ≡ len = kept.size ∙ value_length octets head len room in
     record { normal = kept.normal; fits = omega (arith, small, size) }
@@ -144,13 +162,15 @@ pub record SameRule (one other : Ruled) (f g s t : List ℕ) : Type 0 where
   pub rest : s ≡ t
 
 -- one rule at most of a family has a frame at the front
-pub one_rule : (one other : Ruled) (f g s t : List ℕ) → one.family ≡ other.family → IsFrame f one → IsFrame g other → f ++ s ≡ g ++ t → SameRule one other f g s t
+pub one_rule : (one other : Ruled) (f g s t : List ℕ) → one.family ≡ other.family → IsFrame f one → IsFrame g other → f ++ s ≡ g ++ t
+    → SameRule one other f g s t
 one_rule one other f g s t families is also same =
     let found = same_frame is.head also.head is.value also.value s t is.size also.size
     (sym (frame_text f s is.head is.value is.split) ∙ same ∙ frame_text g t also.head also.value also.split) in
     let values : also.value ≡ is.value = sym found.value in
     let spells : Spells one.family 0 is.value other.parts =
-    subst (λ (family : Family). Spells family 0 is.value other.parts) (sym families) (subst (λ (l : List ℕ). Spells other.family 0 l other.parts) values also.spells) in
+    subst (λ (family : Family). Spells family 0 is.value other.parts) (sym families)
+    (subst (λ (l : List ℕ). Spells other.family 0 l other.parts) values also.spells) in
     record {
       rule = same_ruled one other families (one_value one.family 0 is.value one.parts other.parts is.spells spells);
       frame = is.split ∙ ap (λ (l : List ℕ). l ++ is.value) found.head ∙ ap (λ (l : List ℕ). also.head ++ l) found.value ∙ sym also.split;
@@ -158,7 +178,8 @@ one_rule one other f g s t families is also same =
     }
 
 -- octets that begin with a frame of a rule have no fault
-pub frame_no_fault : (family : Family) (octets frame rest : List ℕ) (rule : Ruled) (reason : Reason) (place : ℕ) → IsOctets octets → octets ≡ frame ++ rest → rule.family ≡ family → IsFrame frame rule → IsFrameBad family octets reason place → ⊥
+pub frame_no_fault : (family : Family) (octets frame rest : List ℕ) (rule : Ruled) (reason : Reason) (place : ℕ) → IsOctets octets
+    → octets ≡ frame ++ rest → rule.family ≡ family → IsFrame frame rule → IsFrameBad family octets reason place → ⊥
 frame_no_fault family octets frame rest rule reason place are split families is bad = by_reason reason bad where
   text : octets ≡ is.head ++ (is.value ++ rest)
   text = split ∙ frame_text frame rest is.head is.value is.split
@@ -169,7 +190,8 @@ frame_no_fault family octets frame rest rule reason place are split families is 
       let inside : IsOctets bad.value = octets_left bad.value bad.rest (octets_right bad.head (bad.value ++ bad.rest) (subst IsOctets bad.split are)) in
       bad_no_value family bad.value reason place inside bad.bad (record {
         parts = rule.parts;
-        spells = subst (λ (own : Family). Spells own 0 bad.value rule.parts) families (subst (λ (l : List ℕ). Spells rule.family 0 l rule.parts) (sym found.value) is.spells);
+        spells = subst (λ (own : Family). Spells own 0 bad.value rule.parts) families
+            (subst (λ (l : List ℕ). Spells rule.family 0 l rule.parts) (sym found.value) is.spells);
       })
 
   by_reason : (reason : Reason) → IsFrameBad family octets reason place → ⊥
@@ -180,13 +202,18 @@ abbrev pub IsRead : Family → List ℕ → Result (Ruled × ℕ) NlriFault → 
 IsRead family octets (Ok read) = (read.1 ≤ length octets) × (read.0.family ≡ family) × IsFrame (take read.1 octets) read.0
 IsRead family octets (Err fault) = IsFrameFault family octets fault
 
-pub is_read : (family : Family) (octets : List ℕ) (result : Result (Ruled × ℕ) NlriFault) → IfOk result (λ read. read.1 ≤ length octets) → IfOk result (λ read. read.0.family ≡ family) → IfOk result (λ read. IsFrame (take read.1 octets) read.0) → IfErr result (IsFrameFault family octets) → IsRead family octets result
+pub is_read : (family : Family) (octets : List ℕ) (result : Result (Ruled × ℕ) NlriFault) → IfOk result (λ read. read.1 ≤ length octets)
+    → IfOk result (λ read. read.0.family ≡ family) → IfOk result (λ read. IsFrame (take read.1 octets) read.0)
+    → IfErr result (IsFrameFault family octets) → IsRead family octets result
 is_read family octets (Ok read) taken same found fault = (taken, same, found)
 is_read family octets (Err bad) taken same found fault = fault
 
-pub only_read : (family : Family) (octets : List ℕ) (result : Result (Ruled × ℕ) NlriFault) → IsOctets octets → IsRead family octets result → (frame rest : List ℕ) (rule : Ruled) → octets ≡ frame ++ rest → rule.family ≡ family → IsFrame frame rule → ReadsAs frame rule result
+pub only_read : (family : Family) (octets : List ℕ) (result : Result (Ruled × ℕ) NlriFault) → IsOctets octets → IsRead family octets result
+    → (frame rest : List ℕ) (rule : Ruled) → octets ≡ frame ++ rest → rule.family ≡ family → IsFrame frame rule → ReadsAs frame rule result
 only_read family octets (Ok read) are is frame rest rule split families whole =
-    let found = one_rule read.0 rule (take read.1 octets) frame (drop read.1 octets) rest (is.1 ∙ sym families) is.2 whole (take-append-drop read.1 octets ∙ split) in
+    let found = one_rule read.0 rule (take read.1 octets) frame (drop read.1 octets) rest (is.1
+    ∙ sym families) is.2 whole (take-append-drop read.1 octets ∙ split) in
     (found.rule, sym (length-take-le read.1 octets is.0) ∙ ap length found.frame)
 only_read family octets (Err Memory) are is frame rest rule split families whole = tt
-only_read family octets (Err (Bad reason place)) are is frame rest rule split families whole = frame_no_fault family octets frame rest rule reason place are split families whole is
+only_read family octets (Err (Bad reason place)) are is frame rest rule split families whole =
+    frame_no_fault family octets frame rest rule reason place are split families whole is

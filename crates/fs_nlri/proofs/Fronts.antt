@@ -1,5 +1,7 @@
 -- Whole components at the front of a value, and how a value goes on behind them.
-use Rattle.fs_nlri.proofs.{Words.{◌≡◌, ℕ, ◌<◌, List, [], ◌∷◌, ◌++◌, Option, Some, None, refl, ap, sym, subst, ◌∙◌, append_assoc, append-nil, Family, Leads, Form, form_of, Body, Part, part, SpellsAt, Spells, IsValue}, Bodies.{SameBody, same_body}}
+use Rattle.fs_nlri.proofs.Words.{◌≡◌, ℕ, ◌<◌, List, [], ◌∷◌, ◌++◌, Option, Some, None, refl, ap, sym, subst, ◌∙◌, append_assoc, append-nil, Family}
+use Rattle.fs_nlri.proofs.Words.{Leads, Form, form_of, Body, Part, part, SpellsAt, Spells, IsValue}
+use Rattle.fs_nlri.proofs.Bodies.{SameBody, same_body}
 
 -- the octets spell these components, whose types rise from above `last` to `end`
 abbrev pub SpellsFront : Family → (last end : ℕ) → List ℕ → List Part → Type 0
@@ -8,7 +10,8 @@ SpellsFront family last end octets (part ∷ parts) =
     (body : List ℕ) × (rest : List ℕ) × (octets ≡ part.kind ∷ (body ++ rest)) × (last < part.kind)
     × SpellsAt (form_of family part.kind) body part.body × SpellsFront family part.kind end rest parts
 
-pub front_then : (family : Family) (last end : ℕ) (front rest : List ℕ) (before parts : List Part) → SpellsFront family last end front before → Spells family end rest parts → Spells family last (front ++ rest) (before ++ parts)
+pub front_then : (family : Family) (last end : ℕ) (front rest : List ℕ) (before parts : List Part) → SpellsFront family last end front before
+    → Spells family end rest parts → Spells family last (front ++ rest) (before ++ parts)
 front_then family last end front rest [] parts had spells =
     subst (λ (from : ℕ). Spells family from (front ++ rest) parts) (sym had.1)
     (subst (λ (octets : List ℕ). Spells family end (octets ++ rest) parts) (sym had.0) spells)
@@ -22,7 +25,8 @@ front_then family last end front rest (part ∷ before) parts (body, tail, split
 )
 
 -- whole components alone are a value
-pub front_whole : (family : Family) (last end : ℕ) (front : List ℕ) (before : List Part) → SpellsFront family last end front before → Spells family last front before
+pub front_whole : (family : Family) (last end : ℕ) (front : List ℕ) (before : List Part) → SpellsFront family last end front before
+    → Spells family last front before
 front_whole family last end front before had =
     subst (λ (octets : List ℕ). Spells family last octets before) (append-nil front)
     (subst (λ (parts : List Part). Spells family last (front ++ []) parts) (append-nil before) (front_then family last end front [] before [] had refl))
@@ -39,7 +43,9 @@ whole_front family last octets (part ∷ parts) (body, rest, split, rises, spell
     record { end = found.end; had = (body, rest, split, rises, spelled, found.had) }
 
 -- one more component
-pub front_more : (family : Family) (last end : ℕ) (front body : List ℕ) (before : List Part) (next : Part) → SpellsFront family last end front before → end < next.kind → SpellsAt (form_of family next.kind) body next.body → SpellsFront family last next.kind (front ++ next.kind ∷ body) (before ++ next ∷ [])
+pub front_more : (family : Family) (last end : ℕ) (front body : List ℕ) (before : List Part) (next : Part) → SpellsFront family last end front before
+    → end < next.kind → SpellsAt (form_of family next.kind) body next.body
+    → SpellsFront family last next.kind (front ++ next.kind ∷ body) (before ++ next ∷ [])
 front_more family last end front body [] next had rises spelled = (
   body,
   [],
@@ -69,7 +75,8 @@ record SamePart (p q : Part) (s t : List ℕ) : Type 0 where
   parts : p ≡ q
   rest : s ≡ t
 
-first_part : (family : Family) (p q : Part) (a b s t : List ℕ) → SpellsAt (form_of family p.kind) a p.body → SpellsAt (form_of family q.kind) b q.body → p.kind ∷ (a ++ s) ≡ q.kind ∷ (b ++ t) → SamePart p q s t
+first_part : (family : Family) (p q : Part) (a b s t : List ℕ) → SpellsAt (form_of family p.kind) a p.body → SpellsAt (form_of family q.kind) b q.body
+    → p.kind ∷ (a ++ s) ≡ q.kind ∷ (b ++ t) → SamePart p q s t
 first_part family p q a b s t one other same =
     let kinds : p.kind ≡ q.kind = cc in
     let tails : a ++ s ≡ b ++ t = cc in
@@ -83,7 +90,8 @@ pub record Behind (family : Family) (end : ℕ) (rest : List ℕ) (before parts 
   pub spells : Spells family end rest after
   pub split : parts ≡ before ++ after
 
-pub front_behind : (family : Family) (last end : ℕ) (front rest : List ℕ) (before parts : List Part) → SpellsFront family last end front before → Spells family last (front ++ rest) parts → Behind family end rest before parts
+pub front_behind : (family : Family) (last end : ℕ) (front rest : List ℕ) (before parts : List Part) → SpellsFront family last end front before
+    → Spells family last (front ++ rest) parts → Behind family end rest before parts
 front_behind family last end front rest [] parts had spells =
     record {
       after = parts;
@@ -93,7 +101,14 @@ front_behind family last end front rest [] parts had spells =
 front_behind family last end front rest (part ∷ before) [] (body, tail, split, rises, spelled, had) spells =
     let opened : part.kind ∷ ((body ++ tail) ++ rest) ≡ [] = sym (ap (λ (octets : List ℕ). octets ++ rest) split) ∙ spells in
     cc
-front_behind family last end front rest (part ∷ before) (next ∷ parts) (body, tail, split, rises, spelled, had) (own, more, own_split, own_rises, own_spelled, spells) =
+front_behind family last end front rest (part ∷ before) (next ∷ parts) (body, tail, split, rises, spelled, had) (
+  own,
+  more,
+  own_split,
+  own_rises,
+  own_spelled,
+  spells,
+) =
     let opened : part.kind ∷ (body ++ (tail ++ rest)) ≡ next.kind ∷ (own ++ more) =
     sym (ap (λ (octets : List ℕ). octets ++ rest) split ∙ ap (λ (octets : List ℕ). part.kind ∷ octets) (append_assoc body tail rest)) ∙ own_split in
     let first = first_part family part next body own (tail ++ rest) more spelled own_spelled opened in
@@ -108,7 +123,8 @@ front_behind family last end front rest (part ∷ before) (next ∷ parts) (body
     }
 
 -- so what stands behind a front goes on as the value does
-pub front_leads : (family : Family) (last end : ℕ) (front : List ℕ) (before : List Part) → SpellsFront family last end front before → Leads (IsValue family end) (IsValue family last) front
+pub front_leads : (family : Family) (last end : ℕ) (front : List ℕ) (before : List Part) → SpellsFront family last end front before
+    → Leads (IsValue family end) (IsValue family last) front
 front_leads family last end front before had = record {
   there = λ rest begins. record {
     more = begins.more;

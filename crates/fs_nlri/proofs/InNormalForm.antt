@@ -1,4 +1,8 @@
-use Rattle.fs_nlri.proofs.Words.{◌≡◌, ℕ, ◌==◌, true, if◌then◌else◌, ◌&&◌, ◌||◌, List, [], ◌∷◌, Option, Some, None, Ok, Err, refl, ap, sym, ◌∙◌, inl, inr, length, nat_le, nat_lt, and_from, lt-ltb, le-leb, eq-eqb, or_first, or_second, Family, V4, V6, TooLong, Form, V4Form, V6Form, ListForm, form_of, Body, V4Body, V6Body, ListBody, Part, part, ruled, IsRange, IsNormalBody, IsNormalAt, AreNormal, canonical_value, is_range, body_given, given_at, part_given, all_given, rises, cleared_body, cleared_at, cleared_part, cleared_parts, rule_of}
+use Rattle.fs_nlri.proofs.Words.{◌≡◌, ℕ, ◌==◌, true, if◌then◌else◌, ◌&&◌, ◌||◌, List, [], ◌∷◌, Option, Some, None, Ok, Err, refl, ap, sym, ◌∙◌, inl}
+use Rattle.fs_nlri.proofs.Words.{inr, length, nat_le, nat_lt, and_from, lt-ltb, le-leb, eq-eqb, or_first, or_second, Family, V4, V6, TooLong, Form}
+use Rattle.fs_nlri.proofs.Words.{V4Form, V6Form, ListForm, form_of, Body, V4Body, V6Body, ListBody, Part, part, ruled, IsRange, IsNormalBody}
+use Rattle.fs_nlri.proofs.Words.{IsNormalAt, AreNormal, canonical_value, is_range, body_given, given_at, part_given, all_given, rises, cleared_body}
+use Rattle.fs_nlri.proofs.Words.{cleared_at, cleared_part, cleared_parts, rule_of}
 
 -- Components that are in normal form are the family's, by rising types, and clearing changes nothing in them.
 
@@ -7,7 +11,8 @@ range_is len offset range =
     and_from (nat_le len 128) (nat_lt offset len || ((len == 0) && (offset == 0))) (le-leb len 128 range.0)
     (elim range.1 [
       | inl below ↦ or_first (nat_lt offset len) ((len == 0) && (offset == 0)) (lt-ltb offset len below)
-      | inr zeros ↦ or_second (nat_lt offset len) ((len == 0) && (offset == 0)) (and_from (len == 0) (offset == 0) (eq-eqb len 0 zeros.0) (eq-eqb offset 0 zeros.1))
+      | inr zeros ↦ or_second (nat_lt offset len) ((len == 0) && (offset == 0))
+          (and_from (len == 0) (offset == 0) (eq-eqb len 0 zeros.0) (eq-eqb offset 0 zeros.1))
     ])
 
 pub given_body : (form : Form) (body : Body) → IsNormalBody form body → body_given form body ≡ true

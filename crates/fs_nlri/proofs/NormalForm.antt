@@ -1,5 +1,11 @@
 -- What octets spell is in normal form, and its canonical octets are as many as those.
-use Rattle.fs_nlri.proofs.Words.{◌≡◌, ℕ, zero, suc, ◌+◌, ◌-◌, ◌*◌, ◌/◌, ◌^◌, ◌≤◌, ◌==◌, true, List, [], ◌∷◌, ◌++◌, Option, Some, None, length, Contains, bit_and, refl, ap, sym, subst, ◌∙◌, arith, length-append, list_any, and_self, and_assoc, eq-eqb, and_from, big_number, length-bytes_high_first, or_second, Family, IsOctets, cleared_again, octets_left, octets_right, octets_tail, Kind, width_code, IsNormal, kept_is_normal, spelled_normal, AreAllowed, spelled_allowed, canonical_size, kept_allowed, kept_size, Form, V4Form, V6Form, ListForm, form_of, kept_bits, all_allowed, Body, Part, SpellsV4, SpellsV6, SpellsList, SpellsBody, SpellsAt, Spells, octets_for, first_bits, IsNormalBody, IsNormalAt, AreNormal, first_octets, canonical_body, canonical_value}
+use Rattle.fs_nlri.proofs.Words.{◌≡◌, ℕ, zero, suc, ◌+◌, ◌-◌, ◌*◌, ◌/◌, ◌^◌, ◌≤◌, ◌==◌, true, List, [], ◌∷◌, ◌++◌, Option, Some, None, length}
+use Rattle.fs_nlri.proofs.Words.{Contains, bit_and, refl, ap, sym, subst, ◌∙◌, arith, length-append, list_any, and_self, and_assoc, eq-eqb, and_from}
+use Rattle.fs_nlri.proofs.Words.{big_number, length-bytes_high_first, or_second, Family, IsOctets, cleared_again, octets_left, octets_right}
+use Rattle.fs_nlri.proofs.Words.{octets_tail, Kind, width_code, IsNormal, kept_is_normal, spelled_normal, AreAllowed, spelled_allowed, canonical_size}
+use Rattle.fs_nlri.proofs.Words.{kept_allowed, kept_size, Form, V4Form, V6Form, ListForm, form_of, kept_bits, all_allowed, Body, Part, SpellsV4}
+use Rattle.fs_nlri.proofs.Words.{SpellsV6, SpellsList, SpellsBody, SpellsAt, Spells, octets_for, first_bits, IsNormalBody, IsNormalAt, AreNormal}
+use Rattle.fs_nlri.proofs.Words.{first_octets, canonical_body, canonical_value}
 use Rattle.fs_ops.specs.OperatorList.{canonical as canonical_pairs}
 
 -- a width that the list contains passes the test
@@ -13,7 +19,8 @@ has_width (width ∷ widths) code (suc k, inside, is) =
 pub passes_widths : (widths : List ℕ) (pairs : List (ℕ × ℕ)) → AreAllowed widths pairs → all_allowed widths pairs ≡ true
 passes_widths widths [] allowed = refl
 passes_widths widths (pair ∷ pairs) allowed =
-    and_from (list_any (λ width. width == width_code pair.0) widths) (all_allowed widths pairs) (has_width widths (width_code pair.0) allowed.0) (passes_widths widths pairs allowed.1)
+    and_from (list_any (λ width. width == width_code pair.0) widths) (all_allowed widths pairs) (has_width widths (width_code pair.0) allowed.0)
+    (passes_widths widths pairs allowed.1)
 
 -- clearing once more changes nothing
 pub kept_again : (bits : Option ℕ) (pairs : List (ℕ × ℕ)) → kept_bits bits pairs ≡ kept_bits bits (kept_bits bits pairs)
@@ -47,7 +54,12 @@ pub record IsKept (form : Form) (octets : List ℕ) (body : Body) : Type 0 where
 kept_v4 : (octets : List ℕ) (body : Body) → SpellsV4 octets body → IsKept V4Form octets body
 kept_v4 octets body spells =
     subst (λ (b : Body). IsKept V4Form octets b) (sym spells.says) (record {
-      normal = (refl, spells.short, cleared_again 32 spells.len (big_number (length spells.address) spells.address * 2 ^ (32 - 8 * length spells.address)) spells.short);
+      normal = (
+        refl,
+        spells.short,
+        cleared_again 32 spells.len
+            (big_number (length spells.address) spells.address * 2 ^ (32 - 8 * length spells.address)) spells.short,
+      );
       size =
           ap (λ (n : ℕ). suc n) (length-first_octets 32 spells.len (first_bits 32 spells.len spells.address) ∙ sym spells.size)
           ∙ sym (ap length spells.split);
@@ -65,7 +77,8 @@ kept_v6 octets body spells =
           ∙ sym (ap length spells.split);
     })
 
-kept_list : (kind : Kind) (widths : List ℕ) (bits : Option ℕ) (octets : List ℕ) (body : Body) → IsOctets octets → SpellsList kind widths bits octets body → IsKept (ListForm kind widths bits) octets body
+kept_list : (kind : Kind) (widths : List ℕ) (bits : Option ℕ) (octets : List ℕ) (body : Body) → IsOctets octets
+    → SpellsList kind widths bits octets body → IsKept (ListForm kind widths bits) octets body
 kept_list kind widths bits octets body are spells =
     subst (λ (b : Body). IsKept (ListForm kind widths bits) octets b) (sym spells.says) (record {
       normal = (
@@ -81,7 +94,8 @@ kept_body V4Form octets body are spells = kept_v4 octets body spells
 kept_body V6Form octets body are spells = kept_v6 octets body spells
 kept_body (ListForm kind widths bits) octets body are spells = kept_list kind widths bits octets body are spells
 
-kept_at : (form : Option Form) (octets : List ℕ) (body : Body) → IsOctets octets → SpellsAt form octets body → IsNormalAt form body × (length (canonical_body body) ≡ length octets)
+kept_at : (form : Option Form) (octets : List ℕ) (body : Body) → IsOctets octets → SpellsAt form octets body
+    → IsNormalAt form body × (length (canonical_body body) ≡ length octets)
 kept_at None octets body are spells = absurd spells
 kept_at (Some form) octets body are spells = let kept = kept_body form octets body are spells in (kept.normal, kept.size)
 
@@ -90,7 +104,8 @@ pub record AreKept (family : Family) (last : ℕ) (octets : List ℕ) (parts : L
   pub normal : AreNormal family last parts
   pub size : length (canonical_value parts) ≡ length octets
 
-pub kept_value : (family : Family) (last : ℕ) (octets : List ℕ) (parts : List Part) → IsOctets octets → Spells family last octets parts → AreKept family last octets parts
+pub kept_value : (family : Family) (last : ℕ) (octets : List ℕ) (parts : List Part) → IsOctets octets → Spells family last octets parts
+    → AreKept family last octets parts
 kept_value family last octets [] are spells = record { normal = tt; size = sym (ap length spells) }
 kept_value family last octets (part ∷ parts) are (body, rest, split, rises, spelled, spells) =
     let opened : IsOctets (body ++ rest) = octets_tail part.kind (body ++ rest) (subst IsOctets split are) in

@@ -1,5 +1,13 @@
 -- No octet list has two outcomes.
-use Rattle.fs_nlri.proofs.{Words.{◌≡◌, ℕ, suc, ◌+◌, ◌<◌, ◌≤◌, List, [], ◌∷◌, ◌++◌, Option, Some, None, IsSome, IsNone, Result, Ok, Err, length, take, drop, refl, ap, sym, subst, ◌∙◌, arith, ◌⊎◌, inl, inr, append_assoc, length-append, length-take, true, false, ◌==◌, if◌then◌else◌, append-nil, take-append-drop, take_at, take_all, take-take, length-take-le, cases_order, both_ways, Family, IsOctets, NoFront, IsCut, IsFirstFault, one_fault, cut_or_fault, append_same, overlap, octets_left, octets_right, Kind, text, behind, no_list, Reason, Cut, NoType, Order, PrefixLength, Offset, Width, Length, Form, V4Form, V6Form, ListForm, form_of, Part, Ruled, Spells, IsValue, IsFrame, IsTypePlace, IsBodyPlace, IsRole, HasRole, IsValueBad, IsOpen, IsBadFrame, IsFrameBad, IsBody, Frames, IsFrameOutcome, IsFieldOutcome}, Bodies.{no_empty_body}, Fronts.{whole_front, front_behind}, ValueFaults.{opening}, Frames.{one_rule, same_frame, frame_no_fault}, Every.{frame_some}}
+use Rattle.fs_nlri.proofs.Words.{◌≡◌, ℕ, suc, ◌+◌, ◌<◌, ◌≤◌, List, [], ◌∷◌, ◌++◌, Option, Some, None, IsSome, IsNone, Result, Ok, Err, length, take}
+use Rattle.fs_nlri.proofs.Words.{drop, refl, ap, sym, subst, ◌∙◌, arith, ◌⊎◌, inl, inr, append_assoc, length-append, length-take, true, false, ◌==◌}
+use Rattle.fs_nlri.proofs.Words.{if◌then◌else◌, append-nil, take-append-drop, take_at, take_all, take-take, length-take-le, cases_order, both_ways}
+use Rattle.fs_nlri.proofs.Words.{Family, IsOctets, NoFront, IsCut, IsFirstFault, one_fault, cut_or_fault, append_same, overlap, octets_left}
+use Rattle.fs_nlri.proofs.Words.{octets_right, Kind, text, behind, no_list, Reason, Cut, NoType, Order, PrefixLength, Offset, Width, Length, Form}
+use Rattle.fs_nlri.proofs.Words.{V4Form, V6Form, ListForm, form_of, Part, Ruled, Spells, IsValue, IsFrame, IsTypePlace, IsBodyPlace, IsRole, HasRole}
+use Rattle.fs_nlri.proofs.Words.{IsValueBad, IsOpen, IsBadFrame, IsFrameBad, IsBody, Frames, IsFrameOutcome, IsFieldOutcome}
+use Rattle.fs_nlri.proofs.{Bodies.{no_empty_body}, Fronts.{whole_front, front_behind}, ValueFaults.{opening}}
+use Rattle.fs_nlri.proofs.{Frames.{one_rule, same_frame, frame_no_fault}, Every.{frame_some}}
 
 -- Before the octet of a role no body ends
 
@@ -14,11 +22,13 @@ none_at_one tail offset is n body =
     let size : length (take n (take offset tail)) ≡ suc (suc (length body.spells.pattern)) = ap length split in
     absurd (omega (arith, size, is, length-take n (take offset tail), length-take offset tail))
 
-none_at_operator : (kind : Kind) (widths : List ℕ) (bits : Option ℕ) (tail : List ℕ) (offset : ℕ) → IsRole Width (ListForm kind widths bits) tail offset → NoFront (IsBody (ListForm kind widths bits)) (take offset tail)
+none_at_operator : (kind : Kind) (widths : List ℕ) (bits : Option ℕ) (tail : List ℕ) (offset : ℕ)
+    → IsRole Width (ListForm kind widths bits) tail offset → NoFront (IsBody (ListForm kind widths bits)) (take offset tail)
 none_at_operator kind widths bits tail offset role n body =
     let list = body.spells.spells in
     let front : take offset tail ≡ text role.before =
-    ap (λ (l : List ℕ). take offset l) role.split ∙ ap (λ (k : ℕ). take k (text role.before ++ role.operator ∷ role.tail)) role.here ∙ take_at (text role.before) (role.operator ∷ role.tail) (length (text role.before)) refl in
+    ap (λ (l : List ℕ). take offset l) role.split ∙ ap (λ (k : ℕ). take k (text role.before ++ role.operator ∷ role.tail)) role.here
+    ∙ take_at (text role.before) (role.operator ∷ role.tail) (length (text role.before)) refl in
     let joined : text list.written ++ drop n (take offset tail) ≡ text role.before ++ [] =
     ap (λ (l : List ℕ). l ++ drop n (take offset tail)) list.spelled ∙ take-append-drop n (take offset tail) ∙ front ∙ sym (append-nil (text role.before)) in
     let found = behind widths role.before list.written [] (drop n (take offset tail)) role.middle list.whole joined in
@@ -30,7 +40,8 @@ role_at V4Form offset = PrefixLength
 role_at V6Form offset = if offset == 0 then PrefixLength else Offset
 role_at (ListForm kind widths bits) offset = Width
 
-role_is : (reason : Reason) (form : Form) (tail : List ℕ) (offset : ℕ) → IsRole reason form tail offset → (reason ≡ role_at form offset) × NoFront (IsBody form) (take offset tail)
+role_is : (reason : Reason) (form : Form) (tail : List ℕ) (offset : ℕ) → IsRole reason form tail offset
+    → (reason ≡ role_at form offset) × NoFront (IsBody form) (take offset tail)
 role_is PrefixLength V4Form tail offset role = (refl, none_at_zero V4Form tail offset role)
 role_is PrefixLength V6Form tail offset role = (sym (ap (λ (n : ℕ). role_at V6Form n) role), none_at_zero V6Form tail offset role)
 role_is Offset V6Form tail offset role = (sym (ap (λ (n : ℕ). role_at V6Form n) role), none_at_one tail offset role)
@@ -45,7 +56,9 @@ record Later (family : Family) (octets : List ℕ) (front : List ℕ) : Type 0 w
   parts : List Part
   whole : Spells family 0 front parts
 
-no_later : (family : Family) (octets : List ℕ) (start kind : ℕ) (form : Form) (offset : ℕ) (at : IsTypePlace family octets start kind) (front : List ℕ) → form_of family kind ≡ Some form → NoFront (IsBody form) (take offset at.tail) → Later family octets front → start < length front → length front ≤ start + 1 + offset → ⊥
+no_later : (family : Family) (octets : List ℕ) (start kind : ℕ) (form : Form) (offset : ℕ) (at : IsTypePlace family octets start kind)
+    (front : List ℕ) → form_of family kind ≡ Some form → NoFront (IsBody form) (take offset at.tail) → Later family octets front → start < length front
+    → length front ≤ start + 1 + offset → ⊥
 no_later family octets start kind form offset at front is none later above below =
     let joined : at.front ++ kind ∷ at.tail ≡ front ++ later.tail = sym at.split ∙ later.split in
     let place : start ≡ length at.front = at.here in
@@ -70,7 +83,8 @@ no_later family octets start kind form offset at front is none later above below
         let sizes : length inner ≡ length begun.body + length begun.rest = ap length begun.split ∙ length-append begun.body begun.rest in
         let shown : take (length begun.body) (take offset at.tail) ≡ begun.body =
         take-take (length begun.body) offset at.tail (omega arith)
-        ∙ ap (λ (l : List ℕ). take (length begun.body) l) (tails ∙ ap (λ (l : List ℕ). l ++ later.tail) begun.split ∙ append_assoc begun.body begun.rest later.tail)
+        ∙ ap (λ (l : List ℕ). take (length begun.body) l) (tails ∙ ap (λ (l : List ℕ). l ++ later.tail) begun.split
+        ∙ append_assoc begun.body begun.rest later.tail)
         ∙ take_at begun.body (begun.rest ++ later.tail) (length begun.body) refl in
         none (length begun.body) (subst (IsBody form) (sym shown) body)
 
@@ -79,7 +93,8 @@ record SameType (k l : ℕ) (s t : List ℕ) : Type 0 where
   kind : k ≡ l
   tail : s ≡ t
 
-same_type : (family : Family) (octets : List ℕ) (p q k l : ℕ) (one : IsTypePlace family octets p k) (other : IsTypePlace family octets q l) → p ≡ q → SameType k l one.tail other.tail
+same_type : (family : Family) (octets : List ℕ) (p q k l : ℕ) (one : IsTypePlace family octets p k) (other : IsTypePlace family octets q l) → p ≡ q
+    → SameType k l one.tail other.tail
 same_type family octets p q k l one other same =
     let sizes : length one.front ≡ length other.front = sym one.here ∙ same ∙ other.here in
     let found = append_same one.front (k ∷ one.tail) other.front (l ∷ other.tail) sizes (sym one.split ∙ other.split) in
@@ -90,15 +105,18 @@ later_of : (family : Family) (octets : List ℕ) (place kind : ℕ) (at : IsType
 later_of family octets place kind at = record { tail = kind ∷ at.tail; split = at.split; parts = at.before; whole = at.whole }
 
 -- the place of a type isn't one within a body
-type_or_body : (family : Family) (octets : List ℕ) (place kind : ℕ) (reason : Reason) → IsTypePlace family octets place kind → IsBodyPlace reason family octets place → ⊥
+type_or_body : (family : Family) (octets : List ℕ) (place kind : ℕ) (reason : Reason) → IsTypePlace family octets place kind
+    → IsBodyPlace reason family octets place → ⊥
 type_or_body family octets place kind reason at body =
     let ends : place ≡ length at.front = at.here in
     let here : place ≡ body.start + 1 + body.offset = body.here in
-    no_later family octets body.start body.kind body.form body.offset body.component at.front body.form_is (role_is reason body.form body.component.tail body.offset body.role).1
+    no_later family octets body.start body.kind body.form body.offset body.component at.front body.form_is
+    (role_is reason body.form body.component.tail body.offset body.role).1
     (later_of family octets place kind at) (omega arith) (omega arith)
 
 -- two octets of a role in one place have one role
-one_body : (family : Family) (octets : List ℕ) (place : ℕ) (one other : Reason) → IsBodyPlace one family octets place → IsBodyPlace other family octets place → one ≡ other
+one_body : (family : Family) (octets : List ℕ) (place : ℕ) (one other : Reason) → IsBodyPlace one family octets place
+    → IsBodyPlace other family octets place → one ≡ other
 one_body family octets place one other a b =
     let here : place ≡ a.start + 1 + a.offset = a.here in
     let there : place ≡ b.start + 1 + b.offset = b.here in
@@ -115,9 +133,11 @@ one_body family octets place one other a b =
           (subst (λ (tail : List ℕ). IsRole one b.form tail a.offset) types.tail (subst (λ (f : Form). IsRole one f a.component.tail a.offset) form a.role)) in
           (role_is one b.form b.component.tail b.offset moved).0 ∙ sym (role_is other b.form b.component.tail b.offset b.role).0
       | inr apart ↦ elim apart [
-        | inl before ↦ absurd (no_later family octets a.start a.kind a.form a.offset a.component b.component.front a.form_is (role_is one a.form a.component.tail a.offset a.role).1
+        | inl before ↦ absurd (no_later family octets a.start a.kind a.form a.offset a.component b.component.front a.form_is
+            (role_is one a.form a.component.tail a.offset a.role).1
             (later_of family octets b.start b.kind b.component) (omega arith) (omega arith))
-        | inr after ↦ absurd (no_later family octets b.start b.kind b.form b.offset b.component a.component.front b.form_is (role_is other b.form b.component.tail b.offset b.role).1
+        | inr after ↦ absurd (no_later family octets b.start b.kind b.form b.offset b.component a.component.front b.form_is
+            (role_is other b.form b.component.tail b.offset b.role).1
             (later_of family octets a.start a.kind a.component) (omega arith) (omega arith))
       ]
     ]
@@ -140,14 +160,16 @@ record TypeRole (family : Family) (octets : List ℕ) (place : ℕ) (reason : Re
   at : IsTypePlace family octets place kind
   is : reason ≡ type_reason (form_of family kind)
 
-where_is : (reason : Reason) (family : Family) (octets : List ℕ) (place : ℕ) → HasRole reason family octets place → TypeRole family octets place reason ⊎ IsBodyPlace reason family octets place
+where_is : (reason : Reason) (family : Family) (octets : List ℕ) (place : ℕ) → HasRole reason family octets place
+    → TypeRole family octets place reason ⊎ IsBodyPlace reason family octets place
 where_is Cut family octets place role = absurd role
 where_is NoType family octets place role = inl (record { kind = role.0; at = role.1; is = none_reason (form_of family role.0) role.2 })
 where_is Order family octets place role = inl (record { kind = role.0; at = role.1; is = some_reason (form_of family role.0) role.2 })
 where_is Length family octets place role = absurd role
 where_is _ family octets place role = inr role
 
-one_reason : (one other : Reason) (family : Family) (octets : List ℕ) (place : ℕ) → HasRole one family octets place → HasRole other family octets place → one ≡ other
+one_reason : (one other : Reason) (family : Family) (octets : List ℕ) (place : ℕ) → HasRole one family octets place
+    → HasRole other family octets place → one ≡ other
 one_reason one other family octets place a b =
     elim (where_is one family octets place a) [
       | inl p ↦ elim (where_is other family octets place b) [
@@ -171,7 +193,8 @@ record FaultyValue (family : Family) (octets : List ℕ) (reason : Reason) (plac
   fault : IsFirstFault (IsValue family 0) octets place
   role : HasRole reason family octets place
 
-bad_is : (family : Family) (octets : List ℕ) (reason : Reason) (place : ℕ) → IsValueBad family octets reason place → CutValue family octets reason place ⊎ FaultyValue family octets reason place
+bad_is : (family : Family) (octets : List ℕ) (reason : Reason) (place : ℕ) → IsValueBad family octets reason place
+    → CutValue family octets reason place ⊎ FaultyValue family octets reason place
 bad_is family octets Cut place bad = inl (record { is = refl; cut = bad.0 })
 bad_is family octets Length place bad = absurd bad
 bad_is family octets _ place bad = inr (record { fault = bad.0; role = bad.1 })
@@ -180,7 +203,8 @@ pub record SameFault (one other : Reason) (p q : ℕ) : Type 0 where
   pub reason : one ≡ other
   pub place : p ≡ q
 
-pub one_bad : (family : Family) (octets : List ℕ) (one other : Reason) (p q : ℕ) → IsOctets octets → IsValueBad family octets one p → IsValueBad family octets other q → SameFault one other p q
+pub one_bad : (family : Family) (octets : List ℕ) (one other : Reason) (p q : ℕ) → IsOctets octets → IsValueBad family octets one p
+    → IsValueBad family octets other q → SameFault one other p q
 one_bad family octets one other p q are a b =
     elim (bad_is family octets one p a) [
       | inl cut ↦ elim (bad_is family octets other q b) [
@@ -202,11 +226,13 @@ record OpenFrame (octets : List ℕ) (reason : Reason) (place : ℕ) : Type 0 wh
   partial : IsOpen octets
   here : place ≡ length octets
 
-frame_is : (family : Family) (octets : List ℕ) (reason : Reason) (place : ℕ) → IsFrameBad family octets reason place → OpenFrame octets reason place ⊎ IsBadFrame family octets reason place
+frame_is : (family : Family) (octets : List ℕ) (reason : Reason) (place : ℕ) → IsFrameBad family octets reason place
+    → OpenFrame octets reason place ⊎ IsBadFrame family octets reason place
 frame_is family octets Length place bad = inl (record { is = refl; partial = bad.0; here = bad.1 })
 frame_is family octets _ place bad = inr bad
 
-pub one_frame_bad : (family : Family) (octets : List ℕ) (one other : Reason) (p q : ℕ) → IsOctets octets → IsFrameBad family octets one p → IsFrameBad family octets other q → SameFault one other p q
+pub one_frame_bad : (family : Family) (octets : List ℕ) (one other : Reason) (p q : ℕ) → IsOctets octets → IsFrameBad family octets one p
+    → IsFrameBad family octets other q → SameFault one other p q
 one_frame_bad family octets one other p q are a b =
     elim (frame_is family octets one p a) [
       | inl open_a ↦ elim (frame_is family octets other q b) [
@@ -227,7 +253,8 @@ bad_result {A} one other p q same =
     ap (λ (reason : Reason). let result : Result A (Reason × ℕ) = Err (reason, p) in result) same.reason
     ∙ ap (λ (place : ℕ). let result : Result A (Reason × ℕ) = Err (other, place) in result) same.place
 
-pub one_frame_outcome : (family : Family) (octets : List ℕ) (one other : Result (Ruled × ℕ) (Reason × ℕ)) → IsOctets octets → IsFrameOutcome family octets one → IsFrameOutcome family octets other → one ≡ other
+pub one_frame_outcome : (family : Family) (octets : List ℕ) (one other : Result (Ruled × ℕ) (Reason × ℕ)) → IsOctets octets
+    → IsFrameOutcome family octets one → IsFrameOutcome family octets other → one ≡ other
 one_frame_outcome family octets (Ok a) (Ok b) are first second =
     let found = one_rule a.0 b.0 (take a.1 octets) (take b.1 octets) (drop a.1 octets) (drop b.1 octets) (first.1 ∙ sym second.1) first.2 second.2
     (take-append-drop a.1 octets ∙ sym (take-append-drop b.1 octets)) in
@@ -238,7 +265,8 @@ one_frame_outcome family octets (Ok a) (Err bad) are first second =
     absurd (frame_no_fault family octets (take a.1 octets) (drop a.1 octets) a.0 bad.0 bad.1 are (sym (take-append-drop a.1 octets)) first.1 first.2 second)
 one_frame_outcome family octets (Err bad) (Ok b) are first second =
     absurd (frame_no_fault family octets (take b.1 octets) (drop b.1 octets) b.0 bad.0 bad.1 are (sym (take-append-drop b.1 octets)) second.1 second.2 first)
-one_frame_outcome family octets (Err bad) (Err also) are first second = bad_result bad.0 also.0 bad.1 also.1 (one_frame_bad family octets bad.0 also.0 bad.1 also.1 are first second)
+one_frame_outcome family octets (Err bad) (Err also) are first second =
+    bad_result bad.0 also.0 bad.1 also.1 (one_frame_bad family octets bad.0 also.0 bad.1 also.1 are first second)
 
 -- Fields
 
@@ -257,7 +285,8 @@ one_end family rest (Some bad) (Some also) are a b =
     ∙ ap (λ (place : ℕ). let end : Option (Reason × ℕ) = Some (also.0, place) in end) same.place
 
 -- where a frame stands, the octets neither end nor have a fault
-no_end : (family : Family) (rest frame more : List ℕ) (rule : Ruled) (end : Option (Reason × ℕ)) → IsOctets rest → IsEnd family rest end → rule.family ≡ family → IsFrame frame rule → rest ≡ frame ++ more → ⊥
+no_end : (family : Family) (rest frame more : List ℕ) (rule : Ruled) (end : Option (Reason × ℕ)) → IsOctets rest → IsEnd family rest end
+    → rule.family ≡ family → IsFrame frame rule → rest ≡ frame ++ more → ⊥
 no_end family rest frame more rule None are end families is split = frame_some frame rule is (front_empty frame more (sym split ∙ end)) where
   front_empty : (front more : List ℕ) → front ++ more ≡ [] → front ≡ []
   front_empty [] more none = refl
@@ -268,17 +297,29 @@ record SameField (a b : List Ruled) (one other : Option (Reason × ℕ)) : Type 
   rules : a ≡ b
   end : one ≡ other
 
-one_field : (family : Family) (f s g t : List ℕ) (a b : List Ruled) (one other : Option (Reason × ℕ)) → IsOctets (f ++ s) → Frames family f a → Frames family g b → IsEnd family s one → IsEnd family t other → f ++ s ≡ g ++ t → SameField a b one other
+one_field : (family : Family) (f s g t : List ℕ) (a b : List Ruled) (one other : Option (Reason × ℕ)) → IsOctets (f ++ s) → Frames family f a
+    → Frames family g b → IsEnd family s one → IsEnd family t other → f ++ s ≡ g ++ t → SameField a b one other
 one_field family f s g t [] [] one other are frames also ends too same =
     let rests : s ≡ t = sym (ap (λ (l : List ℕ). l ++ s) frames) ∙ same ∙ ap (λ (l : List ℕ). l ++ t) also in
-    record { rules = refl; end = one_end family t one other (subst IsOctets rests (octets_right f s are)) (subst (λ (l : List ℕ). IsEnd family l one) rests ends) too }
+    record {
+      rules = refl;
+      end = one_end family t one other (subst IsOctets rests (octets_right f s are))
+          (subst (λ (l : List ℕ). IsEnd family l one) rests ends) too;
+    }
 one_field family f s g t [] (rule ∷ b) one other are frames (frame, rest, split, families, is, also) ends too same =
     absurd (no_end family s frame (rest ++ t) rule one (octets_right f s are) ends families is
     (sym (ap (λ (l : List ℕ). l ++ s) frames) ∙ same ∙ ap (λ (l : List ℕ). l ++ t) split ∙ append_assoc frame rest t))
 one_field family f s g t (rule ∷ a) [] one other are (frame, rest, split, families, is, frames) also ends too same =
     absurd (no_end family t frame (rest ++ s) rule other (octets_right g t (subst IsOctets same are)) too families is
     (sym (ap (λ (l : List ℕ). l ++ t) also) ∙ sym same ∙ ap (λ (l : List ℕ). l ++ s) split ∙ append_assoc frame rest s))
-one_field family f s g t (rule ∷ a) (own ∷ b) one other are (frame, rest, split, families, is, frames) (first, more, own_split, own_families, own_is, also) ends too same =
+one_field family f s g t (rule ∷ a) (own ∷ b) one other are (frame, rest, split, families, is, frames) (
+  first,
+  more,
+  own_split,
+  own_families,
+  own_is,
+  also,
+) ends too same =
     let left : f ++ s ≡ frame ++ (rest ++ s) = ap (λ (l : List ℕ). l ++ s) split ∙ append_assoc frame rest s in
     let right : g ++ t ≡ first ++ (more ++ t) = ap (λ (l : List ℕ). l ++ t) own_split ∙ append_assoc first more t in
     let found = one_rule rule own frame first (rest ++ s) (more ++ t) (families ∙ sym own_families) is own_is (sym left ∙ same ∙ right) in
@@ -301,15 +342,28 @@ record Parted (family : Family) (octets : List ℕ) (outcome : Result (List Rule
   is : outcome ≡ outcome_of rules end
 
 parted : (family : Family) (octets : List ℕ) (outcome : Result (List Ruled) (Reason × ℕ)) → IsFieldOutcome family octets outcome → Parted family octets outcome
-parted family octets (Ok rules) holds = record { front = octets; rest = []; rules = rules; end = None; frames = holds; ends = refl; split = sym (append-nil octets); is = refl }
+parted family octets (Ok rules) holds =
+    record { front = octets; rest = []; rules = rules; end = None; frames = holds; ends = refl; split = sym (append-nil octets); is = refl }
 parted family octets (Err bad) holds =
-    record { front = holds.front; rest = holds.rest; rules = holds.rules; end = Some bad; frames = holds.frames; ends = (holds.some, holds.bad); split = holds.split; is = refl }
+    record {
+      front = holds.front;
+      rest = holds.rest;
+      rules = holds.rules;
+      end = Some bad;
+      frames = holds.frames;
+      ends =
+          (holds.some, holds.bad);
+      split = holds.split;
+      is = refl;
+    }
 
-pub one_field_outcome : (family : Family) (octets : List ℕ) (one other : Result (List Ruled) (Reason × ℕ)) → IsOctets octets → IsFieldOutcome family octets one → IsFieldOutcome family octets other → one ≡ other
+pub one_field_outcome : (family : Family) (octets : List ℕ) (one other : Result (List Ruled) (Reason × ℕ)) → IsOctets octets
+    → IsFieldOutcome family octets one → IsFieldOutcome family octets other → one ≡ other
 one_field_outcome family octets one other are first second =
     let a = parted family octets one first in
     let b = parted family octets other second in
-    let same = one_field family a.front a.rest b.front b.rest a.rules b.rules a.end b.end (subst IsOctets a.split are) a.frames b.frames a.ends b.ends (sym a.split ∙ b.split) in
+    let same = one_field family a.front a.rest b.front b.rest a.rules b.rules a.end b.end (subst IsOctets a.split are) a.frames b.frames a.ends b.ends
+    (sym a.split ∙ b.split) in
     a.is ∙ ap (λ (rules : List Ruled). outcome_of rules a.end) same.rules ∙ ap (λ (end : Option (Reason × ℕ)). outcome_of b.rules end) same.end ∙ sym b.is
 
 -- What the reader of a field has found: the rules of the frames before what is left

@@ -1,4 +1,5 @@
-use Rattle.fs_nlri.proofs.Words.{ℕ, List, [], ◌∷◌, Option, Some, None, Family, Form, V4Form, V6Form, ListForm, form_of, Body, V4Body, V6Body, ListBody, Part, Ruled, AreNormal, IsNormalAt, IsNormalBody, IsRule, AreSound, IsSoundBody}
+use Rattle.fs_nlri.proofs.Words.{ℕ, List, [], ◌∷◌, Option, Some, None, Family, Form, V4Form, V6Form, ListForm, form_of, Body, V4Body, V6Body}
+use Rattle.fs_nlri.proofs.Words.{ListBody, Part, Ruled, AreNormal, IsNormalAt, IsNormalBody, IsRule, AreSound, IsSoundBody}
 
 -- The components of a rule are in normal form.
 

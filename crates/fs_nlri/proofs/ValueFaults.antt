@@ -1,4 +1,6 @@
-use Rattle.fs_nlri.proofs.Words.{◌≡◌, ℕ, suc, ◌+◌, ◌<◌, ◌≤◌, inl, inr, List, [], ◌∷◌, ◌++◌, Option, Some, None, length, take, refl, ap, sym, subst, ◌∙◌, arith, length-take, append-nil, take_all, take-take, take_at, cases_lt, Family, IsOctets, Begins, NoFront, IsCut, IsFirstFault, octets_nil, octets_left, overlap, Form, form_of, Part, part, SpellsAt, Spells, IsValue, IsBody}
+use Rattle.fs_nlri.proofs.Words.{◌≡◌, ℕ, suc, ◌+◌, ◌<◌, ◌≤◌, inl, inr, List, [], ◌∷◌, ◌++◌, Option, Some, None, length, take, refl, ap, sym, subst}
+use Rattle.fs_nlri.proofs.Words.{◌∙◌, arith, length-take, append-nil, take_all, take-take, take_at, cases_lt, Family, IsOctets, Begins, NoFront}
+use Rattle.fs_nlri.proofs.Words.{IsCut, IsFirstFault, octets_nil, octets_left, overlap, Form, form_of, Part, part, SpellsAt, Spells, IsValue, IsBody}
 
 -- The first fault of a value whose next component is wrong.
 
@@ -39,7 +41,8 @@ opening family last kind tail value = opening_of value.parts value.spells where
       }
 
 -- a type with which no value begins is the first fault
-pub kind_fault : (family : Family) (last kind : ℕ) (tail : List ℕ) → ((more : List ℕ) → Opening family last kind more → ⊥) → IsFirstFault (IsValue family last) (kind ∷ tail) 0
+pub kind_fault : (family : Family) (last kind : ℕ) (tail : List ℕ) → ((more : List ℕ) → Opening family last kind more → ⊥)
+    → IsFirstFault (IsValue family last) (kind ∷ tail) 0
 kind_fault family last kind tail none = record {
   inside = omega arith;
   before = empty_begins family last;
@@ -47,7 +50,8 @@ kind_fault family last kind tail none = record {
 }
 
 -- a value that begins with this type and tail, where no body stands at the front of the tail, begins with a body that the tail begins
-has_body : (family : Family) (last kind : ℕ) (form : Form) (tail : List ℕ) → form_of family kind ≡ Some form → NoFront (IsBody form) tail → Begins (IsValue family last) (kind ∷ tail) → Begins (IsBody form) tail
+has_body : (family : Family) (last kind : ℕ) (form : Form) (tail : List ℕ) → form_of family kind ≡ Some form → NoFront (IsBody form) tail
+    → Begins (IsValue family last) (kind ∷ tail) → Begins (IsBody form) tail
 has_body family last kind form tail is none begins =
     let begun = opening family last kind (tail ++ begins.more) begins.whole in
     let forms : Some form ≡ Some begun.form = sym is ∙ begun.form_is in
@@ -63,11 +67,13 @@ has_body family last kind form tail is none begins =
           }
       | inr shorter ↦
           let found = overlap begun.body begun.rest tail begins.more (sym begun.split) shorter in
-          absurd (none (length begun.body) (subst (IsBody form) (sym (ap (take (length begun.body)) found.front ∙ take_at begun.body found.between (length begun.body) refl)) whole))
+          absurd (none (length begun.body)
+          (subst (IsBody form) (sym (ap (take (length begun.body)) found.front ∙ take_at begun.body found.between (length begun.body) refl)) whole))
     ]
 
 -- a body that begins, behind its type, begins a value
-body_begins : (family : Family) (last kind : ℕ) (form : Form) (tail : List ℕ) → last < kind → form_of family kind ≡ Some form → Begins (IsBody form) tail → Begins (IsValue family last) (kind ∷ tail)
+body_begins : (family : Family) (last kind : ℕ) (form : Form) (tail : List ℕ) → last < kind → form_of family kind ≡ Some form
+    → Begins (IsBody form) tail → Begins (IsValue family last) (kind ∷ tail)
 body_begins family last kind form tail rises is begins = record {
   more = begins.more;
   are_octets = begins.are_octets;
@@ -85,11 +91,13 @@ body_begins family last kind form tail rises is begins = record {
 }
 
 -- a fault in the body of a component
-pub body_fault : (family : Family) (last kind : ℕ) (form : Form) (tail : List ℕ) (place : ℕ) → last < kind → form_of family kind ≡ Some form → NoFront (IsBody form) tail → IsFirstFault (IsBody form) tail place → IsFirstFault (IsValue family last) (kind ∷ tail) (1 + place)
+pub body_fault : (family : Family) (last kind : ℕ) (form : Form) (tail : List ℕ) (place : ℕ) → last < kind → form_of family kind ≡ Some form
+    → NoFront (IsBody form) tail → IsFirstFault (IsBody form) tail place → IsFirstFault (IsValue family last) (kind ∷ tail) (1 + place)
 body_fault family last kind form tail place rises is none fault = record {
   inside = let within : place < length tail = fault.inside in omega arith;
   before = subst (Begins (IsValue family last)) (front_taken kind tail place) (body_begins family last kind form (take place tail) rises is fault.before);
-  at = λ begins. fault.at (has_body family last kind form (take (place + 1) tail) is (none_in tail (place + 1) none) (subst (Begins (IsValue family last)) (sym (front_taken_one kind tail place)) begins));
+  at = λ begins. fault.at (has_body family last kind form (take (place + 1) tail) is (none_in tail (place + 1) none)
+      (subst (Begins (IsValue family last)) (sym (front_taken_one kind tail place)) begins));
 }
   where
     front_taken : (kind : ℕ) (tail : List ℕ) (place : ℕ) → kind ∷ take place tail ≡ take (1 + place) (kind ∷ tail)
@@ -105,17 +113,20 @@ body_fault family last kind form tail place rises is none fault = record {
     ]
 
 -- octets that end within the body of a component
-pub body_cut : (family : Family) (last kind : ℕ) (form : Form) (tail : List ℕ) (place : ℕ) → last < kind → form_of family kind ≡ Some form → IsCut (IsBody form) tail place → IsCut (IsValue family last) (kind ∷ tail) (1 + place)
+pub body_cut : (family : Family) (last kind : ℕ) (form : Form) (tail : List ℕ) (place : ℕ) → last < kind → form_of family kind ≡ Some form
+    → IsCut (IsBody form) tail place → IsCut (IsValue family last) (kind ∷ tail) (1 + place)
 body_cut family last kind form tail place rises is cut = record {
   at_end = let ends : place ≡ length tail = cut.at_end in omega arith;
   begins = body_begins family last kind form tail rises is cut.begins;
 }
 
 -- and they are no value
-pub no_value : (family : Family) (last kind : ℕ) (form : Form) (tail : List ℕ) → form_of family kind ≡ Some form → NoFront (IsBody form) tail → IsValue family last (kind ∷ tail) → ⊥
+pub no_value : (family : Family) (last kind : ℕ) (form : Form) (tail : List ℕ) → form_of family kind ≡ Some form → NoFront (IsBody form) tail
+    → IsValue family last (kind ∷ tail) → ⊥
 no_value family last kind form tail is none value =
     let begun = opening family last kind tail value in
     let forms : Some form ≡ Some begun.form = sym is ∙ begun.form_is in
     let same : form ≡ begun.form = cc in
-    let front : take (length begun.body) tail ≡ begun.body = ap (take (length begun.body)) begun.split ∙ take_at begun.body begun.rest (length begun.body) refl in
+    let front : take (length begun.body) tail ≡ begun.body = ap (take (length begun.body)) begun.split
+    ∙ take_at begun.body begun.rest (length begun.body) refl in
     none (length begun.body) (subst (IsBody form) (sym front) (subst (λ (f : Form). IsBody f begun.body) (sym same) begun.whole))

@@ -1,4 +1,7 @@
-use Rattle.fs_nlri.proofs.Words.{◌≡◌, ℕ, zero, suc, ◌+◌, ◌-◌, ◌*◌, ◌/◌, ◌^◌, ◌<◌, ◌≤◌, List, [], ◌∷◌, ◌++◌, Option, Some, None, All, length, take, refl, ap, sym, subst, ◌∙◌, arith, length-append, div-lt_iff_lt-mul, pow-suc, pow-add, pow_pos, take_at, take-take, All-nil, All-cons, Family, block_of, block_below, Component, Form, V4Form, V6Form, form_of, Body, V4Body, V6Body, ListBody, part_of, parts_of, IsNormalBody, IsNormalAt, AreNormal, IsWritable}
+use Rattle.fs_nlri.proofs.Words.{◌≡◌, ℕ, zero, suc, ◌+◌, ◌-◌, ◌*◌, ◌/◌, ◌^◌, ◌<◌, ◌≤◌, List, [], ◌∷◌, ◌++◌, Option, Some, None, All, length, take}
+use Rattle.fs_nlri.proofs.Words.{refl, ap, sym, subst, ◌∙◌, arith, length-append, div-lt_iff_lt-mul, pow-suc, pow-add, pow_pos, take_at, take-take}
+use Rattle.fs_nlri.proofs.Words.{All-nil, All-cons, Family, block_of, block_below, Component, Form, V4Form, V6Form, form_of, Body, V4Body, V6Body}
+use Rattle.fs_nlri.proofs.Words.{ListBody, part_of, parts_of, IsNormalBody, IsNormalAt, AreNormal, IsWritable}
 
 -- That the components of a rule can be written, and what stays in front while they are.
 
@@ -12,7 +15,8 @@ writable_at : (form : Option Form) (body : Body) → IsNormalAt form body → Is
 writable_at None body normal = absurd normal
 writable_at (Some form) body normal = writable_body form body normal
 
-pub all_writable : (family : Family) (last : ℕ) (components : List Component) → AreNormal family last (parts_of components) → All (λ (component : Component). IsWritable (part_of component).body) components
+pub all_writable : (family : Family) (last : ℕ) (components : List Component) → AreNormal family last (parts_of components)
+    → All (λ (component : Component). IsWritable (part_of component).body) components
 all_writable family last [] normal = All-nil (λ (component : Component). IsWritable (part_of component).body)
 all_writable family last (component ∷ components) normal =
     All-cons (λ (c : Component). IsWritable (part_of c).body) component components

@@ -1,7 +1,8 @@
 -- When octets are what stands behind a type, by its form, and when no such body stands at their front.
 use Rattle.std.specs.Prelude.{ℕ, List, Option, Some, None}
 use Rattle.fs_base.specs.Language.{NoFront, IsCut, IsFirstFault}
-use Rattle.fs_nlri.specs.{declared.fault.{Reason.{Reason, TheVariants.{Cut, NoType, Order, Length}}, NlriFault.{NlriFault, TheVariants.{Bad, Memory}}}, Forms.{Form}, Parts.{Body}, Spelling.{SpellsBody}, Fault.{IsRole}}
+use Rattle.fs_nlri.specs.declared.fault.{Reason.{Reason, TheVariants.{Cut, NoType, Order, Length}}, NlriFault.{NlriFault, TheVariants.{Bad, Memory}}}
+use Rattle.fs_nlri.specs.{Forms.{Form}, Parts.{Body}, Spelling.{SpellsBody}, Fault.{IsRole}}
 
 -- the octets are a body of the form
 pub record IsBody (form : Form) (octets : List ℕ) : Type 0 where

@@ -1,6 +1,11 @@
 -- The components of the code as parts of a rule: their types, and what stands behind these.
 use Rattle.std.specs.Prelude.{List, map}
-use Rattle.fs_nlri.specs.{declared.component.{PrefixForm.{PrefixForm, TheVariants.{V4, V6}}, Component.{Component, TheVariants.{Destination, Source, Protocol, Port, DestinationPort, SourcePort, IcmpType, IcmpCode, TcpFlags, PacketLength, Dscp, Fragment, FlowLabel}}, Content.{Content, TheVariants.{Prefix, Numbers, Masks}}}, Parts.{Body, V4Body, V6Body, ListBody, Part, part}}
+use Rattle.fs_nlri.specs.declared.component.PrefixForm.{PrefixForm, TheVariants.{V4, V6}}
+use Rattle.fs_nlri.specs.declared.component.Component.{Component}
+use Rattle.fs_nlri.specs.declared.component.Component.TheVariants.{Destination, Source, Protocol, Port, DestinationPort, SourcePort, IcmpType}
+use Rattle.fs_nlri.specs.declared.component.Component.TheVariants.{IcmpCode, TcpFlags, PacketLength, Dscp, Fragment, FlowLabel}
+use Rattle.fs_nlri.specs.declared.component.Content.{Content, TheVariants.{Prefix, Numbers, Masks}}
+use Rattle.fs_nlri.specs.Parts.{Body, V4Body, V6Body, ListBody, Part, part}
 
 abbrev pub body_of : PrefixForm → Body
 body_of (V4 prefix) = V4Body prefix.family prefix.length prefix.bits

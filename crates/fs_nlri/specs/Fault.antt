@@ -2,7 +2,9 @@
 use Rattle.std.specs.Prelude.{◌≡◌, ℕ, ◌+◌, List, ◌∷◌, ◌++◌, length, Some, Result, Ok, Err, IsSome, IsNone}
 use Rattle.fs_base.specs.{declared.prefix.Family.{Family}, Language.{IsCut, IsFirstFault}}
 use Rattle.fs_ops.specs.{declared.fault.OpsFault.{OpsFault, TheVariants.{Cut as ListCut, Width as ListWidth, Memory as ListMemory}}, Fault.{IsOperatorPlace}}
-use Rattle.fs_nlri.specs.{declared.fault.{Reason.{Reason, TheVariants.{Cut, NoType, Order, PrefixLength, Offset, Width, Length}}, NlriFault.{NlriFault, TheVariants.{Bad, Memory}}}, Forms.{Form, V4Form, V6Form, ListForm, form_of}, Parts.{Part, Ruled}, Spelling.{Spells, IsValue, IsLength, IsFrame}}
+use Rattle.fs_nlri.specs.declared.fault.Reason.{Reason, TheVariants.{Cut, NoType, Order, PrefixLength, Offset, Width, Length}}
+use Rattle.fs_nlri.specs.declared.fault.NlriFault.{NlriFault, TheVariants.{Bad, Memory}}
+use Rattle.fs_nlri.specs.{Forms.{Form, V4Form, V6Form, ListForm, form_of}, Parts.{Part, Ruled}, Spelling.{Spells, IsValue, IsLength, IsFrame}}
 
 -- at the place stands the type of a component: whole components before it
 pub record IsTypePlace (family : Family) (octets : List ℕ) (place kind : ℕ) : Type 0 where

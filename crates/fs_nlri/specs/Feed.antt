@@ -1,7 +1,8 @@
 -- Frames that come in pieces, however they are cut.
 use Rattle.std.specs.Prelude.{◌≡◌, ℕ, ◌-◌, List, [], ◌∷◌, ◌++◌, length, drop, Option, Some, None, Result, Ok, Err}
 use Rattle.fs_base.specs.declared.prefix.Family.{Family}
-use Rattle.fs_nlri.specs.{declared.fault.{Reason.TheVariants.{Length}, NlriFault.{NlriFault, TheVariants.{Bad, Memory}}}, Parts.{Ruled}, Spelling.{IsFrame}, Fault.{IsOpen, IsBadFrame}}
+use Rattle.fs_nlri.specs.declared.fault.{Reason.TheVariants.{Length}, NlriFault.{NlriFault, TheVariants.{Bad, Memory}}}
+use Rattle.fs_nlri.specs.{Parts.{Ruled}, Spelling.{IsFrame}, Fault.{IsOpen, IsBadFrame}}
 
 -- what a feed keeps: the octets of the frame that has begun, and the fault that stays
 pub record Fed : Type 0 where

@@ -1,7 +1,9 @@
 -- Laws of frames. They speak of the rules of one family, since a frame doesn't say its own.
 use Rattle.std.specs.Prelude.{◌≡◌, ◌↔◌, ℕ, List, [], ◌++◌, length, nat_le, if◌then◌else◌, Result, Ok, Err}
 use Rattle.fs_base.specs.{declared.prefix.Family.{Family}, Language.{IsOctets}}
-use Rattle.fs_nlri.specs.{declared.fault.{Reason.{Reason}, RuleFault.TheVariants.{TooLong}}, Outcome.{IsFrameOutcome, IsFieldOutcome}, Making.{rule_of}, Parts.{Part, Ruled, ruled}, Spelling.{IsFrame}, Rule.{IsRule, AreNormal, canonical_frame, canonical_value}}
+use Rattle.fs_nlri.specs.{declared.fault.{Reason.{Reason}, RuleFault.TheVariants.{TooLong}}, Outcome.{IsFrameOutcome, IsFieldOutcome}}
+use Rattle.fs_nlri.specs.{Making.{rule_of}, Parts.{Part, Ruled, ruled}, Spelling.{IsFrame}}
+use Rattle.fs_nlri.specs.Rule.{IsRule, AreNormal, canonical_frame, canonical_value}
 
 -- no frame is a proper prefix of another
 abbrev pub NoFrameGoesOn : Type 0
@@ -18,7 +20,8 @@ CanonicalIsOwn = (rule other : Ruled) → IsRule rule → rule.family ≡ other.
 -- two frames are those of one rule exactly where their canonical frames are equal
 abbrev pub CanonicalTells : Type 0
 CanonicalTells =
-    (one other : Ruled) (frame also : List ℕ) → one.family ≡ other.family → IsOctets frame → IsOctets also → IsFrame frame one → IsFrame also other → (one ≡ other) ↔ (canonical_frame one ≡ canonical_frame other)
+    (one other : Ruled) (frame also : List ℕ) → one.family ≡ other.family → IsOctets frame → IsOctets also → IsFrame frame one → IsFrame also other
+    → (one ≡ other) ↔ (canonical_frame one ≡ canonical_frame other)
 
 -- whatever the octets are, they begin with a frame of a rule or have a first fault
 abbrev pub EachBeginsSomehow : Type 0
@@ -31,12 +34,14 @@ EachIsAField = (family : Family) (octets : List ℕ) → (outcome : Result (List
 -- no octets begin in two ways
 abbrev pub BeginsOneWay : Type 0
 BeginsOneWay =
-    (family : Family) (octets : List ℕ) (one other : Result (Ruled × ℕ) (Reason × ℕ)) → IsOctets octets → IsFrameOutcome family octets one → IsFrameOutcome family octets other → one ≡ other
+    (family : Family) (octets : List ℕ) (one other : Result (Ruled × ℕ) (Reason × ℕ)) → IsOctets octets → IsFrameOutcome family octets one
+    → IsFrameOutcome family octets other → one ≡ other
 
 -- no octets are two fields
 abbrev pub IsOneField : Type 0
 IsOneField =
-    (family : Family) (octets : List ℕ) (one other : Result (List Ruled) (Reason × ℕ)) → IsOctets octets → IsFieldOutcome family octets one → IsFieldOutcome family octets other → one ≡ other
+    (family : Family) (octets : List ℕ) (one other : Result (List Ruled) (Reason × ℕ)) → IsOctets octets → IsFieldOutcome family octets one
+    → IsFieldOutcome family octets other → one ≡ other
 
 -- components in normal form make the rule of themselves, unless their value is too long for a frame
 abbrev pub NormalMakes : Type 0

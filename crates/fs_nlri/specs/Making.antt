@@ -1,8 +1,12 @@
 -- What a list of components makes: a rule, or the first cause why there is none.
-use Rattle.std.specs.{Prelude.{◌≡◌, ℕ, ◌-◌, ◌≤◌, List, [], ◌∷◌, length, map, Option, Some, None, Result, Ok, Err, Bool, true, false, nat_le, nat_lt, ◌==◌, ◌&&◌, ◌||◌, if◌then◌else◌}, List.{AllByRecursion, list_all}}
+use Rattle.std.specs.Prelude.{◌≡◌, ℕ, ◌-◌, ◌≤◌, List, [], ◌∷◌, length, map, Option, Some, None, Result, Ok, Err, Bool, true, false, nat_le, nat_lt}
+use Rattle.std.specs.Prelude.{◌==◌, ◌&&◌, ◌||◌, if◌then◌else◌}
+use Rattle.std.specs.List.{AllByRecursion, list_all}
 use Rattle.fs_base.specs.{declared.prefix.Family.{Family, TheVariants.{V4}}, Bits.{cleared}}
 use Rattle.fs_ops.specs.OperatorList.{IsNormal}
-use Rattle.fs_nlri.specs.{declared.fault.RuleFault.{RuleFault, TheVariants.{NotOfFamily, Order, TooLong, Memory}}, Forms.{Form, V4Form, V6Form, ListForm, form_of, kept_bits, all_allowed}, Parts.{Body, V4Body, V6Body, ListBody, Part, Ruled, part, ruled}, Rule.{canonical_value}}
+use Rattle.fs_nlri.specs.declared.fault.RuleFault.{RuleFault, TheVariants.{NotOfFamily, Order, TooLong, Memory}}
+use Rattle.fs_nlri.specs.Forms.{Form, V4Form, V6Form, ListForm, form_of, kept_bits, all_allowed}
+use Rattle.fs_nlri.specs.{Parts.{Body, V4Body, V6Body, ListBody, Part, Ruled, part, ruled}, Rule.{canonical_value}}
 
 -- the length and the offset that a V6Body may have
 abbrev pub is_range : (len offset : ℕ) → Bool

@@ -1,9 +1,12 @@
 -- What a rule is, its canonical octets, and its destination (RFC 8955 section 4, RFC 8956 section 3).
-use Rattle.std.specs.{Prelude.{◌≡◌, ℕ, ◌+◌, ◌-◌, ◌*◌, ◌/◌, ◌%◌, ◌^◌, ◌<◌, ◌≤◌, List, [], ◌∷◌, ◌++◌, length, Option, option_map, Some, None, true, nat_lt, ◌==◌, if◌then◌else◌}, List.{flat_map}}
+use Rattle.std.specs.Prelude.{◌≡◌, ℕ, ◌+◌, ◌-◌, ◌*◌, ◌/◌, ◌%◌, ◌^◌, ◌<◌, ◌≤◌, List, [], ◌∷◌, ◌++◌, length, Option, option_map, Some, None, true}
+use Rattle.std.specs.Prelude.{nat_lt, ◌==◌, if◌then◌else◌}
+use Rattle.std.specs.List.{flat_map}
 use Rattle.byteorder.specs.Endian.{big_bytes}
 use Rattle.fs_base.specs.{declared.prefix.{Family.{Family, TheVariants.{V4, V6}}, Prefix.{Prefix}}, Bits.{cleared}, Prefix.{prefix_of}}
 use Rattle.fs_ops.specs.OperatorList.{IsNormal, canonical as canonical_pairs}
-use Rattle.fs_nlri.specs.{Forms.{Form, V4Form, V6Form, ListForm, form_of, kept_bits, all_allowed}, Parts.{Body, V4Body, V6Body, ListBody, Part, Ruled}, Spelling.{IsRange, octets_for}}
+use Rattle.fs_nlri.specs.Forms.{Form, V4Form, V6Form, ListForm, form_of, kept_bits, all_allowed}
+use Rattle.fs_nlri.specs.{Parts.{Body, V4Body, V6Body, ListBody, Part, Ruled}, Spelling.{IsRange, octets_for}}
 
 -- Normal form: what stands behind a type is of the type's form, and each bit that is ignored is 0.
 abbrev pub IsNormalBody : Form → Body → Type 0

@@ -3,7 +3,8 @@
 ghost use Rattle.std.specs.Prelude.{◌≡◌, ◌+◌, ◌-◌, ◌*◌, ◌/◌, ◌^◌, ◌<◌, ◌≤◌, ◌↔◌, length, take, IfOk, IfErr, IsTrue};
 ghost use Rattle.byteorder.specs.Endian.{big_number};
 ghost use Rattle.fs_ops.specs.Fault.{CanBeWide};
-ghost use Rattle.fs_nlri.specs.{Forms.{V4Form, V6Form, ListForm, prefix_form, number_form, fragment_bits}, Parts.{ListBody}, Component.{body_of}, Spelling.{SpellsBody, octets_for}, Body.{IsBodyFault}};
+ghost use Rattle.fs_nlri.specs.Forms.{V4Form, V6Form, ListForm, prefix_form, number_form, fragment_bits};
+ghost use Rattle.fs_nlri.specs.{Parts.{ListBody}, Component.{body_of}, Spelling.{SpellsBody, octets_for}, Body.{IsBodyFault}};
 
 use crate::component::PrefixForm;
 use crate::fault::{NlriFault, Reason, bad};

@@ -1,7 +1,8 @@
 //! Why octets spell no rule, and why components make none.
 
 ghost use Rattle.std.specs.Prelude.{◌≡◌};
-ghost use Rattle.fs_nlri.specs.{declared.fault.{NlriFault.TheVariants.{Bad, Memory as NoMemory}, RuleFault.TheVariants.{Memory as NoRuleMemory}}, Fault.{list_fault}};
+ghost use Rattle.fs_nlri.specs.declared.fault.{NlriFault.TheVariants.{Bad, Memory as NoMemory}, RuleFault.TheVariants.{Memory as NoRuleMemory}};
+ghost use Rattle.fs_nlri.specs.Fault.{list_fault};
 
 use fs_base::Memory;
 use fs_ops::OpsFault;

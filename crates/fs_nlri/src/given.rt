@@ -2,7 +2,8 @@
 
 ghost use Rattle.std.specs.{Prelude.{◌≡◌, ◌↔◌, IsTrue, IfNone}, Bool.{OnTrue}};
 ghost use Rattle.fs_ops.specs.OperatorList.{IsNormal};
-ghost use Rattle.fs_nlri.specs.{Forms.{all_allowed, prefix_form}, Component.{body_of, part_of, parts_of}, Spelling.{IsRange}, Making.{is_range, body_given, part_given, all_given, rises, IsTypedBody, IsTyped, AreTyped, fault_in}};
+ghost use Rattle.fs_nlri.specs.{Forms.{all_allowed, prefix_form}, Component.{body_of, part_of, parts_of}, Spelling.{IsRange}};
+ghost use Rattle.fs_nlri.specs.Making.{is_range, body_given, part_given, all_given, rises, IsTypedBody, IsTyped, AreTyped, fault_in};
 
 use crate::component::{Component, PrefixForm};
 use crate::fault::RuleFault;

@@ -1,6 +1,8 @@
 //! Laws of rules and frames, each proved as the contract of a function that does nothing.
 
-ghost use Rattle.fs_nlri.specs.{Laws.{NoFrameGoesOn, CanonicalIsFrame, CanonicalIsOwn, CanonicalTells, EachBeginsSomehow, EachIsAField, BeginsOneWay, IsOneField, NormalMakes}, Same.{OnlySameParts, OnlySameRules}};
+ghost use Rattle.fs_nlri.specs.Laws.{NoFrameGoesOn, CanonicalIsFrame, CanonicalIsOwn, CanonicalTells, EachBeginsSomehow, EachIsAField, BeginsOneWay};
+ghost use Rattle.fs_nlri.specs.Laws.{IsOneField, NormalMakes};
+ghost use Rattle.fs_nlri.specs.Same.{OnlySameParts, OnlySameRules};
 
 /// No frame of a family is a proper prefix of another.
 pub fn no_frame_goes_on()

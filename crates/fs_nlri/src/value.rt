@@ -1,7 +1,8 @@
 //! Values: components one after the other.
 
 ghost use Rattle.std.specs.Prelude.{◌≡◌, ◌+◌, ◌^◌, ◌<◌, ◌≤◌, ◌↔◌, length, take, IfOk, IfErr, IsTrue, IsSome};
-ghost use Rattle.fs_nlri.specs.{Forms.{form_of}, Component.{part_of, parts_of}, Spelling.{SpellsAt, Spells}, Fault.{IsValueFault, moved, place_of}, Body.{IsFaultAt}};
+ghost use Rattle.fs_nlri.specs.{Forms.{form_of}, Component.{part_of, parts_of}, Spelling.{SpellsAt, Spells}, Fault.{IsValueFault, moved, place_of}};
+ghost use Rattle.fs_nlri.specs.Body.{IsFaultAt};
 
 use crate::body::{bits_of_fragment, read_list, read_numbers, read_prefix};
 use crate::component::Component;

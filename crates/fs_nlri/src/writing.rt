@@ -1,7 +1,9 @@
 //! Rules written as frames (RFC 8955 section 4.1, RFC 8956 section 3).
 
 ghost use Rattle.std.specs.{Prelude.{◌≡◌, ◌+◌, ◌-◌, ◌*◌, ◌/◌, ◌^◌, ◌<◌, ◌≤◌, ◌++◌, length, take, All, OnOk, OnErr}, Vec.{vec_len}};
-ghost use Rattle.fs_nlri.specs.{Spelling.{octets_for}, Component.{body_of, part_of, parts_of}, Writing.{IsWritable}, Rule.{IsRule, first_octets, canonical_body, canonical_part, canonical_value, canonical_length, framed, canonical_frame}};
+ghost use Rattle.fs_nlri.specs.{Spelling.{octets_for}, Component.{body_of, part_of, parts_of}, Writing.{IsWritable}};
+ghost use Rattle.fs_nlri.specs.Rule.{IsRule, first_octets, canonical_body, canonical_part, canonical_value, canonical_length, framed};
+ghost use Rattle.fs_nlri.specs.Rule.{canonical_frame};
 
 use crate::component::{Component, Content, PrefixForm};
 use crate::rule::Rule;

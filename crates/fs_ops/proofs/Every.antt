@@ -1,5 +1,10 @@
 -- Each octet list has exactly one outcome as the front of an operator list: a list of so many octets, or a cut, or an operator of a bad width.
-use Rattle.fs_ops.{proofs.{Words.{◌≡◌, ℕ, zero, suc, ◌-◌, ◌<◌, ◌≤◌, ◌==◌, List, [], ◌∷◌, ◌++◌, length, take, drop, refl, ap, sym, ◌∙◌, arith, ◌⊎◌, inl, inr, Any, Contains, Result, Ok, Err, take-append-drop, length-drop, length-take, both_ways, cases_lt, cases_Bool, IsOctets, Kind, ends, width_code, width_of, IsText, Spells, IsFault}, Grammar.{same_list}, Found.{HasRead, said_at, cut_between, cut_within, bad_width, next_found, goes_on, ends_here}}, specs.declared.fault.OpsFault.{OpsFault, TheVariants.{Cut, Width, Memory}}}
+use Rattle.fs_ops.proofs.Words.{◌≡◌, ℕ, zero, suc, ◌-◌, ◌<◌, ◌≤◌, ◌==◌, List, [], ◌∷◌, ◌++◌, length, take, drop, refl, ap, sym, ◌∙◌, arith, ◌⊎◌, inl}
+use Rattle.fs_ops.proofs.Words.{inr, Any, Contains, Result, Ok, Err, take-append-drop, length-drop, length-take, both_ways, cases_lt, cases_Bool}
+use Rattle.fs_ops.proofs.Words.{IsOctets, Kind, ends, width_code, width_of, IsText, Spells, IsFault}
+use Rattle.fs_ops.proofs.Grammar.{same_list}
+use Rattle.fs_ops.proofs.Found.{HasRead, said_at, cut_between, cut_within, bad_width, next_found, goes_on, ends_here}
+use Rattle.fs_ops.specs.declared.fault.OpsFault.{OpsFault, TheVariants.{Cut, Width, Memory}}
 use Rattle.std.{proofs.lemmas.Map.Made.{is_member-Decides}, specs.{Cmp.{unsigned_Decides}, Set.{is_member}}}
 use Rattle.fs_base.proofs.Languages.{one_fault, cut_or_fault}
 
@@ -29,15 +34,27 @@ every kind widths octets some = by (suc (length octets)) octets [] (record { bef
   by zero rest pairs read enough = absurd (omega arith)
   by (suc fuel) [] pairs read enough = record { result = Err (Cut (length octets)); holds = cut_between kind widths octets [] pairs some read refl }
   by (suc fuel) (operator ∷ tail) pairs read enough = elim (member widths (width_code operator)) [
-    | inr refused ↦ record { result = Err (Width (length octets - length (operator ∷ tail))); holds = bad_width kind widths octets (operator ∷ tail) pairs operator tail some read refl refused }
+    | inr refused ↦ record {
+      result = Err (Width (length octets - length (operator ∷ tail)));
+      holds =
+          bad_width kind widths octets (operator ∷ tail) pairs operator tail some read refl refused;
+    }
     | inl allowed ↦ elim (cases_lt (length tail) (width_of operator)) [
-      | inl short ↦ record { result = Err (Cut (length octets)); holds = cut_within kind widths octets (operator ∷ tail) pairs operator tail some read refl allowed short }
+      | inl short ↦ record {
+        result = Err (Cut (length octets));
+        holds =
+            cut_within kind widths octets (operator ∷ tail) pairs operator tail some read refl allowed short;
+      }
       | inr room ↦
           let next : List ℕ = drop (width_of operator) tail in
           let more : List (ℕ × ℕ) = pairs ++ said_at kind (length pairs == 0) operator tail ∷ [] in
           let found = next_found kind widths octets pairs operator tail read allowed room in
           elim (cases_Bool (ends operator)) [
-            | inl last ↦ record { result = Ok (more, length octets - length next); holds = (omega arith, ends_here kind widths octets next more operator found last) }
+            | inl last ↦ record {
+              result = Ok (more, length octets - length next);
+              holds =
+                  (omega arith, ends_here kind widths octets next more operator found last);
+            }
             | inr going ↦ by fuel next more (goes_on kind widths octets next more operator found going) (omega (arith, length-drop (width_of operator) tail))
           ]
     ]
@@ -47,13 +64,16 @@ every kind widths octets some = by (suc (length octets)) octets [] (record { bef
 text_at : (kind : Kind) (widths octets : List ℕ) (pairs : List (ℕ × ℕ)) (n : ℕ) → Spells kind widths (take n octets) pairs → IsText widths (take n octets)
 text_at kind widths octets pairs n spells = record { written = spells.written; whole = spells.whole; spelled = spells.spelled }
 
-pub one_list : (kind : Kind) (widths octets : List ℕ) (m n : ℕ) (a b : List (ℕ × ℕ)) → m ≤ length octets → n ≤ length octets → Spells kind widths (take m octets) a → Spells kind widths (take n octets) b → (a ≡ b) × (m ≡ n)
+pub one_list : (kind : Kind) (widths octets : List ℕ) (m n : ℕ) (a b : List (ℕ × ℕ)) → m ≤ length octets → n ≤ length octets
+    → Spells kind widths (take m octets) a → Spells kind widths (take n octets) b → (a ≡ b) × (m ≡ n)
 one_list kind widths octets m n a b inside within first second =
-    let found = same_list kind widths (take m octets) (take n octets) (drop m octets) (drop n octets) a b first second (take-append-drop m octets ∙ sym (take-append-drop n octets)) in
+    let found = same_list kind widths (take m octets) (take n octets) (drop m octets) (drop n octets) a b first second (take-append-drop m octets
+    ∙ sym (take-append-drop n octets)) in
     let sizes : length (take m octets) ≡ length (take n octets) = ap length found.octets in
     (found.pairs, omega (arith, length-take m octets, length-take n octets))
 
-pub one_outcome : (kind : Kind) (widths octets : List ℕ) (one other : Result (List (ℕ × ℕ) × ℕ) OpsFault) → IsOctets octets → IsOutcome kind widths octets one → IsOutcome kind widths octets other → one ≡ other
+pub one_outcome : (kind : Kind) (widths octets : List ℕ) (one other : Result (List (ℕ × ℕ) × ℕ) OpsFault) → IsOctets octets
+    → IsOutcome kind widths octets one → IsOutcome kind widths octets other → one ≡ other
 one_outcome kind widths octets (Ok a) (Ok b) are first second =
     let same = one_list kind widths octets a.1 b.1 a.0 b.0 first.0 second.0 first.1 second.1 in
     ap (λ (l : List (ℕ × ℕ)). let read : Result (List (ℕ × ℕ) × ℕ) OpsFault = Ok (l, a.1) in read) same.0

@@ -1,4 +1,6 @@
-use Rattle.fs_ops.proofs.Words.{◌≡◌, ℕ, ◌+◌, ◌≤◌, Bool, true, false, List, [], ◌∷◌, ◌++◌, length, map, refl, ap, sym, subst, ◌∙◌, arith, append_assoc, length-append, Contains, both_ways, append_same, Kind, meant_bits, first_bits, counted_bits, ends, width_code, width_of, Written, octets_of, text, IsPair, AreMiddle, IsList, said, all_said, Spells}
+use Rattle.fs_ops.proofs.Words.{◌≡◌, ℕ, ◌+◌, ◌≤◌, Bool, true, false, List, [], ◌∷◌, ◌++◌, length, map, refl, ap, sym, subst, ◌∙◌, arith, append_assoc}
+use Rattle.fs_ops.proofs.Words.{length-append, Contains, both_ways, append_same, Kind, meant_bits, first_bits, counted_bits, ends, width_code}
+use Rattle.fs_ops.proofs.Words.{width_of, Written, octets_of, text, IsPair, AreMiddle, IsList, said, all_said, Spells}
 
 -- Operator lists as octets: one list at most stands at the front of octets, and what reading has found so far decides the rest.
 
@@ -30,14 +32,17 @@ pub record Behind (widths rest more : List ℕ) : Type 0 where
   pub whole : IsList widths written
   pub spelled : text written ++ more ≡ rest
 
-pub behind : (widths : List ℕ) (before written : List Written) (rest more : List ℕ) → AreMiddle widths before → IsList widths written → text written ++ more ≡ text before ++ rest → Behind widths rest more
+pub behind : (widths : List ℕ) (before written : List Written) (rest more : List ℕ) → AreMiddle widths before → IsList widths written
+    → text written ++ more ≡ text before ++ rest → Behind widths rest more
 behind widths [] written rest more middle whole same = record { written = written; whole = whole; spelled = same }
 behind widths (pair ∷ before) [] rest more middle whole same = absurd whole
 behind widths (pair ∷ before) (own ∷ []) rest more middle whole same =
-    let front = first_pair widths own pair (text [] ++ more) (text before ++ rest) whole.0 middle.0 (sym (opened own [] more) ∙ same ∙ opened pair before rest) in
+    let front = first_pair widths own pair (text [] ++ more) (text before ++ rest) whole.0 middle.0 (sym (opened own [] more) ∙ same
+    ∙ opened pair before rest) in
     absurd (both_ways (ends own.operator) (ap (λ (p : Written). ends p.operator) front.pair ∙ middle.1) whole.1)
 behind widths (pair ∷ before) (own ∷ next ∷ written) rest more middle whole same =
-    let front = first_pair widths own pair (text (next ∷ written) ++ more) (text before ++ rest) whole.0 middle.0 (sym (opened own (next ∷ written) more) ∙ same ∙ opened pair before rest) in
+    let front = first_pair widths own pair (text (next ∷ written) ++ more) (text before ++ rest) whole.0 middle.0
+    (sym (opened own (next ∷ written) more) ∙ same ∙ opened pair before rest) in
     behind widths before (next ∷ written) rest more middle.2 whole.2 front.rest
 
 -- one list at most stands at the front
@@ -69,7 +74,8 @@ pub record SameSpelling (n m : List ℕ) (a b : List (ℕ × ℕ)) (s t : List �
   pub pairs : a ≡ b
   pub rest : s ≡ t
 
-pub same_list : (kind : Kind) (widths one other s t : List ℕ) (a b : List (ℕ × ℕ)) → Spells kind widths one a → Spells kind widths other b → one ++ s ≡ other ++ t → SameSpelling one other a b s t
+pub same_list : (kind : Kind) (widths one other s t : List ℕ) (a b : List (ℕ × ℕ)) → Spells kind widths one a → Spells kind widths other b
+    → one ++ s ≡ other ++ t → SameSpelling one other a b s t
 same_list kind widths one other s t a b first second same =
     let joined : text first.written ++ s ≡ text second.written ++ t =
     ap (λ (l : List ℕ). l ++ s) first.spelled ∙ same ∙ ap (λ (l : List ℕ). l ++ t) (sym second.spelled) in
@@ -85,7 +91,8 @@ pub record Opening (widths : List ℕ) (operator : ℕ) (tail : List ℕ) : Type
   pub allowed : Contains widths (width_code operator)
   pub room : width_of operator ≤ length tail
 
-opening_of : (widths : List ℕ) (pair : Written) (rest : List ℕ) (operator : ℕ) (tail : List ℕ) → IsPair widths pair → octets_of pair ++ rest ≡ operator ∷ tail → Opening widths operator tail
+opening_of : (widths : List ℕ) (pair : Written) (rest : List ℕ) (operator : ℕ) (tail : List ℕ) → IsPair widths pair
+    → octets_of pair ++ rest ≡ operator ∷ tail → Opening widths operator tail
 opening_of widths pair rest operator tail is same =
     let operators : pair.operator ≡ operator = cc in
     let tails : pair.value ++ rest ≡ tail = cc in
@@ -94,7 +101,8 @@ opening_of widths pair rest operator tail is same =
     let whole : length pair.value + length rest ≡ length tail = sym (length-append pair.value rest) ∙ ap length tails in
     record { allowed = subst (λ (o : ℕ). Contains widths (width_code o)) operators is.allowed; room = omega arith }
 
-pub opening : (widths : List ℕ) (written : List Written) (more : List ℕ) (operator : ℕ) (tail : List ℕ) → IsList widths written → text written ++ more ≡ operator ∷ tail → Opening widths operator tail
+pub opening : (widths : List ℕ) (written : List Written) (more : List ℕ) (operator : ℕ) (tail : List ℕ) → IsList widths written
+    → text written ++ more ≡ operator ∷ tail → Opening widths operator tail
 opening widths [] more operator tail whole same = absurd whole
 opening widths (pair ∷ []) more operator tail whole same = opening_of widths pair (text [] ++ more) operator tail whole.0 (sym (opened pair [] more) ∙ same)
 opening widths (pair ∷ next ∷ written) more operator tail whole same =
@@ -112,21 +120,25 @@ joined_list widths (pair ∷ []) [] middle whole = absurd whole
 joined_list widths (pair ∷ []) (own ∷ written) middle whole = (middle.0, middle.1, whole)
 joined_list widths (pair ∷ next ∷ before) written middle whole = (middle.0, middle.1, joined_list widths (next ∷ before) written middle.2 whole)
 
-pub middle_more : (widths : List ℕ) (before : List Written) (pair : Written) → AreMiddle widths before → IsPair widths pair → ends pair.operator ≡ false → AreMiddle widths (before ++ pair ∷ [])
+pub middle_more : (widths : List ℕ) (before : List Written) (pair : Written) → AreMiddle widths before → IsPair widths pair
+    → ends pair.operator ≡ false → AreMiddle widths (before ++ pair ∷ [])
 middle_more widths [] pair middle is going = (is, going, tt)
 middle_more widths (own ∷ before) pair middle is going = (middle.0, middle.1, middle_more widths before pair middle.2 is going)
 
 pub text_joined : (before after : List Written) → text (before ++ after) ≡ text before ++ text after
 text_joined [] after = refl
-text_joined (pair ∷ before) after = ap (λ (l : List ℕ). octets_of pair ++ l) (text_joined before after) ∙ sym (append_assoc (octets_of pair) (text before) (text after))
+text_joined (pair ∷ before) after = ap (λ (l : List ℕ). octets_of pair ++ l) (text_joined before after)
+    ∙ sym (append_assoc (octets_of pair) (text before) (text after))
 
 abbrev pub is_none_before : List Written → Bool
 is_none_before [] = true
 is_none_before (pair ∷ pairs) = false
 
-pub said_more : (kind : Kind) (before : List Written) (pair : Written) → all_said kind (before ++ pair ∷ []) ≡ all_said kind before ++ said (counted_bits kind (is_none_before before)) pair ∷ []
+pub said_more : (kind : Kind) (before : List Written) (pair : Written)
+    → all_said kind (before ++ pair ∷ []) ≡ all_said kind before ++ said (counted_bits kind (is_none_before before)) pair ∷ []
 said_more kind [] pair = refl
 said_more kind (own ∷ before) pair = ap (λ (l : List (ℕ × ℕ)). said (first_bits kind) own ∷ l) (mapped before) where
-  mapped : (before : List Written) → map (said (meant_bits kind)) (before ++ pair ∷ []) ≡ map (said (meant_bits kind)) before ++ said (meant_bits kind) pair ∷ []
+  mapped : (before : List Written)
+      → map (said (meant_bits kind)) (before ++ pair ∷ []) ≡ map (said (meant_bits kind)) before ++ said (meant_bits kind) pair ∷ []
   mapped [] = refl
   mapped (own ∷ before) = ap (λ (l : List (ℕ × ℕ)). said (meant_bits kind) own ∷ l) (mapped before)

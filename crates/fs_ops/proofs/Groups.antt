@@ -1,4 +1,5 @@
-use Rattle.fs_ops.proofs.Words.{◌≡◌, ℕ, Bool, true, false, ◌&&◌, ◌||◌, if◌then◌else◌, List, [], ◌∷◌, refl, ap, sym, ◌∙◌, list_any, list_all, joins, first_joins, onto_group, groups_of, holds}
+use Rattle.fs_ops.proofs.Words.{◌≡◌, ℕ, Bool, true, false, ◌&&◌, ◌||◌, if◌then◌else◌, List, [], ◌∷◌, refl, ap, sym, ◌∙◌, list_any, list_all, joins}
+use Rattle.fs_ops.proofs.Words.{first_joins, onto_group, groups_of, holds}
 
 -- That going through a list with one truth value answers whether some of its groups holds.
 
@@ -26,11 +27,13 @@ own_group true true d = refl
 own_group true false d = refl
 own_group false b d = refl
 
-onto : (test : ℕ × ℕ → Bool) (all : Bool) (pair : ℕ × ℕ) (groups : List (List (ℕ × ℕ))) → from_groups test all (onto_group pair groups) ≡ from_groups test (all && test pair) groups
+onto : (test : ℕ × ℕ → Bool) (all : Bool) (pair : ℕ × ℕ) (groups : List (List (ℕ × ℕ)))
+    → from_groups test all (onto_group pair groups) ≡ from_groups test (all && test pair) groups
 onto test all pair [] = one_group all (test pair)
 onto test all pair (group ∷ groups) = two_parts all (test pair) (list_all test group) (list_any (λ g. list_all test g) groups)
 
-onto_any : (test : ℕ × ℕ → Bool) (pair : ℕ × ℕ) (groups : List (List (ℕ × ℕ))) → list_any (λ g. list_all test g) (onto_group pair groups) ≡ from_groups test true (onto_group pair groups)
+onto_any : (test : ℕ × ℕ → Bool) (pair : ℕ × ℕ) (groups : List (List (ℕ × ℕ)))
+    → list_any (λ g. list_all test g) (onto_group pair groups) ≡ from_groups test true (onto_group pair groups)
 onto_any test pair [] = refl
 onto_any test pair (group ∷ groups) = refl
 
@@ -38,15 +41,18 @@ onto_any test pair (group ∷ groups) = refl
 any_from : (test : ℕ × ℕ → Bool) (pair : ℕ × ℕ) (pairs : List (ℕ × ℕ)) → holds test (pair ∷ pairs) ≡ from_groups test true (groups_of (pair ∷ pairs))
 any_from test pair [] = refl
 any_from test pair (next ∷ pairs) = by (joins next.0) where
-  by : (b : Bool) → list_any (λ g. list_all test g) (if b then onto_group pair (groups_of (next ∷ pairs)) else (pair ∷ []) ∷ groups_of (next ∷ pairs)) ≡ from_groups test true (if b then onto_group pair (groups_of (next ∷ pairs)) else (pair ∷ []) ∷ groups_of (next ∷ pairs))
+  by : (b : Bool) → list_any (λ g. list_all test g) (if b then onto_group pair (groups_of (next ∷ pairs)) else (pair ∷ []) ∷ groups_of (next ∷ pairs))
+      ≡ from_groups test true (if b then onto_group pair (groups_of (next ∷ pairs)) else (pair ∷ []) ∷ groups_of (next ∷ pairs))
   by true = onto_any test pair (groups_of (next ∷ pairs))
   by false = refl
 
-from_answers : (test : ℕ × ℕ → Bool) (all : Bool) (pair : ℕ × ℕ) (pairs : List (ℕ × ℕ)) → from_groups test all (groups_of (pair ∷ pairs)) ≡ answers test (all && test pair) pairs
+from_answers : (test : ℕ × ℕ → Bool) (all : Bool) (pair : ℕ × ℕ) (pairs : List (ℕ × ℕ))
+    → from_groups test all (groups_of (pair ∷ pairs)) ≡ answers test (all && test pair) pairs
 from_answers test all pair [] = one_group all (test pair)
 from_answers test all pair (next ∷ pairs) = by (joins next.0) (λ b. from_answers test b next pairs) where
   by : (b : Bool) → ((c : Bool) → from_groups test c (groups_of (next ∷ pairs)) ≡ answers test (c && test next) pairs)
-      → from_groups test all (if b then onto_group pair (groups_of (next ∷ pairs)) else (pair ∷ []) ∷ groups_of (next ∷ pairs)) ≡ (if b then answers test ((all && test pair) && test next) pairs else ((all && test pair) || answers test (test next) pairs))
+      → from_groups test all (if b then onto_group pair (groups_of (next ∷ pairs)) else (pair ∷ []) ∷ groups_of (next ∷ pairs))
+      ≡ (if b then answers test ((all && test pair) && test next) pairs else ((all && test pair) || answers test (test next) pairs))
   by true more = onto test all pair (groups_of (next ∷ pairs)) ∙ more (all && test pair)
   by false more =
       own_group all (test pair) (list_any (λ g. list_all test g) (groups_of (next ∷ pairs)))

@@ -1,4 +1,7 @@
-use Rattle.fs_ops.proofs.Words.{◌≡◌, ℕ, ◌/◌, ◌^◌, ◌<◌, ◌==◌, false, not, List, [], ◌∷◌, length, map, bit_and, All, refl, ap, sym, subst, ◌∙◌, arith, and_le_l, and_comm, and_shr, and_assoc, All-cons, All-nil, big_number, big_from-lt, IsOctets, octets_at, octets_left, octets_right, octets_tail, Kind, Numeric, Bitmask, meant_bits, first_bits, width_code, width_of, ends, Written, octets_of, text, IsPair, IsList, said, all_said, Spells, IsNormalPair, AreNormal, IsNormal, first_joins}
+use Rattle.fs_ops.proofs.Words.{◌≡◌, ℕ, ◌/◌, ◌^◌, ◌<◌, ◌==◌, false, not, List, [], ◌∷◌, length, map, bit_and, All, refl, ap, sym, subst, ◌∙◌, arith}
+use Rattle.fs_ops.proofs.Words.{and_le_l, and_comm, and_shr, and_assoc, All-cons, All-nil, big_number, big_from-lt, IsOctets, octets_at, octets_left}
+use Rattle.fs_ops.proofs.Words.{octets_right, octets_tail, Kind, Numeric, Bitmask, meant_bits, first_bits, width_code, width_of, ends, Written}
+use Rattle.fs_ops.proofs.Words.{octets_of, text, IsPair, IsList, said, all_said, Spells, IsNormalPair, AreNormal, IsNormal, first_joins}
 
 -- Lists in normal form: what octets say is in it, and the octets that are written for it say it.
 
@@ -58,10 +61,12 @@ masked_last bits mask operator is =
 value_fits : (value : List ℕ) → IsOctets value → big_number (length value) value < 256 ^ length value
 value_fits value are = big_from-lt 0 (length value) value (λ k. octets_at value are k)
 
-said_normal : (widths : List ℕ) (bits mask : ℕ) (pair : Written) → IsMask bits mask → IsPair widths pair → IsOctets pair.value → IsNormalPair bits (said mask pair)
+said_normal : (widths : List ℕ) (bits mask : ℕ) (pair : Written) → IsMask bits mask → IsPair widths pair → IsOctets pair.value
+    → IsNormalPair bits (said mask pair)
 said_normal widths bits mask pair is whole are = record {
   clear = and_assoc bits pair.operator mask ∙ ap (λ (n : ℕ). bit_and pair.operator n) is.within;
-  fits = subst (λ (n : ℕ). big_number (length pair.value) pair.value < 256 ^ n) (whole.size ∙ sym (masked_width bits mask pair.operator is)) (value_fits pair.value are);
+  fits = subst (λ (n : ℕ). big_number (length pair.value) pair.value < 256 ^ n) (whole.size
+      ∙ sym (masked_width bits mask pair.operator is)) (value_fits pair.value are);
 }
 
 value_octets : (pair : Written) (pairs : List Written) → IsOctets (text (pair ∷ pairs)) → IsOctets pair.value
@@ -71,7 +76,8 @@ later_octets : (pair : Written) (pairs : List Written) → IsOctets (text (pair 
 later_octets pair pairs are = octets_right (octets_of pair) (text pairs) are
 
 -- the first pair under a mask of its own
-later_normal : (widths : List ℕ) (bits mask : ℕ) (pair : Written) (pairs : List Written) → IsMask bits bits → IsMask bits mask → IsList widths (pair ∷ pairs) → IsOctets (text (pair ∷ pairs))
+later_normal : (widths : List ℕ) (bits mask : ℕ) (pair : Written) (pairs : List Written) → IsMask bits bits → IsMask bits mask
+    → IsList widths (pair ∷ pairs) → IsOctets (text (pair ∷ pairs))
     → AreNormal bits (said mask pair ∷ map (said bits) pairs)
 later_normal widths bits mask pair [] meant is whole are =
     (said_normal widths bits mask pair is whole.0 (value_octets pair [] are), masked_last bits mask pair.operator is ∙ whole.1)
@@ -81,14 +87,17 @@ later_normal widths bits mask pair (next ∷ pairs) meant is whole are = (
   later_normal widths bits bits next pairs meant meant whole.2 (later_octets pair (next ∷ pairs) are),
 )
 
-all_normal : (kind : Kind) (widths : List ℕ) (written : List Written) → IsList widths written → IsOctets (text written) → AreNormal (meant_bits kind) (all_said kind written)
+all_normal : (kind : Kind) (widths : List ℕ) (written : List Written) → IsList widths written → IsOctets (text written)
+    → AreNormal (meant_bits kind) (all_said kind written)
 all_normal kind widths [] whole are = absurd whole
-all_normal kind widths (pair ∷ pairs) whole are = later_normal widths (meant_bits kind) (first_bits kind) pair pairs (meant_mask kind) (first_mask kind) whole are
+all_normal kind widths (pair ∷ pairs) whole are =
+    later_normal widths (meant_bits kind) (first_bits kind) pair pairs (meant_mask kind) (first_mask kind) whole are
 
 joins_none : (kind : Kind) (written : List Written) → first_joins (all_said kind written) ≡ false
 joins_none kind [] = refl
 joins_none kind (pair ∷ pairs) =
-    ap (λ (n : ℕ). not (n == 0)) (and_assoc 64 pair.operator (first_bits kind) ∙ ap (λ (n : ℕ). bit_and pair.operator n) (first_clear kind) ∙ and_comm pair.operator 0)
+    ap (λ (n : ℕ). not (n == 0)) (and_assoc 64 pair.operator (first_bits kind) ∙ ap (λ (n : ℕ). bit_and pair.operator n) (first_clear kind)
+    ∙ and_comm pair.operator 0)
 
 -- what octets say is in normal form
 pub spelled_normal : (kind : Kind) (widths octets : List ℕ) (pairs : List (ℕ × ℕ)) → IsOctets octets → Spells kind widths octets pairs → IsNormal kind pairs
@@ -105,5 +114,7 @@ first_normal bits pair (next ∷ others) normal = normal.0
 -- each value of such a list fits its width
 pub values_fit : (bits : ℕ) (pairs : List (ℕ × ℕ)) → AreNormal bits pairs → All (λ (pair : ℕ × ℕ). pair.1 < 256 ^ width_of pair.0) pairs
 values_fit bits [] normal = All-nil (λ (pair : ℕ × ℕ). pair.1 < 256 ^ width_of pair.0)
-values_fit bits (pair ∷ []) normal = All-cons (λ (pair : ℕ × ℕ). pair.1 < 256 ^ width_of pair.0) pair [] normal.0.fits (All-nil (λ (pair : ℕ × ℕ). pair.1 < 256 ^ width_of pair.0))
-values_fit bits (pair ∷ next ∷ pairs) normal = All-cons (λ (pair : ℕ × ℕ). pair.1 < 256 ^ width_of pair.0) pair (next ∷ pairs) normal.0.fits (values_fit bits (next ∷ pairs) normal.2)
+values_fit bits (pair ∷ []) normal =
+    All-cons (λ (pair : ℕ × ℕ). pair.1 < 256 ^ width_of pair.0) pair [] normal.0.fits (All-nil (λ (pair : ℕ × ℕ). pair.1 < 256 ^ width_of pair.0))
+values_fit bits (pair ∷ next ∷ pairs) normal =
+    All-cons (λ (pair : ℕ × ℕ). pair.1 < 256 ^ width_of pair.0) pair (next ∷ pairs) normal.0.fits (values_fit bits (next ∷ pairs) normal.2)

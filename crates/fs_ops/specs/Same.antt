@@ -1,5 +1,6 @@
 -- Equality of lists as `==` has it: equal operators and equal values, pair by pair.
-use Rattle.std.specs.{Prelude.{◌≡◌, ℕ, Bool, true, false, ◌==◌, ◌&&◌, List}, Bool.{Decides}, Cmp.{IsEquivalence, unsigned_Decides, decided, Lexicographic.{pointwise, pointwise_decides}}}
+use Rattle.std.specs.{Prelude.{◌≡◌, ℕ, Bool, true, false, ◌==◌, ◌&&◌, List}, Bool.{Decides}}
+use Rattle.std.specs.Cmp.{IsEquivalence, unsigned_Decides, decided, Lexicographic.{pointwise, pointwise_decides}}
 
 abbrev pub same_pair : ℕ × ℕ → ℕ × ℕ → Bool
 same_pair a b = (a.0 == b.0) && (a.1 == b.1)

@@ -1,5 +1,7 @@
 -- The canonical octets of two lists of pairs compare as the pairs do.
-use Rattle.fs_order.proofs.Words.{◌≡◌, ℕ, zero, suc, ◌+◌, ◌*◌, ◌/◌, ◌%◌, ◌^◌, ◌<◌, ◌≤◌, List, [], ◌∷◌, ◌++◌, true, false, true≢false, refl, sym, ap, ap₂, ◌∙◌, subst, arith, Ordering, Less, Equal, Greater, nat_cmp, ordering_then, slice_cmp, ranked, nat_tests, IsNormal, canonical, pair_octets, Body, ListBody, IsSoundBody, ended_cmp, body_cmp}
+use Rattle.fs_order.proofs.Words.{◌≡◌, ℕ, zero, suc, ◌+◌, ◌*◌, ◌/◌, ◌%◌, ◌^◌, ◌<◌, ◌≤◌, List, [], ◌∷◌, ◌++◌, true, false, true≢false, refl, sym, ap}
+use Rattle.fs_order.proofs.Words.{ap₂, ◌∙◌, subst, arith, Ordering, Less, Equal, Greater, nat_cmp, ordering_then, slice_cmp, ranked, nat_tests}
+use Rattle.fs_order.proofs.Words.{IsNormal, canonical, pair_octets, Body, ListBody, IsSoundBody, ended_cmp, body_cmp}
 use Rattle.std.{specs.Int.{byte_at, bytes_high_first}, proofs.Math.{Nat.{mod-one, div-one, mod-eq_of_lt, pow-succ', one-le-pow, mod-lt}, Arith.{mod-mul}}}
 use Rattle.fs_base.proofs.NumberTests.{next_row}
 use Rattle.fs_ops.specs.{declared.kind.Kind.{Kind}, Operator.{ends, meant_bits, width_of}, OperatorList.{AreNormal}}
@@ -27,12 +29,14 @@ top_octet k n =
     rw (byte_is k n) (ap (λ (m : ℕ). n % m) (pow-succ' 256 k) ∙ split)
 
 -- the octets of two numbers, highest first, compare as the numbers do
-pub octets_number : (k n m : ℕ) (s t : List ℕ) → octets_cmp (bytes_high_first k n ++ s) (bytes_high_first k m ++ t) ≡ ordering_then (nat_cmp (n % 256 ^ k) (m % 256 ^ k)) (octets_cmp s t)
+pub octets_number : (k n m : ℕ) (s t : List ℕ)
+    → octets_cmp (bytes_high_first k n ++ s) (bytes_high_first k m ++ t) ≡ ordering_then (nat_cmp (n % 256 ^ k) (m % 256 ^ k)) (octets_cmp s t)
 octets_number zero n m s t = rw (mod-one n, mod-one m) refl
 octets_number (suc k) n m s t =
     let size : 0 < 256 ^ k = one-le-pow k 256 (omega arith) in
     ap (λ (o : Ordering). ordering_then (nat_cmp (byte_at k n) (byte_at k m)) o) (octets_number k n m s t)
-    ∙ two_digits (byte_at k n) (byte_at k m) (n % 256 ^ k) (m % 256 ^ k) (byte_at k n * 256 ^ k) (byte_at k m * 256 ^ k) (256 ^ k) (octets_cmp s t) (mod-lt n size) (mod-lt m size)
+    ∙ two_digits (byte_at k n) (byte_at k m) (n % 256 ^ k) (m % 256 ^ k) (byte_at k n * 256 ^ k) (byte_at k m * 256 ^ k) (256 ^ k) (octets_cmp s t)
+    (mod-lt n size) (mod-lt m size)
     (next_row (byte_at k n) (byte_at k m) (256 ^ k)) (next_row (byte_at k m) (byte_at k n) (256 ^ k)) (λ e. ap (λ (a : ℕ). a * 256 ^ k) e)
     ∙ ap (λ (o : Ordering). ordering_then o (octets_cmp s t)) (λ i. nat_cmp (sym (top_octet k n) i) (sym (top_octet k m) i))
 
@@ -40,7 +44,8 @@ pub equal_numbers : (a b : ℕ) → nat_cmp a b ≡ Equal → a ≡ b
 equal_numbers a b e = ranked a b Equal (sym e)
 
 -- values of one width
-same_width : (n k v w : ℕ) (s t : List ℕ) → n ≡ k → v < 256 ^ n → w < 256 ^ k → octets_cmp (bytes_high_first n v ++ s) (bytes_high_first k w ++ t) ≡ ordering_then (nat_cmp v w) (octets_cmp s t)
+same_width : (n k v w : ℕ) (s t : List ℕ) → n ≡ k → v < 256 ^ n → w < 256 ^ k
+    → octets_cmp (bytes_high_first n v ++ s) (bytes_high_first k w ++ t) ≡ ordering_then (nat_cmp v w) (octets_cmp s t)
 same_width n k v w s t e lv lw =
     let small : w < 256 ^ n = subst (λ (j : ℕ). w < 256 ^ j) (sym e) lw in
     ap (λ (j : ℕ). octets_cmp (bytes_high_first n v ++ s) (bytes_high_first j w ++ t)) (sym e)
@@ -53,17 +58,20 @@ one_pair : (x y : ℕ × ℕ) (s t : List ℕ) (o : Ordering) → x.1 < 256 ^ wi
 one_pair x y s t o lx ly rest = at (nat_cmp x.0 y.0) refl
   where
     at : (r : Ordering) → nat_cmp x.0 y.0 ≡ r
-        → ordering_then (ordering_then r (nat_cmp x.1 y.1)) o ≡ ordering_then r (octets_cmp (bytes_high_first (width_of x.0) x.1 ++ s) (bytes_high_first (width_of y.0) y.1 ++ t))
+        → ordering_then (ordering_then r (nat_cmp x.1 y.1)) o
+        ≡ ordering_then r (octets_cmp (bytes_high_first (width_of x.0) x.1 ++ s) (bytes_high_first (width_of y.0) y.1 ++ t))
     at Less e = refl
     at Greater e = refl
     at Equal e =
         let same : x.0 ≡ y.0 = equal_numbers x.0 y.0 e in
-        ap (λ (r : Ordering). ordering_then (nat_cmp x.1 y.1) r) (rest same) ∙ sym (same_width (width_of x.0) (width_of y.0) x.1 y.1 s t (ap width_of same) lx ly)
+        ap (λ (r : Ordering). ordering_then (nat_cmp x.1 y.1) r) (rest same)
+        ∙ sym (same_width (width_of x.0) (width_of y.0) x.1 y.1 s t (ap width_of same) lx ly)
 
 one_end : {A : Type 0} (x y : ℕ × ℕ) → ends x.0 ≡ true → ends y.0 ≡ false → x.0 ≡ y.0 → A
 one_end x y h k e = absurd (true≢false (sym h ∙ ap ends e ∙ k))
 
-normal_pairs : (bits bits' : ℕ) (xs ys : List (ℕ × ℕ)) → AreNormal bits xs → AreNormal bits' ys → slice_cmp pair_cmp xs ys ≡ octets_cmp (canonical xs) (canonical ys)
+normal_pairs : (bits bits' : ℕ) (xs ys : List (ℕ × ℕ)) → AreNormal bits xs → AreNormal bits' ys
+    → slice_cmp pair_cmp xs ys ≡ octets_cmp (canonical xs) (canonical ys)
 normal_pairs bits bits' [] ys h k = absurd h
 normal_pairs bits bits' (x ∷ []) [] h k = absurd k
 normal_pairs bits bits' (x ∷ x' ∷ xs) [] h k = absurd k
@@ -71,9 +79,11 @@ normal_pairs bits bits' (x ∷ []) (y ∷ []) h k = one_pair x y [] [] Equal h.0
 normal_pairs bits bits' (x ∷ []) (y ∷ y' ∷ ys) h k = one_pair x y [] (canonical (y' ∷ ys)) Less h.0.fits k.0.fits (λ e. one_end x y h.1 k.1 e)
 normal_pairs bits bits' (x ∷ x' ∷ xs) (y ∷ []) h k = one_pair x y (canonical (x' ∷ xs)) [] Greater h.0.fits k.0.fits (λ e. one_end y x k.1 h.1 (sym e))
 normal_pairs bits bits' (x ∷ x' ∷ xs) (y ∷ y' ∷ ys) h k =
-    one_pair x y (canonical (x' ∷ xs)) (canonical (y' ∷ ys)) (slice_cmp pair_cmp (x' ∷ xs) (y' ∷ ys)) h.0.fits k.0.fits (λ e. normal_pairs bits bits' (x' ∷ xs) (y' ∷ ys) h.2 k.2)
+    one_pair x y (canonical (x' ∷ xs)) (canonical (y' ∷ ys)) (slice_cmp pair_cmp (x' ∷ xs) (y' ∷ ys)) h.0.fits k.0.fits
+    (λ e. normal_pairs bits bits' (x' ∷ xs) (y' ∷ ys) h.2 k.2)
 
-pub pairs_compared : (kind kind' : Kind) (xs ys : List (ℕ × ℕ)) → IsNormal kind xs → IsNormal kind' ys → slice_cmp pair_cmp xs ys ≡ octets_cmp (canonical xs) (canonical ys)
+pub pairs_compared : (kind kind' : Kind) (xs ys : List (ℕ × ℕ)) → IsNormal kind xs → IsNormal kind' ys
+    → slice_cmp pair_cmp xs ys ≡ octets_cmp (canonical xs) (canonical ys)
 pairs_compared kind kind' xs ys h k = normal_pairs (meant_bits kind) (meant_bits kind') xs ys h.normal k.normal
 
 -- so two bodies of lists do

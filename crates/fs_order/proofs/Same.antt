@@ -1,5 +1,9 @@
 -- Only the same rule is equal in the order.
-use Rattle.fs_order.proofs.{Words.{◌≡◌, ℕ, ◌+◌, ◌-◌, ◌^◌, ◌<◌, ◌⊎◌, List, [], ◌∷◌, refl, sym, ap, ◌∙◌, subst, arith, inl, inr, Ordering, Less, Equal, Greater, nat_cmp, ordering_then, slice_cmp, tied_itself, pow_pos, afi_of, same_family, Body, V4Body, V6Body, ListBody, Part, Ruled, IsRule, body_cmp, part_cmp, parts_cmp, rule_cmp, AreSound, IsSoundBody, rule_total, rule_sound}, Pairs.{equal_numbers, pair_cmp, pairs_compared}}
+use Rattle.fs_order.proofs.Words.{◌≡◌, ℕ, ◌+◌, ◌-◌, ◌^◌, ◌<◌, ◌⊎◌, List, [], ◌∷◌, refl, sym, ap, ◌∙◌, subst, arith, inl, inr, Ordering, Less, Equal}
+use Rattle.fs_order.proofs.Words.{Greater, nat_cmp, ordering_then, slice_cmp, tied_itself, pow_pos, afi_of, same_family, Body, V4Body, V6Body}
+use Rattle.fs_order.proofs.Words.{ListBody, Part, Ruled, IsRule, body_cmp, part_cmp, parts_cmp, rule_cmp, AreSound, IsSoundBody, rule_total}
+use Rattle.fs_order.proofs.Words.{rule_sound}
+use Rattle.fs_order.proofs.Pairs.{equal_numbers, pair_cmp, pairs_compared}
 use Rattle.fs_nlri.{specs.Spelling.{IsRange}, proofs.Fronts.{same_part}}
 
 pub first_equal : (o p : Ordering) → ordering_then o p ≡ Equal → o ≡ Equal
@@ -84,8 +88,10 @@ same_parts (x ∷ xs) (y ∷ ys) h k e =
 
 pub same_rules : (a b : Ruled) → IsRule a → IsRule b → rule_cmp a b ≡ Equal → a ≡ b
 same_rules a b h k e =
-    let family = same_family a.family b.family (equal_numbers (afi_of a.family) (afi_of b.family) (first_equal (nat_cmp (afi_of a.family) (afi_of b.family)) (parts_cmp a.parts b.parts) e)) in
-    let parts = same_parts a.parts b.parts (rule_sound a h) (rule_sound b k) (second_equal (nat_cmp (afi_of a.family) (afi_of b.family)) (parts_cmp a.parts b.parts) e) in
+    let family = same_family a.family b.family
+    (equal_numbers (afi_of a.family) (afi_of b.family) (first_equal (nat_cmp (afi_of a.family) (afi_of b.family)) (parts_cmp a.parts b.parts) e)) in
+    let parts = same_parts a.parts b.parts (rule_sound a h) (rule_sound b k)
+    (second_equal (nat_cmp (afi_of a.family) (afi_of b.family)) (parts_cmp a.parts b.parts) e) in
     λ i. record { family = family i; parts = parts i }
 
 pub same_law : (a b : Ruled) → IsRule a → IsRule b → (rule_cmp a b ≡ Equal → a ≡ b) × (a ≡ b → rule_cmp a b ≡ Equal)

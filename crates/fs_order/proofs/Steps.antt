@@ -10,10 +10,12 @@ pub record Comparing (a b : List Component) (index : ℕ) (rest : List Component
   pub others : AreSound (parts_of rest)
 
 -- a ended
-a_ended : (a b : List Component) (index : ℕ) (rest : List Component) → length a ≤ index → Comparing a b index rest → parts_cmp [] (parts_of rest) ≡ parts_cmp (parts_of a) (parts_of b)
+a_ended : (a b : List Component) (index : ℕ) (rest : List Component) → length a ≤ index → Comparing a b index rest
+    → parts_cmp [] (parts_of rest) ≡ parts_cmp (parts_of a) (parts_of b)
 a_ended a b index rest l h = ap (λ (xs : List Component). parts_cmp (parts_of xs) (parts_of rest)) (sym (drop_of_length-le a l)) ∙ h.same
 
 -- b goes on
-pub b_longer : (a b : List Component) (index : ℕ) (rest : List Component) → length a ≤ index → (length rest == 0) ≡ false → Comparing a b index rest → Greater ≡ parts_cmp (parts_of a) (parts_of b)
+pub b_longer : (a b : List Component) (index : ℕ) (rest : List Component) → length a ≤ index → (length rest == 0) ≡ false → Comparing a b index rest
+    → Greater ≡ parts_cmp (parts_of a) (parts_of b)
 b_longer a b index [] l e h = absurd (true≢false e)
 b_longer a b index (other ∷ others) l e h = a_ended a b index (other ∷ others) l h

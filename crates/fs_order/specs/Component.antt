@@ -1,5 +1,6 @@
 -- The order of components as one comparison (RFC 8955 section 5.1, RFC 8956 section 4).
-use Rattle.std.specs.{Prelude.{ℕ, ◌+◌, ◌-◌, ◌^◌, List, []}, declared.cmp.Ordering.{Ordering}, Ordering.{nat_cmp, on, then_cmp, flip_args}, Cmp.Lexicographic.{slice_cmp}}
+use Rattle.std.specs.{Prelude.{ℕ, ◌+◌, ◌-◌, ◌^◌, List, []}, declared.cmp.Ordering.{Ordering}, Ordering.{nat_cmp, on, then_cmp, flip_args}}
+use Rattle.std.specs.Cmp.Lexicographic.{slice_cmp}
 use Rattle.fs_ops.specs.OperatorList.{canonical}
 use Rattle.fs_nlri.specs.Parts.{Body, V4Body, V6Body, ListBody, Part}
 

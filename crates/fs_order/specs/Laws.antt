@@ -1,5 +1,6 @@
 -- Within a family the order looks at the destination prefixes first.
-use Rattle.std.specs.{Prelude.{◌≡◌, ℕ, ◌+◌, ◌-◌, ◌^◌, Option, Some, None}, declared.cmp.Ordering.{Ordering, TheVariants.{Less, Equal, Greater}}, Ordering.{nat_cmp, ordering_then}}
+use Rattle.std.specs.{Prelude.{◌≡◌, ℕ, ◌+◌, ◌-◌, ◌^◌, Option, Some, None}, declared.cmp.Ordering.{Ordering, TheVariants.{Less, Equal, Greater}}}
+use Rattle.std.specs.Ordering.{nat_cmp, ordering_then}
 use Rattle.fs_base.specs.{declared.prefix.Family.{Family}, Bits.{afi_of, width_of}}
 use Rattle.fs_nlri.specs.{Parts.{Ruled}, Rule.{IsRule, destination_of}}
 use Rattle.fs_order.specs.Comparison.{rule_cmp}
@@ -21,4 +22,5 @@ destination_cmp (Some p) (Some q) = shown_cmp p q
 -- the destinations decide, unless they are equal
 abbrev pub DestinationsFirst : Type 0
 DestinationsFirst =
-    (a b : Ruled) → IsRule a → IsRule b → a.family ≡ b.family → rule_cmp a b ≡ ordering_then (destination_cmp (destination_of a) (destination_of b)) (rule_cmp a b)
+    (a b : Ruled) → IsRule a → IsRule b → a.family ≡ b.family
+    → rule_cmp a b ≡ ordering_then (destination_cmp (destination_of a) (destination_of b)) (rule_cmp a b)

@@ -1,5 +1,6 @@
 -- The laws of the order of rules, which the impls of `Ranked` give.
-use Rattle.std.specs.{Cmp.{IsTotalOrder, IsEquivalence, on_total, then_total, back_total, nat_cmp_total, eq_by_cmp_equiv, Lexicographic.{lists_total}}, declared.cmp.Ordering.{Ordering}, Ordering.{eq_by_cmp}}
+use Rattle.std.specs.Cmp.{IsTotalOrder, IsEquivalence, on_total, then_total, back_total, nat_cmp_total, eq_by_cmp_equiv, Lexicographic.{lists_total}}
+use Rattle.std.specs.{declared.cmp.Ordering.{Ordering}, Ordering.{eq_by_cmp}}
 use Rattle.fs_base.specs.Bits.{afi_of}
 use Rattle.fs_nlri.specs.Parts.{Part, Ruled}
 use Rattle.fs_order.specs.{Component.{ended_cmp, kind_of, offset_of, last_of, length_of, octets_of, body_cmp, part_cmp}, Comparison.{rule_cmp}}

@@ -1,5 +1,8 @@
 -- What clocks in memory tell of their answers.
-use Rattle.std.{proofs.{Common.{◌≡◌, ℕ, List, [], ◌∷◌, ◌++◌, Bool, true, false, Some, None, ◌+◌, ◌-◌, ◌<◌, ◌≤◌, min, nat_lt, length, take, refl, ap, sym, arith, append_assoc}, lemmas.{List.{replicate-append-replicate, take_all, take_more}, Bool.Decides.{nat_tests}}}, specs.Prelude.{if◌then◌else◌, replicate, get_or}}
+use Rattle.std.proofs.Common.{◌≡◌, ℕ, List, [], ◌∷◌, ◌++◌, Bool, true, false, Some, None, ◌+◌, ◌-◌, ◌<◌, ◌≤◌, min, nat_lt, length, take, refl, ap}
+use Rattle.std.proofs.Common.{sym, arith, append_assoc}
+use Rattle.std.proofs.lemmas.{List.{replicate-append-replicate, take_all, take_more}, Bool.Decides.{nat_tests}}
+use Rattle.std.specs.Prelude.{if◌then◌else◌, replicate, get_or}
 use Rattle.fs_outside.specs.{Sink.{Grew}, Moments.{answer_at, answers_to, last_of}}
 
 one_more : (n x : ℕ) → replicate (n + 1) x ≡ replicate n x ++ x ∷ []

@@ -1,5 +1,8 @@
 -- The place of a name among files in memory is where its content stands.
-use Rattle.std.{proofs.{Common.{◌≡◌, ℕ, suc, List, [], ◌∷◌, Option, Some, None, Bool, true, false, cond, not, ◌++◌, ◌+◌, length, refl, ◌∙◌, arith, nat_lt}, lemmas.Bool.Decides.{nat_tests}}, specs.{Prelude.{if◌then◌else◌, string_bytes, unwrap_or, is_some, IsTrue, IsSome, ◌↔◌}, List.{prefix_len}}}
+use Rattle.std.proofs.Common.{◌≡◌, ℕ, suc, List, [], ◌∷◌, Option, Some, None, Bool, true, false, cond, not, ◌++◌, ◌+◌, length, refl, ◌∙◌, arith}
+use Rattle.std.proofs.Common.{nat_lt}
+use Rattle.std.proofs.lemmas.Bool.Decides.{nat_tests}
+use Rattle.std.specs.{Prelude.{if◌then◌else◌, string_bytes, unwrap_or, is_some, IsTrue, IsSome, ◌↔◌}, List.{prefix_len}}
 use Rattle.fs_outside.specs.{MemoryFiles.{AddsFile, has_name, content_named, place_of, content_at, content_of}, declared.calm_files.HeldFile.{HeldFile}}
 
 abbrev found_at : List HeldFile → ℕ → Option (List ℕ)

@@ -1,5 +1,7 @@
 -- What remains of a list, of which a front was taken.
-use Rattle.std.{proofs.{Common.{◌≡◌, ℕ, zero, suc, List, [], ◌∷◌, ◌++◌, ◌+◌, ◌-◌, ◌≤◌, Some, None, length, map, drop, refl, sym, arith, length-drop}, lemmas.{List.{drop-append-le, drop-drop, drop_all}}}, specs.Prelude.{slice_get}}
+use Rattle.std.proofs.Common.{◌≡◌, ℕ, zero, suc, List, [], ◌∷◌, ◌++◌, ◌+◌, ◌-◌, ◌≤◌, Some, None, length, map, drop, refl, sym, arith, length-drop}
+use Rattle.std.proofs.lemmas.List.{drop-append-le, drop-drop, drop_all}
+use Rattle.std.specs.Prelude.{slice_get}
 
 -- the first that remains
 pub first_of : {A : Type 0} (xs : List A) (k : ℕ) → slice_get xs k ≡ slice_get (drop k xs) 0

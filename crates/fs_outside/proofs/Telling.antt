@@ -1,5 +1,7 @@
 -- A wire that may have stopped telling.
-use Rattle.std.{proofs.{Common.{◌≡◌, ℕ, List, [], ◌++◌, ◌<◌, Bool, true, false, Some, None, Ok, length, take, drop, min, sym, ◌∙◌, ap, arith}, lemmas.{List.{length-drop, take-append-drop}, Grind.{common_steps}}}, specs.Prelude.{if◌then◌else◌}}
+use Rattle.std.proofs.Common.{◌≡◌, ℕ, List, [], ◌++◌, ◌<◌, Bool, true, false, Some, None, Ok, length, take, drop, min, sym, ◌∙◌, ap, arith}
+use Rattle.std.proofs.lemmas.{List.{length-drop, take-append-drop}, Grind.{common_steps}}
+use Rattle.std.specs.Prelude.{if◌then◌else◌}
 use Rattle.fs_outside.specs.{Files.{ReadTakes}, Wire.{Told, WireEnds}}
 
 -- what a step did is told where the wire tells

@@ -1,6 +1,11 @@
 -- What came at a gate, what was read again, and what was asked of it.
 use Rattle.std.specs.Prelude.{ℕ, List, [], ◌∷◌, ◌<◌, ◌≤◌, ◌≡◌, ⊤, take, length, Option, Result, MatchResult, IfOk}
-use Rattle.fs_outside.specs.{Outside.{Rose}, Sink.{Grew}, declared.{address.Address.{Address}, gate.{Came.{Came, TheVariants.{Taken, Made, Octets, Ended, Nothing}}, Event.{Event}, Found.{Found, TheVariants.{Whole, Absent, Failed, TooLong}}, Reading.{Reading}}}}
+use Rattle.fs_outside.specs.{Outside.{Rose}, Sink.{Grew}}
+use Rattle.fs_outside.specs.declared.address.Address.{Address}
+use Rattle.fs_outside.specs.declared.gate.Came.{Came, TheVariants.{Taken, Made, Octets, Ended, Nothing}}
+use Rattle.fs_outside.specs.declared.gate.Event.{Event}
+use Rattle.fs_outside.specs.declared.gate.Found.{Found, TheVariants.{Whole, Absent, Failed, TooLong}}
+use Rattle.fs_outside.specs.declared.gate.Reading.{Reading}
 
 -- What came: a connection was taken, one that was dialled is made, one gave octets, or has ended; or nothing, for as long
 -- as the gate waits.

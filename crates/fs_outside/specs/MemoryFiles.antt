@@ -1,6 +1,9 @@
 -- Files in memory: what each name holds, and what each slot has left to be read.
-use Rattle.std.specs.{Prelude.{ℕ, List, [], ◌∷◌, Option, Some, None, Result, Bool, ◌≡◌, if◌then◌else◌, OnOk, OnErr, is_some, position, drop, slice_get, slice_index_or, string_bytes}, Str.{bytes_eq}}
-use Rattle.fs_outside.specs.{Files.{LeavesOthers, Opened}, Tallies.{Tallied, tallied}, declared.{calm_files.{HeldFile.{HeldFile}, Slot.{Slot}, CalmFiles.{CalmFiles}}, memory_files.MemFiles.{MemFiles}}}
+use Rattle.std.specs.Prelude.{ℕ, List, [], ◌∷◌, Option, Some, None, Result, Bool, ◌≡◌, if◌then◌else◌, OnOk, OnErr, is_some, position, drop, slice_get}
+use Rattle.std.specs.Prelude.{slice_index_or, string_bytes}
+use Rattle.std.specs.Str.{bytes_eq}
+use Rattle.fs_outside.specs.{Files.{LeavesOthers, Opened}, Tallies.{Tallied, tallied}}
+use Rattle.fs_outside.specs.declared.{calm_files.{HeldFile.{HeldFile}, Slot.{Slot}, CalmFiles.{CalmFiles}}, memory_files.MemFiles.{MemFiles}}
 
 abbrev pub has_name : List ℕ → HeldFile → Bool
 has_name name file = bytes_eq (string_bytes file.name) name

@@ -1,6 +1,9 @@
 -- What gates in memory show.
 use Rattle.std.specs.Prelude.{ℕ, List, ◌∷◌, Option, Result, Bool, ◌≡◌, ◌||◌, not, if◌then◌else◌, MatchResult}
-use Rattle.fs_outside.specs.{Gate.{IsCounted, Turn, content_from, unread, what_from}, Scripts.{Scripted, comes, coming, content_within, held_now, read_once}, Tallies.{OneMore, Tallied, fails, tallied}, declared.{gate.{Event.{Event}, Reading.{Reading}}, mem_gate.MemGate.{MemGate}, calm_gate.CalmGate.{CalmGate}}}
+use Rattle.fs_outside.specs.Gate.{IsCounted, Turn, content_from, unread, what_from}
+use Rattle.fs_outside.specs.Scripts.{Scripted, comes, coming, content_within, held_now, read_once}
+use Rattle.fs_outside.specs.Tallies.{OneMore, Tallied, fails, tallied}
+use Rattle.fs_outside.specs.declared.{gate.{Event.{Event}, Reading.{Reading}}, mem_gate.MemGate.{MemGate}, calm_gate.CalmGate.{CalmGate}}
 
 -- what is to come
 abbrev pub mem_gate_script : MemGate → Scripted

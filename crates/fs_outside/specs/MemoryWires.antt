@@ -1,6 +1,7 @@
 -- What wires in memory show.
 use Rattle.std.specs.Prelude.{ℕ, List, [], Option, Some, None, Bool, false, ◌+◌, ◌||◌, ◌==◌, not, nat_lt, min, length, if◌then◌else◌}
-use Rattle.fs_outside.specs.{Tallies.{Tallied, fails, tallied}, Wire.{WireEnd, WireEnds, end_at}, Cabled.{end_of}, declared.{cable.Cable.{Cable}, memory_wires.{MemWire.{MemWire}, CalmWire.{CalmWire}}}}
+use Rattle.fs_outside.specs.{Tallies.{Tallied, fails, tallied}, Wire.{WireEnd, WireEnds, end_at}, Cabled.{end_of}}
+use Rattle.fs_outside.specs.declared.{cable.Cable.{Cable}, memory_wires.{MemWire.{MemWire}, CalmWire.{CalmWire}}}
 
 abbrev pub ends_of : Cable → WireEnds
 ends_of cable = record { first = end_of cable.first cable.second.written.octets.items; second = end_of cable.second cable.first.written.octets.items }

@@ -1,6 +1,7 @@
 -- What the real outside counts.
 use Rattle.std.specs.Prelude.{ℕ}
-use Rattle.fs_outside.specs.declared.{real.{RealFiles.{RealFiles}, RealOut.{RealOut}}, real_wire.RealWire.{RealWire}, real_clock.RealClock.{RealClock}, real_gate.RealGate.{RealGate}}
+use Rattle.fs_outside.specs.declared.{real.{RealFiles.{RealFiles}, RealOut.{RealOut}}, real_wire.RealWire.{RealWire}}
+use Rattle.fs_outside.specs.declared.{real_clock.RealClock.{RealClock}, real_gate.RealGate.{RealGate}}
 
 abbrev pub real_files_faults : {R File A : Type 0} → RealFiles R File A → ℕ
 real_files_faults files = files.slots.faults

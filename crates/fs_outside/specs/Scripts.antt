@@ -1,6 +1,10 @@
 -- What is to come at a gate in memory.
-use Rattle.std.specs.Prelude.{ℕ, List, [], ◌∷◌, ◌++◌, Option, Some, None, Result, Bool, true, false, ◌≡◌, ◌+◌, ◌-◌, ◌^◌, ◌&&◌, nat_lt, nat_le, min, if◌then◌else◌, length, MatchOption, MatchResult}
-use Rattle.fs_outside.specs.{Gate.{Content, HasFound, What, absent, content_from, ended, gave, made, nothing, taken, too_long, whole, what_from}, declared.{gate.{Event.{Event}, Found.{Found}, Reading.{Reading}}, script.{Cue.{Cue, TheVariants.{Taken, Made, Octets as Gives_octets, Ended, Nothing}}, Held.{Held, TheVariants.{Octets, Absent}}, TimedCue.{TimedCue}}}}
+use Rattle.std.specs.Prelude.{ℕ, List, [], ◌∷◌, ◌++◌, Option, Some, None, Result, Bool, true, false, ◌≡◌, ◌+◌, ◌-◌, ◌^◌, ◌&&◌, nat_lt, nat_le, min}
+use Rattle.std.specs.Prelude.{if◌then◌else◌, length, MatchOption, MatchResult}
+use Rattle.fs_outside.specs.Gate.{Content, HasFound, What, absent, content_from, ended, gave, made, nothing, taken, too_long, whole, what_from}
+use Rattle.fs_outside.specs.declared.gate.{Event.{Event}, Found.{Found}, Reading.{Reading}}
+use Rattle.fs_outside.specs.declared.script.Cue.{Cue, TheVariants.{Taken, Made, Octets as Gives_octets, Ended, Nothing}}
+use Rattle.fs_outside.specs.declared.script.{Held.{Held, TheVariants.{Octets, Absent}}, TimedCue.{TimedCue}}
 
 abbrev pub what_of : Cue → What
 what_of (Taken line from) = taken line from

@@ -1,6 +1,7 @@
 -- Turns of a gate in memory, as they are noted.
 use Rattle.std.specs.Prelude.{List, [], ◌∷◌, ◌++◌, ◌≡◌, map, string_bytes}
-use Rattle.fs_outside.specs.{Gate.{Turn, came, content_from, dialled, read, said, shut, what_from}, declared.turns.NotedTurn.{NotedTurn, TheVariants.{Came, Read, Dialled, Said, Shut}}}
+use Rattle.fs_outside.specs.Gate.{Turn, came, content_from, dialled, read, said, shut, what_from}
+use Rattle.fs_outside.specs.declared.turns.NotedTurn.{NotedTurn, TheVariants.{Came, Read, Dialled, Said, Shut}}
 
 abbrev pub turn_of : NotedTurn → Turn
 turn_of (Came event octets) = came event.moment event.time (what_from event.came octets.items)

@@ -24,7 +24,9 @@ pub struct MemGate {
 }
 
 impl MemGate {
-    ghost use Rattle.fs_outside.specs.{MemoryGates.{mem_gate_script, mem_gate_tally, mem_gate_turns}, Scripts.{AddsContent, AddsEvent, coming, held_of, new_script, what_of}, Tallies.{no_calls}};
+    ghost use Rattle.fs_outside.specs.MemoryGates.{mem_gate_script, mem_gate_tally, mem_gate_turns};
+    ghost use Rattle.fs_outside.specs.Scripts.{AddsContent, AddsEvent, coming, held_of, new_script, what_of};
+    ghost use Rattle.fs_outside.specs.Tallies.{no_calls};
 
     /// Nothing is to come. The calls of these numbers will fail.
     pub fn new(alloc: Global, failing: Vec<u64>) -> MemGate
@@ -79,7 +81,9 @@ impl MemGate {
 }
 
 impl Gate for MemGate {
-    ghost use Rattle.fs_outside.specs.{MemoryGates.{CountsReading, FindsNext, FindsReading, mem_gate_refuses, mem_gate_script, mem_gate_tally, mem_gate_turns}, Scripts.{dialled_once}, Tallies.{Counts, fails}};
+    ghost use Rattle.fs_outside.specs.MemoryGates.{CountsReading, FindsNext, FindsReading, mem_gate_refuses, mem_gate_script, mem_gate_tally};
+    ghost use Rattle.fs_outside.specs.MemoryGates.{mem_gate_turns};
+    ghost use Rattle.fs_outside.specs.{Scripts.{dialled_once}, Tallies.{Counts, fails}};
 
     ghost turns = { mem_gate_turns };
 

@@ -1,7 +1,9 @@
 //! Files in memory, of which some calls can be made to fail.
 
 ghost use Rattle.std.specs.{Prelude.{true, ◌≡◌, ◌↔◌, ◌≤◌, IsTrue, IsSome, IfOk, min, length}, Io.{ReadsAtMost}};
-ghost use Rattle.fs_outside.specs.{Files.{ReadTakes, one_opening, opened_content}, MemoryFiles.{Adds, LeavesRest, NoFiles, mem_files_shown, mem_files_tally}, Sink.{Grew}, Tallies.{Counts, fails, narrowed, no_calls}};
+ghost use Rattle.fs_outside.specs.Files.{ReadTakes, one_opening, opened_content};
+ghost use Rattle.fs_outside.specs.MemoryFiles.{Adds, LeavesRest, NoFiles, mem_files_shown, mem_files_tally};
+ghost use Rattle.fs_outside.specs.{Sink.{Grew}, Tallies.{Counts, fails, narrowed, no_calls}};
 
 use crate::tally::{Tally, fault};
 use crate::{CalmFiles, Failed, Files, Memory};

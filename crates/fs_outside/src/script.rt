@@ -117,7 +117,8 @@ impl Held {
 }
 
 impl Script {
-    ghost use Rattle.fs_outside.specs.Scripts.{AddsContent, AddsEvent, Gives, GivesReading, comes, coming, dialled_once, held_of, new_script, reading_at, what_of};
+    ghost use Rattle.fs_outside.specs.Scripts.{AddsContent, AddsEvent, Gives, GivesReading, comes, coming, dialled_once, held_of, new_script};
+    ghost use Rattle.fs_outside.specs.Scripts.{reading_at, what_of};
 
     /// Nothing is to come, and the file isn't there.
     pub fn new(alloc: Global) -> Script

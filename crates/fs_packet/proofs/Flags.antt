@@ -1,5 +1,7 @@
 -- One number serves TCP flag values of either width.
-use Rattle.fs_packet.proofs.Words.{◌≡◌, ℕ, ◌-◌, ◌<◌, ◌%◌, ◌^◌, List, [], ◌∷◌, Bool, true, false, not, ◌==◌, if◌then◌else◌, refl, sym, ap, ◌∙◌, arith, bit_and, subst, AllByRecursion, list_all, eqb-true, groups_of, has_bit, holds, masks, onto_group, IsSoundBody, tcp_flags}
+use Rattle.fs_packet.proofs.Words.{◌≡◌, ℕ, ◌-◌, ◌<◌, ◌%◌, ◌^◌, List, [], ◌∷◌, Bool, true, false, not, ◌==◌, if◌then◌else◌, refl, sym, ap, ◌∙◌, arith}
+use Rattle.fs_packet.proofs.Words.{bit_and, subst, AllByRecursion, list_all, eqb-true, groups_of, has_bit, holds, masks, onto_group, IsSoundBody}
+use Rattle.fs_packet.proofs.Words.{tcp_flags}
 use Rattle.std.proofs.{lemmas.Nat.{and_assoc, and_comm, and_mask}, Math.Nat.{mod-eq_of_lt}}
 use Rattle.fs_base.proofs.Lists.{all_on, any_on}
 use Rattle.fs_ops.specs.{Operator.{joins, meant_bits, width_of}, OperatorList.{AreNormal}}
@@ -17,7 +19,8 @@ wide_pairs bits (pair ∷ next ∷ pairs) h = (h.0.fits, wide_pairs bits (next �
 pub sound_is_wide : (pairs : List (ℕ × ℕ)) → IsSoundBody (ListBody pairs) → AreWide pairs
 sound_is_wide pairs h = wide_pairs (meant_bits h.0) pairs h.1.normal
 
-each_onto : (P : ℕ × ℕ → Type 0) (pair : ℕ × ℕ) (groups : List (List (ℕ × ℕ))) → P pair → AllByRecursion (AllByRecursion P) groups → AllByRecursion (AllByRecursion P) (onto_group pair groups)
+each_onto : (P : ℕ × ℕ → Type 0) (pair : ℕ × ℕ) (groups : List (List (ℕ × ℕ))) → P pair → AllByRecursion (AllByRecursion P) groups
+    → AllByRecursion (AllByRecursion P) (onto_group pair groups)
 each_onto P pair [] p h = ((p, tt), tt)
 each_onto P pair (group ∷ groups) p h = ((p, h.0), h.1)
 
@@ -31,7 +34,8 @@ each_group P (pair ∷ next ∷ pairs) h = at (joins next.0) (each_group P (next
     at true rest = each_onto P pair (groups_of (next ∷ pairs)) h.0 rest
     at false rest = ((h.0, tt), rest)
 
-groups_same : (f g : ℕ × ℕ → Bool) (groups : List (List (ℕ × ℕ))) → AllByRecursion (AllByRecursion (λ x. f x ≡ g x)) groups → AllByRecursion (λ group. list_all f group ≡ list_all g group) groups
+groups_same : (f g : ℕ × ℕ → Bool) (groups : List (List (ℕ × ℕ))) → AllByRecursion (AllByRecursion (λ x. f x ≡ g x)) groups
+    → AllByRecursion (λ group. list_all f group ≡ list_all g group) groups
 groups_same f g [] h = tt
 groups_same f g (group ∷ groups) h = (all_on f g group h.0, groups_same f g groups h.1)
 
@@ -45,7 +49,8 @@ low_bits k number value h = and_assoc value number (2 ^ k - 1) ∙ ap (bit_and n
 
 masks_same : (a b : ℕ) (pair : ℕ × ℕ) → bit_and a pair.1 ≡ bit_and b pair.1 → masks a pair ≡ masks b pair
 masks_same a b pair e =
-    let said : ℕ → Bool = λ bits. (if has_bit pair.0 2 then not (if has_bit pair.0 1 then bits == pair.1 else not (bits == 0)) else (if has_bit pair.0 1 then bits == pair.1 else not (bits == 0))) in
+    let said : ℕ → Bool = λ bits. (if has_bit pair.0 2 then not (if has_bit pair.0 1 then bits == pair.1 else not (bits == 0))
+    else (if has_bit pair.0 1 then bits == pair.1 else not (bits == 0))) in
     ap said e
 
 one_pair : (octets : ℕ) (pair : ℕ × ℕ) → pair.1 < 256 ^ width_of pair.0 → masks (tcp_flags octets pair) pair ≡ masks (bit_and octets 0xfff) pair
@@ -59,9 +64,11 @@ one_pair octets pair h = at (width_of pair.0 == 1) refl
         (ap (λ (n : ℕ). bit_and n pair.1) (sym (and_mask octets 8)) ∙ low_bits 8 octets pair.1 (omega arith) ∙ sym (low_bits 12 octets pair.1 (omega arith)))
     at false e = ap (λ (n : ℕ). masks n pair) (sym (and_mask octets 12))
 
-each_pair : (octets : ℕ) (pairs : List (ℕ × ℕ)) → AreWide pairs → AllByRecursion (λ pair. masks (tcp_flags octets pair) pair ≡ masks (bit_and octets 0xfff) pair) pairs
+each_pair : (octets : ℕ) (pairs : List (ℕ × ℕ)) → AreWide pairs
+    → AllByRecursion (λ pair. masks (tcp_flags octets pair) pair ≡ masks (bit_and octets 0xfff) pair) pairs
 each_pair octets [] h = tt
 each_pair octets (pair ∷ pairs) h = (one_pair octets pair h.0, each_pair octets pairs h.1)
 
-pub flags_same : (octets : ℕ) (pairs : List (ℕ × ℕ)) → AreWide pairs → holds (λ pair. masks (tcp_flags octets pair) pair) pairs ≡ holds (masks (bit_and octets 0xfff)) pairs
+pub flags_same : (octets : ℕ) (pairs : List (ℕ × ℕ)) → AreWide pairs
+    → holds (λ pair. masks (tcp_flags octets pair) pair) pairs ≡ holds (masks (bit_and octets 0xfff)) pairs
 flags_same octets pairs h = holds_same (λ pair. masks (tcp_flags octets pair) pair) (masks (bit_and octets 0xfff)) pairs (each_pair octets pairs h)

@@ -1,5 +1,7 @@
 -- What the protocol says of the upper layer's header.
-use Rattle.fs_packet.{proofs.Words.{◌≡◌, refl, ap, ◌∙◌, ℕ, ◌==◌, Bool, true, false, Option, Some, None, if◌then◌else◌, unwrap_or, Upper, icmp_number, protocol_of, upper_of}, specs.declared.fields.Upper.TheVariants.{Tcp, Udp, Icmp, Other}}
+use Rattle.fs_packet.proofs.Words.{◌≡◌, refl, ap, ◌∙◌, ℕ, ◌==◌, Bool, true, false, Option, Some, None, if◌then◌else◌, unwrap_or, Upper, icmp_number}
+use Rattle.fs_packet.proofs.Words.{protocol_of, upper_of}
+use Rattle.fs_packet.specs.declared.fields.Upper.TheVariants.{Tcp, Udp, Icmp, Other}
 use Rattle.fs_base.specs.declared.prefix.Family.{Family}
 
 abbrev by : (tcp udp icmp : Bool) → Upper

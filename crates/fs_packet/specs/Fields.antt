@@ -1,8 +1,10 @@
 -- What is read of a packet, or why it isn't read.
-use Rattle.std.specs.Prelude.{◌≡◌, ℕ, ◌/◌, ◌<◌, ◌≤◌, ◌==◌, Bool, true, false, ◌&&◌, ◌||◌, List, length, drop, slice_index, bit_and, nat_le, if◌then◌else◌, Option, Some, None}
+use Rattle.std.specs.Prelude.{◌≡◌, ℕ, ◌/◌, ◌<◌, ◌≤◌, ◌==◌, Bool, true, false, ◌&&◌, ◌||◌, List, length, drop, slice_index, bit_and, nat_le}
+use Rattle.std.specs.Prelude.{if◌then◌else◌, Option, Some, None}
 use Rattle.byteorder.specs.Endian.{big_number}
 use Rattle.fs_base.specs.declared.{prefix.Family.{Family, TheVariants.{V4, V6}}, config.Address.{Address, TheVariants.{V4 as V4Address, V6 as V6Address}}}
-use Rattle.fs_packet.specs.declared.fields.{Unread.{Unread, TheVariants.{Foreign, Short, Version, Header, Length}}, Upper.{Upper, TheVariants.{Tcp, Udp, Icmp, Other, Unknown}}}
+use Rattle.fs_packet.specs.declared.fields.Unread.{Unread, TheVariants.{Foreign, Short, Version, Header, Length}}
+use Rattle.fs_packet.specs.declared.fields.Upper.{Upper, TheVariants.{Tcp, Udp, Icmp, Other, Unknown}}
 
 abbrev pub unread_number : Unread → ℕ
 unread_number Foreign = 1

@@ -1,9 +1,12 @@
 -- Where the network packet begins in a frame, and the fields of a captured packet, or the first test of its headers
 -- that fails (RFC 791 section 3.1, RFC 8200 sections 3 and 4).
-use Rattle.std.specs.Prelude.{ℕ, zero, suc, ◌+◌, ◌*◌, ◌/◌, ◌==◌, Bool, true, false, not, ◌&&◌, ◌||◌, bit_and, List, [], length, take, drop, slice_index, nat_lt, if◌then◌else◌, Option, Some, None, Result, Ok, Err}
+use Rattle.std.specs.Prelude.{ℕ, zero, suc, ◌+◌, ◌*◌, ◌/◌, ◌==◌, Bool, true, false, not, ◌&&◌, ◌||◌, bit_and, List, [], length, take, drop}
+use Rattle.std.specs.Prelude.{slice_index, nat_lt, if◌then◌else◌, Option, Some, None, Result, Ok, Err}
 use denote.Ref.{Bor}
-use Rattle.fs_base.specs.declared.{prefix.Family.{Family, TheVariants.{V4, V6}}, link.Link.{Link, TheVariants.{Ethernet, Raw, Cooked, CookedTwo, V4 as V4Link, V6 as V6Link}}}
-use Rattle.fs_packet.specs.{declared.fields.Unread.{Unread, TheVariants.{Foreign, Short, Version, Header, Length}}, Chain.{chain_of, last_field, protocol_at}, Fields.{Viewed, number_at, viewed}}
+use Rattle.fs_base.specs.declared.prefix.Family.{Family, TheVariants.{V4, V6}}
+use Rattle.fs_base.specs.declared.link.Link.{Link, TheVariants.{Ethernet, Raw, Cooked, CookedTwo, V4 as V4Link, V6 as V6Link}}
+use Rattle.fs_packet.specs.declared.fields.Unread.{Unread, TheVariants.{Foreign, Short, Version, Header, Length}}
+use Rattle.fs_packet.specs.{Chain.{chain_of, last_field, protocol_at}, Fields.{Viewed, number_at, viewed}}
 
 -- EtherTypes
 abbrev pub family_of_type : ℕ → Option Family

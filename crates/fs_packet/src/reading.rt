@@ -2,7 +2,9 @@
 
 ghost use Rattle.std.specs.Prelude.{◌≡◌, ◌<◌, ◌≤◌, ◌+◌, ◌==◌, ◌&&◌, [], length, if◌then◌else◌};
 ghost use Rattle.fs_base.specs.declared.prefix.Family.{Family};
-ghost use Rattle.fs_packet.specs.{Fields.{number_at}, Reading.{behind_link, behind_tags, behind_type, family_of_type, found_in, fragment_of, held_from, is_tag, packet_view, raw_view, v4_fragment, v4_starts, v4_view, v6_fragment, v6_view, view_of}};
+ghost use Rattle.fs_packet.specs.Fields.{number_at};
+ghost use Rattle.fs_packet.specs.Reading.{behind_link, behind_tags, behind_type, family_of_type, found_in, fragment_of, held_from, is_tag};
+ghost use Rattle.fs_packet.specs.Reading.{packet_view, raw_view, v4_fragment, v4_starts, v4_view, v6_fragment, v6_view, view_of};
 
 use crate::chain::walk;
 use crate::fields::{Unread, View, upper_of};

@@ -1,6 +1,13 @@
 -- What a header says, exactly where its octets are its text.
-use Rattle.fs_pcap.{proofs.Words.{◌≡◌, ℕ, List, [], ◌++◌, Option, Some, None, Bool, true, false, ◌<◌, ◌≤◌, ◌%◌, ◌^◌, ◌==◌, not, length, take, drop, refl, ap, sym, subst, ◌∙◌, arith, append-nil, length-append, take-append-drop, eqb-true, nat_lt, if◌then◌else◌, drop-drop, drop_at, length-drop, length-take, nat_tests, common_steps, IsOctets, octets_drop, Whole, Wrong, Partial, header_of, link_field, ordered_header, HeaderWords, IsHeaderOf, header_text, octets_of, number, order_of, CaptureReason, Magic, Version, Heading, Link, Endian, Big, Little}, specs.declared.{fault.CaptureReason.TheVariants.{Link as UnreadLink}, order.Unit.{Unit as FractionUnit, TheVariants.{Microseconds, Nanoseconds}}}}
-use Rattle.byteorder.specs.{Endian.{big_bytes, big_number}, Numbers.{big_number-reads_back, length-bytes_high_first, length-bytes_low_first, little_number-reads_back}}
+use Rattle.fs_pcap.proofs.Words.{◌≡◌, ℕ, List, [], ◌++◌, Option, Some, None, Bool, true, false, ◌<◌, ◌≤◌, ◌%◌, ◌^◌, ◌==◌, not, length, take, drop}
+use Rattle.fs_pcap.proofs.Words.{refl, ap, sym, subst, ◌∙◌, arith, append-nil, length-append, take-append-drop, eqb-true, nat_lt, if◌then◌else◌}
+use Rattle.fs_pcap.proofs.Words.{drop-drop, drop_at, length-drop, length-take, nat_tests, common_steps, IsOctets, octets_drop, Whole, Wrong, Partial}
+use Rattle.fs_pcap.proofs.Words.{header_of, link_field, ordered_header, HeaderWords, IsHeaderOf, header_text, octets_of, number, order_of}
+use Rattle.fs_pcap.proofs.Words.{CaptureReason, Magic, Version, Heading, Link, Endian, Big, Little}
+use Rattle.fs_pcap.specs.declared.fault.CaptureReason.TheVariants.{Link as UnreadLink}
+use Rattle.fs_pcap.specs.declared.order.Unit.{Unit as FractionUnit, TheVariants.{Microseconds, Nanoseconds}}
+use Rattle.byteorder.specs.Endian.{big_bytes, big_number}
+use Rattle.byteorder.specs.Numbers.{big_number-reads_back, length-bytes_high_first, length-bytes_low_first, little_number-reads_back}
 use Rattle.fs_base.{proofs.{Digits.{big_below, big_written, little_below, little_written}, Bools.{true_of_not}}, specs.Link.{link_of}}
 use Rattle.fs_input.specs.declared.head.Head.{Head}
 
@@ -224,7 +231,8 @@ header_parted order words twelve =
     parted (big_bytes 4 words.magic) (octets_of order 2 2) (octets_of order 2 4) words.unread (octets_of order 4 words.link_word)
     (octets_count Big 4 words.magic) (octets_count order 2 2) (octets_count order 2 4) twelve (octets_count order 4 words.link_word)
 
-pub header_size : (order : Endian) (unit : FractionUnit) (link : Link) (words : HeaderWords) → IsHeaderOf order unit link words → length (header_text order words) ≡ 24
+pub header_size : (order : Endian) (unit : FractionUnit) (link : Link) (words : HeaderWords) → IsHeaderOf order unit link words
+    → length (header_text order words) ≡ 24
 header_size order unit link words h = let p = header_parted order words h.unread_size in p.size
 
 last_read : (order : Endian) (x : ℕ) (octets : List ℕ) → octets ≡ octets_of order 4 x → x < 256 ^ 4 → number order 4 octets ≡ x

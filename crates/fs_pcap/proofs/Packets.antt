@@ -1,5 +1,11 @@
 -- What a record says, exactly where its octets are its packet's text.
-use Rattle.fs_pcap.{proofs.{Words.{◌≡◌, ℕ, List, [], ◌∷◌, ◌++◌, Bool, true, false, ◌<◌, ◌≤◌, ◌+◌, ◌^◌, length, take, drop, refl, ap, sym, subst, ◌∙◌, arith, append-nil, append_assoc, length-append, take-append-drop, flat_map, max, nat_le, nat_lt, if◌then◌else◌, drop-drop, drop_at, length-drop, length-take, take_at, nat_tests, common_steps, IsOctets, octets_drop, octets_take, first_record, Whole, Wrong, Partial, record_found, Captured, packet_of, records, Fits, after, octets_of, packet_text, stands, number, time_of, RecordTooLong, Context, Endian}, Headings.{number_below, number_read, number_written, octets_count}}, specs.{Head.{head_of, said_in}, declared.{capture.Caught.{Caught}, order.Unit.{Unit as FractionUnit}}}}
+use Rattle.fs_pcap.proofs.Words.{◌≡◌, ℕ, List, [], ◌∷◌, ◌++◌, Bool, true, false, ◌<◌, ◌≤◌, ◌+◌, ◌^◌, length, take, drop, refl, ap, sym, subst, ◌∙◌}
+use Rattle.fs_pcap.proofs.Words.{arith, append-nil, append_assoc, length-append, take-append-drop, flat_map, max, nat_le, nat_lt, if◌then◌else◌}
+use Rattle.fs_pcap.proofs.Words.{drop-drop, drop_at, length-drop, length-take, take_at, nat_tests, common_steps, IsOctets, octets_drop, octets_take}
+use Rattle.fs_pcap.proofs.Words.{first_record, Whole, Wrong, Partial, record_found, Captured, packet_of, records, Fits, after, octets_of, packet_text}
+use Rattle.fs_pcap.proofs.Words.{stands, number, time_of, RecordTooLong, Context, Endian}
+use Rattle.fs_pcap.proofs.Headings.{number_below, number_read, number_written, octets_count}
+use Rattle.fs_pcap.specs.{Head.{head_of, said_in}, declared.{capture.Caught.{Caught}, order.Unit.{Unit as FractionUnit}}}
 use Rattle.fs_input.specs.Parts.{At, ReadsText, SpellsText, text_from}
 
 -- the fields of a whole head
@@ -90,7 +96,8 @@ packet_spelled now found are h =
     let text : octets ≡ packet_text order (packet_of said payload) ++ drop one.size behind =
     sym (take-append-drop 16 octets)
     ∙ ap (λ front. front ++ behind) heads
-    ∙ ap (λ n. (octets_of order 4 said.seconds ++ (octets_of order 4 said.fraction ++ (octets_of order 4 n ++ octets_of order 4 said.original))) ++ behind) sized
+    ∙ ap (λ n. (octets_of order 4 said.seconds ++ (octets_of order 4 said.fraction ++ (octets_of order 4 n ++ octets_of order 4 said.original)))
+    ++ behind) sized
     ∙ ap
     (λ b. (octets_of order 4 said.seconds ++ (octets_of order 4 said.fraction ++ (octets_of order 4 one.size ++ octets_of order 4 said.original))) ++ b)
     (sym (take-append-drop one.size behind))

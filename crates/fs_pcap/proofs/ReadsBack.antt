@@ -1,5 +1,12 @@
 -- A capture is done exactly where it is the text of its packets, behind a header.
-use Rattle.fs_pcap.{proofs.{Words.{◌≡◌, ℕ, List, [], ◌++◌, Some, None, Result, Ok, Err, ◌<◌, ◌≤◌, length, take, drop, refl, ap, sym, subst, ◌∙◌, arith, length-append, take-append-drop, nat_le, flat_map, drop_at, length-drop, length-take, take-take, take_at, IsOctets, octets_drop, octets_take, opened_by, End, done, Partial, opened_whole, HasHead, Captured, Recorded, capture_of, heading_of, packets_to_come, recorded, records, header_of, Fits, HeaderWords, IsCaptureOf, IsHeaderOf, ReadsBack, after, header_text, packet_text, stands, CaptureReason, Cut, Context, Heading, Link, Endian, Big, Little}, Headings.{IsHeading, header_read, header_size, heading_known, heading_told, heading_written}, Packets.{packet_read, packet_spelled, texts}}, specs.declared.order.Unit.{Unit as FractionUnit}}
+use Rattle.fs_pcap.proofs.Words.{◌≡◌, ℕ, List, [], ◌++◌, Some, None, Result, Ok, Err, ◌<◌, ◌≤◌, length, take, drop, refl, ap, sym, subst, ◌∙◌, arith}
+use Rattle.fs_pcap.proofs.Words.{length-append, take-append-drop, nat_le, flat_map, drop_at, length-drop, length-take, take-take, take_at, IsOctets}
+use Rattle.fs_pcap.proofs.Words.{octets_drop, octets_take, opened_by, End, done, Partial, opened_whole, HasHead, Captured, Recorded, capture_of}
+use Rattle.fs_pcap.proofs.Words.{heading_of, packets_to_come, recorded, records, header_of, Fits, HeaderWords, IsCaptureOf, IsHeaderOf, ReadsBack}
+use Rattle.fs_pcap.proofs.Words.{after, header_text, packet_text, stands, CaptureReason, Cut, Context, Heading, Link, Endian, Big, Little}
+use Rattle.fs_pcap.proofs.Headings.{IsHeading, header_read, header_size, heading_known, heading_told, heading_written}
+use Rattle.fs_pcap.proofs.Packets.{packet_read, packet_spelled, texts}
+use Rattle.fs_pcap.specs.declared.order.Unit.{Unit as FractionUnit}
 use Rattle.fs_input.proofs.Done.{all_taken, done_text, text_done}
 
 abbrev behind_opening : ℕ → List ℕ → Result Heading (End CaptureReason) → Recorded

@@ -1,8 +1,11 @@
 -- A capture of the libpcap file format, version 2.4: a header, and records. A record has a head and the captured
 -- octets.
 use Rattle.std.specs.Prelude.{ℕ, List, [], Option, Some, None, Result, Ok, Err, ◌≡◌, ◌≤◌, take, drop}
-use Rattle.fs_input.specs.{NextRecord.{Grows as GrowsBy}, Opening.{opening}, Records.{End, Format, records_to_come}, declared.fault.{Ended.{Ended}, Fault.{Fault}}}
-use Rattle.fs_pcap.specs.{Head.{head_of, longest_record}, Header.{header_of}, declared.{capture.Caught.{Caught}, fault.CaptureReason.{CaptureReason, TheVariants.{Cut}}, head.Context.{Context}, header.Heading.{Heading}}}
+use Rattle.fs_input.specs.{NextRecord.{Grows as GrowsBy}, Opening.{opening}, Records.{End, Format, records_to_come}}
+use Rattle.fs_input.specs.declared.fault.{Ended.{Ended}, Fault.{Fault}}
+use Rattle.fs_pcap.specs.{Head.{head_of, longest_record}, Header.{header_of}}
+use Rattle.fs_pcap.specs.declared.{capture.Caught.{Caught}, fault.CaptureReason.{CaptureReason, TheVariants.{Cut}}, head.Context.{Context}}
+use Rattle.fs_pcap.specs.declared.header.Heading.{Heading}
 use Rattle.fs_base.specs.declared.link.Link.{Link}
 
 -- A captured packet. Its moment, in nanoseconds since the start of 1970, is the greatest time of the records up to and

@@ -1,7 +1,8 @@
 -- The head of a record has 16 octets: seconds, a fraction of them, the captured length and the original length, 4 each.
 use Rattle.std.specs.Prelude.{ℕ, List, length, drop, max, nat_lt, if◌then◌else◌}
 use Rattle.fs_input.specs.declared.head.Head.{Head, TheVariants.{Whole, Wrong, Partial}}
-use Rattle.fs_pcap.specs.{Order.{number, time_of}, declared.{fault.CaptureReason.{CaptureReason, TheVariants.{RecordTooLong}}, capture.Caught.{Caught}, head.Context.{Context}}}
+use Rattle.fs_pcap.specs.Order.{number, time_of}
+use Rattle.fs_pcap.specs.declared.{fault.CaptureReason.{CaptureReason, TheVariants.{RecordTooLong}}, capture.Caught.{Caught}, head.Context.{Context}}
 
 -- What a head says. Its moment is the greatest time of the records up to and with this one.
 abbrev pub said_in : Context → List ℕ → Caught

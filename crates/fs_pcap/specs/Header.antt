@@ -5,7 +5,9 @@ use Rattle.std.specs.Prelude.{ℕ, List, Some, None, ◌%◌, ◌==◌, not, len
 use Rattle.byteorder.specs.Endian.{big_number}
 use Rattle.fs_input.specs.declared.head.Head.{Head, TheVariants.{Whole, Wrong, Partial}}
 use Rattle.fs_base.specs.Link.{link_of}
-use Rattle.fs_pcap.specs.{Order.{number, order_of}, declared.{fault.CaptureReason.{CaptureReason, TheVariants.{Magic, Version, Link as UnreadLink}}, header.Heading.{Heading}, order.{Endian.{Endian}, Unit.{Unit as FractionUnit}}}}
+use Rattle.fs_pcap.specs.Order.{number, order_of}
+use Rattle.fs_pcap.specs.declared.fault.CaptureReason.{CaptureReason, TheVariants.{Magic, Version, Link as UnreadLink}}
+use Rattle.fs_pcap.specs.declared.{header.Heading.{Heading}, order.{Endian.{Endian}, Unit.{Unit as FractionUnit}}}
 
 -- what the link type's number says
 abbrev pub link_field : Endian → FractionUnit → ℕ → Head Heading CaptureReason

@@ -3,7 +3,8 @@ use Rattle.std.specs.Prelude.{ℕ, List, ◌++◌, Some, ◌≡◌, ◌↔◌, �
 use Rattle.byteorder.specs.Endian.{big_bytes, little_bytes}
 use Rattle.fs_base.specs.{Language.{IsOctets}, Link.{link_of}, declared.link.Link.{Link}}
 use Rattle.fs_input.specs.{Parts.{AllFrom}, Records.{done}}
-use Rattle.fs_pcap.specs.{Capture.{Captured, capture_of}, Head.{longest_record}, Order.{order_of, time_of}, declared.{head.Context.{Context}, order.{Endian.{Endian, TheVariants.{Big, Little}}, Unit.{Unit as FractionUnit}}}}
+use Rattle.fs_pcap.specs.{Capture.{Captured, capture_of}, Head.{longest_record}, Order.{order_of, time_of}}
+use Rattle.fs_pcap.specs.declared.{head.Context.{Context}, order.{Endian.{Endian, TheVariants.{Big, Little}}, Unit.{Unit as FractionUnit}}}
 
 abbrev pub octets_of : Endian → ℕ → ℕ → List ℕ
 octets_of Big size number = big_bytes size number

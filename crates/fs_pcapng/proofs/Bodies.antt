@@ -1,5 +1,13 @@
 -- The body of a block, and what it gives.
-use Rattle.fs_pcapng.{proofs.{Words.{◌≡◌, ◌≢◌, ℕ, List, Bool, true, false, Option, Some, None, Result, Ok, Err, ◌≤◌, ◌+◌, ◌-◌, ◌==◌, drop, length, take, take_all, ap, sym, subst, ◌∙◌, arith, if◌then◌else◌, nat_lt, slice_get, nat_tests, big_number, Counted, number, Endian, Calls, Reads, Scanner, and, field, gives, needs, gives_for, reads_as, reads_ends, reads_then, whole, Packet, Stands, allows, behind_packet, body_in, cut_to, described_in, end_in, fitting, frame_of, kind_behind, magic_behind, octets_in, opened, order_of, ordered_in, packet, plain_in, section_in, simple_behind, simple_by, simple_in, version_in, with_interface, padded, Fault, seen_from, Kind, Described, NgReason, Cut, Length, TooMany, Version, Frame, needs_true, Interface}, Fitting.{fits}}, specs.declared.caught.Seen.{Seen}}
+use Rattle.fs_pcapng.proofs.Words.{◌≡◌, ◌≢◌, ℕ, List, Bool, true, false, Option, Some, None, Result, Ok, Err, ◌≤◌, ◌+◌, ◌-◌, ◌==◌, drop, length, take}
+use Rattle.fs_pcapng.proofs.Words.{take_all, ap, sym, subst, ◌∙◌, arith, if◌then◌else◌, nat_lt, slice_get, nat_tests, big_number, Counted, number}
+use Rattle.fs_pcapng.proofs.Words.{Endian, Calls, Reads, Scanner, and, field, gives, needs, gives_for, reads_as, reads_ends, reads_then, whole}
+use Rattle.fs_pcapng.proofs.Words.{Packet, Stands, allows, behind_packet, body_in, cut_to, described_in, end_in, fitting, frame_of, kind_behind}
+use Rattle.fs_pcapng.proofs.Words.{magic_behind, octets_in, opened, order_of, ordered_in, packet, plain_in, section_in, simple_behind, simple_by}
+use Rattle.fs_pcapng.proofs.Words.{simple_in, version_in, with_interface, padded, Fault, seen_from, Kind, Described, NgReason, Cut, Length, TooMany}
+use Rattle.fs_pcapng.proofs.Words.{Version, Frame, needs_true, Interface}
+use Rattle.fs_pcapng.proofs.Fitting.{fits}
+use Rattle.fs_pcapng.specs.declared.caught.Seen.{Seen}
 use Rattle.std.specs.Option.{option_map}
 
 -- a section header, or a block that is none

@@ -1,4 +1,6 @@
-use Rattle.fs_pcapng.proofs.Words.{◌≡◌, ℕ, suc, zero, List, Bool, true, false, Option, Ok, Err, ◌<◌, ◌≤◌, ◌+◌, ◌==◌, refl, subst, arith, nat_tests, Counted, Endian, Fault, Calls, Reads, and, gives, reads_ends, reads_gives, Going, going_more, going_start, going_then, option_in, options_in, cursor, NgReason, Cut, Cursor}
+use Rattle.fs_pcapng.proofs.Words.{◌≡◌, ℕ, suc, zero, List, Bool, true, false, Option, Ok, Err, ◌<◌, ◌≤◌, ◌+◌, ◌==◌, refl, subst, arith, nat_tests}
+use Rattle.fs_pcapng.proofs.Words.{Counted, Endian, Fault, Calls, Reads, and, gives, reads_ends, reads_gives, Going, going_more, going_start}
+use Rattle.fs_pcapng.proofs.Words.{going_then, option_in, options_in, cursor, NgReason, Cut, Cursor}
 
 -- The options of an interface, walked one by one.
 

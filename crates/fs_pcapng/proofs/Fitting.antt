@@ -1,4 +1,5 @@
-use Rattle.fs_pcapng.proofs.Words.{◌≡◌, ℕ, List, ◌≤◌, ◌+◌, take, drop, length, refl, subst, arith, length-drop, take_all, le_true, number, Endian, Scanner, fitting, option_behind, padded, value_in, NgReason, Frame, Cursor}
+use Rattle.fs_pcapng.proofs.Words.{◌≡◌, ℕ, List, ◌≤◌, ◌+◌, take, drop, length, refl, subst, arith, length-drop, take_all, le_true, number, Endian}
+use Rattle.fs_pcapng.proofs.Words.{Scanner, fitting, option_behind, padded, value_in, NgReason, Frame, Cursor}
 
 -- What a packet's block tells, passed field by field.
 

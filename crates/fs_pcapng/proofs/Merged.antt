@@ -1,5 +1,7 @@
 -- A packet's octets, what else its block holds and the total length again, taken as one field.
-use Rattle.fs_pcapng.proofs.Words.{◌≡◌, ◌≢◌, ◌+◌, ◌-◌, ◌==◌, ℕ, List, Bool, true, false, length, take, drop, refl, ap, sym, ◌∙◌, arith, nat_le, nat_tests, drop-take, length-drop, take-take, number, whole, Scanner, and, and_then, behind, field, gives, got, needs, partial, end_in, NgReason, Length, Frame}
+use Rattle.fs_pcapng.proofs.Words.{◌≡◌, ◌≢◌, ◌+◌, ◌-◌, ◌==◌, ℕ, List, Bool, true, false, length, take, drop, refl, ap, sym, ◌∙◌, arith, nat_le}
+use Rattle.fs_pcapng.proofs.Words.{nat_tests, drop-take, length-drop, take-take, number, whole, Scanner, and, and_then, behind, field, gives, got}
+use Rattle.fs_pcapng.proofs.Words.{needs, partial, end_in, NgReason, Length, Frame}
 use Rattle.std.proofs.lemmas.Grind.{common_steps}
 
 -- what the octets of all three say
@@ -47,7 +49,8 @@ merged frame captured rest place octets = by (nat_le (captured + rest + 4) (leng
         let three : nat_le 4 (length (drop rest (drop captured octets))) ≡ true =
         let l = length-drop captured octets in let m = length-drop rest (drop captured octets) in grind (arith, nat_tests, h) in
         rw (h, one, two, three, first, last)
-        (finish Length captured rest (frame.start + frame.total - 4) frame.total (place + (captured + rest + 4)) (place + captured) (place + captured + rest + 4)
+        (finish Length captured rest (frame.start + frame.total - 4) frame.total (place + (captured + rest + 4)) (place + captured)
+        (place + captured + rest + 4)
         (take captured octets) (drop (captured + rest + 4) octets) (drop captured octets) (drop 4 (drop rest (drop captured octets)))
         (number frame.order 4 (drop (captured + rest) (take (captured + rest + 4) octets)) == frame.total))
     by false h = rw h (short (nat_le captured (length octets)) (nat_le rest (length (drop captured octets))) refl refl h)

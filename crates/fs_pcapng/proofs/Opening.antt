@@ -1,7 +1,14 @@
 -- The first block of a capture, octets of which may have been put back.
-use Rattle.fs_pcapng.proofs.{Words.{◌≡◌, inl, inr, ℕ, List, [], ◌++◌, Bool, true, false, Option, Some, None, Result, Ok, Err, IsTrue, ◌<◌, ◌≤◌, ◌==◌, ◌&&◌, not, length, take, refl, ap, sym, ◌∙◌, subst, arith, if◌then◌else◌, nat_le, unwrap_or, nat_tests, at_limit, window, Counted, End, bad, done, limited, Fault, Read, Limit, Bad, only_told, Scanner, Takes, Calls, Fails, HasMore, Reads, ahead, end_of, ends_by, whole, and, and_then, field, gives, got, partial, gives_for, reads_as, reads_ends, reads_then, big_number, Endian, Packet, Stands, block_in, kind_behind, opened, section_in, nothing, NgReason, Cut}, Bodies.{header_kind}, Spelled.{block_takes}}
+use Rattle.fs_pcapng.proofs.Words.{◌≡◌, inl, inr, ℕ, List, [], ◌++◌, Bool, true, false, Option, Some, None, Result, Ok, Err, IsTrue, ◌<◌, ◌≤◌, ◌==◌}
+use Rattle.fs_pcapng.proofs.Words.{◌&&◌, not, length, take, refl, ap, sym, ◌∙◌, subst, arith, if◌then◌else◌, nat_le, unwrap_or, nat_tests, at_limit}
+use Rattle.fs_pcapng.proofs.Words.{window, Counted, End, bad, done, limited, Fault, Read, Limit, Bad, only_told, Scanner, Takes, Calls, Fails}
+use Rattle.fs_pcapng.proofs.Words.{HasMore, Reads, ahead, end_of, ends_by, whole, and, and_then, field, gives, got, partial, gives_for, reads_as}
+use Rattle.fs_pcapng.proofs.Words.{reads_ends, reads_then, big_number, Endian, Packet, Stands, block_in, kind_behind, opened, section_in, nothing}
+use Rattle.fs_pcapng.proofs.Words.{NgReason, Cut}
+use Rattle.fs_pcapng.proofs.{Bodies.{header_kind}, Spelled.{block_takes}}
 use Rattle.fs_base.specs.Files.{LeavesOthers}
-use Rattle.fs_input.{proofs.{Advancing.{part_advances}, Again.{ahead_here, ahead_other, nothing_ahead, reads_ahead}, Coming.{end_comes}}, specs.{Coming.{Chain, told_to_come}, Opening.{Begins}}}
+use Rattle.fs_input.proofs.{Advancing.{part_advances}, Again.{ahead_here, ahead_other, nothing_ahead, reads_ahead}, Coming.{end_comes}}
+use Rattle.fs_input.specs.{Coming.{Chain, told_to_come}, Opening.{Begins}}
 
 module _ (chain : Chain Stands (Option Packet) NgReason) (same : chain nothing ≡ block_in nothing) where
   -- the packets of a capture that is read by this chain, and how it ends
@@ -65,8 +72,10 @@ module _ (chain : Chain Stands (Option Packet) NgReason) (same : chain nothing �
         let one : 1 ≤ took.count = held.0 in
         let some : 0 < length (window old.limit old.taken content) = omega (arith, one, held.1) in
         let behind : ahead new left' new.slot ≡ left' old.slot = λ i. nothing_ahead new left' none i (h.passes.slot i) in
-        let by_chain : Reads told calls calls' (ahead old left) (ahead new left') holds holds' (chain nothing) Cut old new (λ (_ : T). (None, now)) (Ok answer) =
-        subst (λ (s : Scanner (Option Packet × Stands) NgReason). Reads told calls calls' (ahead old left) (ahead new left') holds holds' s Cut old new (λ (_ : T). (None, now)) (Ok answer))
+        let by_chain : Reads told calls calls' (ahead old left) (ahead new left') holds holds' (chain nothing) Cut old new (λ (_ : T). (None, now))
+        (Ok answer) =
+        subst (λ (s : Scanner (Option Packet × Stands) NgReason).
+        Reads told calls calls' (ahead old left) (ahead new left') holds holds' s Cut old new (λ (_ : T). (None, now)) (Ok answer))
         (sym same) h in
         ap (λ l. all_of old.limit l) (sym (ahead_here old left))
         ∙ judged old.limit content (subst (λ n. 0 < length (window old.limit n content)) start some)

@@ -1,5 +1,19 @@
 -- Blocks as they stand in a capture: what is read is spelled so.
-use Rattle.fs_pcapng.{proofs.Words.{◌≡◌, ℕ, zero, suc, List, [], ◌∷◌, ◌++◌, Option, Some, None, Bool, true, false, ◌<◌, ◌≤◌, ◌+◌, ◌-◌, ◌*◌, ◌%◌, ◌==◌, ◌&&◌, max, length, drop, refl, ap, sym, subst, ◌∙◌, arith, append-nil, append_assoc, length-append, if◌then◌else◌, flat_map, nat_le, nat_lt, slice_get, slice_index, AllByRecursion, drop_at, nat_tests, big_number, longest_record, number, Endian, Takes, whole, Scanner, and, field, gives, needs, skips, Part, Spells, and_spells, cut_at, fails_spells, field_reads, field_spells, gives_spells, map_reads, map_spells, needs_spells, part_spells, skips_reads, skips_spells, weaker_spells, IsSpelled, spelled_takes, Packet, Stands, allows, behind_packet, block_in, body_in, close_in, cut_to, described_behind, described_in, end_in, enhanced_in, fitting, frame_of, kind_behind, kind_of, least_of, magic_behind, octets_in, opened, order_of, ordered_in, original_in, packet, plain_in, section_header, section_in, simple_behind, simple_by, simple_in, timed_behind, timed_in, total_behind, version_in, with_interface, cursor, option_behind, option_in, options_in, padded, unit_in, value_in, time_of, Block, Choice, Description, Fits, IsBlock, IsChoice, IsPlain, IsSection, Outer, Record, Section, Short, Written, block_gives, block_text, body_text, choice_text, described, enhanced, gives_by, packet_of, section, short_of, simple, skipped, unit_behind, unit_of, Kind, Described, Enhanced, Simple, Other, NgReason, Length, Magic, RecordTooLong, TooMany, Version, Frame, Cursor, Interface}, specs.declared.fault.NgReason.TheVariants.{Interface as WrongInterface}}
+use Rattle.fs_pcapng.proofs.Words.{◌≡◌, ℕ, zero, suc, List, [], ◌∷◌, ◌++◌, Option, Some, None, Bool, true, false, ◌<◌, ◌≤◌, ◌+◌, ◌-◌, ◌*◌, ◌%◌, ◌==◌}
+use Rattle.fs_pcapng.proofs.Words.{◌&&◌, max, length, drop, refl, ap, sym, subst, ◌∙◌, arith, append-nil, append_assoc, length-append, if◌then◌else◌}
+use Rattle.fs_pcapng.proofs.Words.{flat_map, nat_le, nat_lt, slice_get, slice_index, AllByRecursion, drop_at, nat_tests, big_number, longest_record}
+use Rattle.fs_pcapng.proofs.Words.{number, Endian, Takes, whole, Scanner, and, field, gives, needs, skips, Part, Spells, and_spells, cut_at}
+use Rattle.fs_pcapng.proofs.Words.{fails_spells, field_reads, field_spells, gives_spells, map_reads, map_spells, needs_spells, part_spells}
+use Rattle.fs_pcapng.proofs.Words.{skips_reads, skips_spells, weaker_spells, IsSpelled, spelled_takes, Packet, Stands, allows, behind_packet}
+use Rattle.fs_pcapng.proofs.Words.{block_in, body_in, close_in, cut_to, described_behind, described_in, end_in, enhanced_in, fitting, frame_of}
+use Rattle.fs_pcapng.proofs.Words.{kind_behind, kind_of, least_of, magic_behind, octets_in, opened, order_of, ordered_in, original_in, packet}
+use Rattle.fs_pcapng.proofs.Words.{plain_in, section_header, section_in, simple_behind, simple_by, simple_in, timed_behind, timed_in, total_behind}
+use Rattle.fs_pcapng.proofs.Words.{version_in, with_interface, cursor, option_behind, option_in, options_in, padded, unit_in, value_in, time_of}
+use Rattle.fs_pcapng.proofs.Words.{Block, Choice, Description, Fits, IsBlock, IsChoice, IsPlain, IsSection, Outer, Record, Section, Short, Written}
+use Rattle.fs_pcapng.proofs.Words.{block_gives, block_text, body_text, choice_text, described, enhanced, gives_by, packet_of, section, short_of}
+use Rattle.fs_pcapng.proofs.Words.{simple, skipped, unit_behind, unit_of, Kind, Described, Enhanced, Simple, Other, NgReason, Length, Magic}
+use Rattle.fs_pcapng.proofs.Words.{RecordTooLong, TooMany, Version, Frame, Cursor, Interface}
+use Rattle.fs_pcapng.specs.declared.fault.NgReason.TheVariants.{Interface as WrongInterface}
 use Rattle.fs_base.proofs.Bools.{and_parts}
 use Rattle.byteorder.specs.Numbers.{big_from-append, little_from-append}
 use Rattle.fs_pcap.specs.declared.order.Endian.TheVariants.{Big, Little}
@@ -57,7 +71,8 @@ close_spells frame =
     and_spells (Num frame.order 4) P (field 4 (number frame.order 4))
     (λ again. needs (again == frame.total) Length (frame.start + frame.total - 4) (gives frame.total)) (num_spells frame.order 4)
     (λ again part n.
-    needs_spells (λ found more. Closing frame.order frame.total (part ++ more)) (again == frame.total) Length (frame.start + frame.total - 4) (gives frame.total)
+    needs_spells (λ found more. Closing frame.order frame.total (part ++ more)) (again == frame.total) Length (frame.start + frame.total - 4)
+    (gives frame.total)
     (λ test.
     let same : again ≡ frame.total = grind (arith, nat_tests) in
     gives_spells (λ found more. Closing frame.order frame.total (part ++ more)) frame.total
@@ -169,7 +184,8 @@ pub choice_size : (order : Endian) (choice : Choice) → IsChoice order choice �
 choice_size order choice is =
     omega (arith, length-append (choice.code ++ choice.size) choice.value, length-append choice.code choice.size, is.code, is.size)
 
-more_chosen : (order : Endian) (now next : Cursor) (found : ℕ) (part more : List ℕ) → ChoiceRead order now next part → Choices order next.left next.unit found more
+more_chosen : (order : Endian) (now next : Cursor) (found : ℕ) (part more : List ℕ) → ChoiceRead order now next part
+    → Choices order next.left next.unit found more
     → Choices order now.left now.unit found (part ++ more)
 more_chosen order now next found part more o c = record {
   choices = o.choice ∷ c.choices;
@@ -193,7 +209,8 @@ options_by order fuel now going few false t =
     (λ found more c. more_chosen order now next found part more o c)
     (going next (omega (arith, o.left_is, o.fits, some, few))))
 
-options_spells : (order : Endian) (fuel : ℕ) (now : Cursor) → now.left ≤ fuel → Spells {R = NgReason} (Choices order now.left now.unit) (options_in order fuel now)
+options_spells : (order : Endian) (fuel : ℕ) (now : Cursor) → now.left ≤ fuel
+    → Spells {R = NgReason} (Choices order now.left now.unit) (options_in order fuel now)
 options_spells order zero now few = gives_spells (Choices order now.left now.unit) now.unit (none_chosen order now.left now.unit (omega (arith, few)))
 options_spells order (suc fuel) now few = options_by order fuel now (options_spells order fuel) few (now.left == 0) refl
 
@@ -239,7 +256,8 @@ version_spells start order total magic m told_so least groups =
     and_spells (Num order 2) (λ found more. SectionRead total found (magic ++ more)) (field 2 (number order 2))
     (λ major. needs (major == 1) Version (start + 12) (and (end_in frame (frame.total - 18)) (λ _. gives order))) (num_spells order 2)
     (λ major part n.
-    needs_spells (λ found more. SectionRead total found (magic ++ (part ++ more))) (major == 1) Version (start + 12) (and (end_in frame (frame.total - 18)) (λ _. gives order))
+    needs_spells (λ found more. SectionRead total found (magic ++ (part ++ more))) (major == 1) Version (start + 12)
+    (and (end_in frame (frame.total - 18)) (λ _. gives order))
     (λ test.
     let one : major ≡ 1 = grind (arith, nat_tests) in
     map_spells (λ found octets. Ending order frame.total (frame.total - 18) octets) (λ found more. SectionRead total found (magic ++ (part ++ more)))
@@ -334,7 +352,8 @@ module _ (order : Endian) (now : Stands) (start total : ℕ) where
       and_spells (Choices order (total - 20) 6) (λ interface more. P interface (part ++ more)) (options_in order (total - 20) (cursor (total - 20) 6))
       (λ unit. and (close_in frame) (λ _. gives (made unit))) (options_spells order (total - 20) (cursor (total - 20) 6) (omega arith))
       (λ unit options c.
-      map_spells (λ found again. Closing order total again) (λ interface more. P interface (part ++ (options ++ more))) (close_in frame) (λ _. made unit) (close_spells frame)
+      map_spells (λ found again. Closing order total again) (λ interface more. P interface (part ++ (options ++ more))) (close_in frame)
+      (λ _. made unit) (close_spells frame)
       (λ found again closing. described_found head part options again unit least room p c closing))))
       (λ interface octets b. b))
 
@@ -395,8 +414,10 @@ module _ (order : Endian) (now : Stands) (start total : ℕ) where
       → Num order 4 which which_text → slice_get now.interfaces which ≡ Some interface → Part 12 head head_text → Num order 4 original original_text
       → number order 4 (drop 8 head) ≤ longest_record → 32 + padded (number order 4 (drop 8 head)) ≤ total
       → OctetsRead 32 (number order 4 (drop 8 head)) found octets
-      → BodyRead order now Enhanced total
-      (Some (packet (timed_moment interface head) interface.link original found), behind_packet now (packet (timed_moment interface head) interface.link original found))
+      → BodyRead order now Enhanced total (
+        Some (packet (timed_moment interface head) interface.link original found),
+        behind_packet now (packet (timed_moment interface head) interface.link original found),
+      )
       (which_text ++ (head_text ++ (original_text ++ octets)))
   record_found which original which_text head head_text original_text found octets interface w known p n few room o =
       let t = cut_twice 4 4 head_text (omega (arith, p.long)) in
@@ -466,7 +487,8 @@ module _ (order : Endian) (now : Stands) (start total : ℕ) where
       }
 
   timed_spells : (which : ℕ) (which_text : List ℕ) (interface : Option Interface) → Num order 4 which which_text → slice_get now.interfaces which ≡ interface
-      → Spells (λ found more. BodyRead order now Enhanced total (Some found, behind_packet now found) (which_text ++ more)) (timed_in frame now.moment interface)
+      → Spells (λ found more. BodyRead order now Enhanced total (Some found, behind_packet now found) (which_text ++ more))
+      (timed_in frame now.moment interface)
   timed_spells which which_text None w known =
       fails_spells (λ found more. BodyRead order now Enhanced total (Some found, behind_packet now found) (which_text ++ more)) WrongInterface (start + 8)
   timed_spells which which_text (Some interface) w known =
@@ -478,7 +500,8 @@ module _ (order : Endian) (now : Stands) (start total : ℕ) where
       (original_in frame interface.link (timed_moment interface head) captured)
       (λ few room.
       and_spells (Num order 4) (λ found more. P found (which_text ++ (head_text ++ more))) (field 4 (number order 4))
-      (λ original. and (octets_in frame 32 captured) (λ octets. gives (packet (timed_moment interface head) interface.link original octets))) (num_spells order 4)
+      (λ original. and (octets_in frame 32 captured) (λ octets. gives (packet (timed_moment interface head) interface.link original octets)))
+      (num_spells order 4)
       (λ original original_text n.
       map_spells (OctetsRead 32 captured) (λ found more. P found (which_text ++ (head_text ++ (original_text ++ more)))) (octets_in frame 32 captured)
       (λ octets. packet (timed_moment interface head) interface.link original octets) (octets_spells 32 captured)
@@ -497,7 +520,10 @@ module _ (order : Endian) (now : Stands) (start total : ℕ) where
   short_found : (original : ℕ) (original_text found octets : List ℕ) (interface : Interface) → slice_get now.interfaces 0 ≡ Some interface
       → Num order 4 original original_text → cut_to interface.snap original ≤ longest_record → 16 + padded (cut_to interface.snap original) ≤ total
       → OctetsRead 16 (cut_to interface.snap original) found octets
-      → BodyRead order now Simple total (Some (packet now.moment interface.link original found), behind_packet now (packet now.moment interface.link original found)) (original_text ++ octets)
+      → BodyRead order now Simple total (
+        Some (packet now.moment interface.link original found),
+        behind_packet now (packet now.moment interface.link original found),
+      ) (original_text ++ octets)
   short_found original original_text found octets interface known n few room o =
       let s : Short = record { original = original_text; octets = found; rest = o.rest } in
       let captured_is : cut_to interface.snap original ≡ cut_to interface.snap (number order 4 original_text) = ap (cut_to interface.snap) n.is in
@@ -598,20 +624,23 @@ plain_found order now total value kind total_text octets long other known n grou
       value_is = b.value_is;
     }
 
-plain_spells : (start : ℕ) (now : Stands) (order : Option Endian) (kind : List ℕ) → now.order ≡ order → length kind ≡ 4 → (big_number 4 kind == section_header) ≡ false
+plain_spells : (start : ℕ) (now : Stands) (order : Option Endian) (kind : List ℕ) → now.order ≡ order → length kind ≡ 4
+    → (big_number 4 kind == section_header) ≡ false
     → Spells (λ value more. Given now value (kind ++ more)) (plain_in start now order kind)
 plain_spells start now None kind known long other = fails_spells (λ value more. Given now value (kind ++ more)) Magic start
 plain_spells start now (Some order) kind known long other =
     let which = kind_of (number order 4 kind) in
     and_spells (Num order 4) (λ value more. Given now value (kind ++ more)) (field 4 (number order 4)) (total_behind start order now which) (num_spells order 4)
     (λ total total_text n.
-    needs_spells (λ value more. Given now value (kind ++ (total_text ++ more))) (allows (least_of which) total) Length (start + 4) (body_in (frame_of order start total) now which)
+    needs_spells (λ value more. Given now value (kind ++ (total_text ++ more))) (allows (least_of which) total) Length (start + 4)
+    (body_in (frame_of order start total) now which)
     (λ test.
     let both = and_parts (nat_le (least_of which) total) (total % 4 == 0) test in
     let first = both.0 in
     let second = both.1 in
     let groups : total % 4 ≡ 0 = grind (arith, nat_tests, second) in
-    weaker_spells (BodyRead order now which total) (λ value more. Given now value (kind ++ (total_text ++ more))) (body_in (frame_of order start total) now which)
+    weaker_spells (BodyRead order now which total) (λ value more. Given now value (kind ++ (total_text ++ more)))
+    (body_in (frame_of order start total) now which)
     (λ value octets b. plain_found order now total value kind total_text octets long other known n groups b)
     (body_spells order now start total which (grind (arith, nat_tests, first)))))
 
@@ -638,7 +667,8 @@ kind_spells : (now : Stands) (start : ℕ) (kind : List ℕ) → length kind ≡
 kind_spells now start kind long = by (big_number 4 kind == section_header) refl
   where
     by : (test : Bool) → (big_number 4 kind == section_header) ≡ test
-        → Spells (λ value more. Given now value (kind ++ more)) (if test then and (section_in start) (λ order. gives (None, opened order now.moment)) else plain_in start now now.order kind)
+        → Spells (λ value more. Given now value (kind ++ more)) (if test then and (section_in start) (λ order. gives (None, opened order now.moment))
+        else plain_in start now now.order kind)
     by true t =
         let is : big_number 4 kind ≡ section_header = grind (arith, nat_tests, t) in
         map_spells SectionAt (λ value more. Given now value (kind ++ more)) (section_in start) (λ order. (None, opened order now.moment)) (section_spells start)

@@ -1,7 +1,13 @@
 -- What stands before an enhanced packet's octets, judged as a chain of its own.
-use Rattle.fs_pcapng.{proofs.Words.{◌≡◌, ℕ, List, Bool, true, false, Option, Some, None, ◌≤◌, ◌+◌, ◌*◌, max, length, take, drop, refl, ap, sym, ◌∙◌, subst, arith, IfErr, nat_le, slice_get, drop-drop, number, window, le_true, Read, scan_of, settled, Scanned, whole, Scan, Scanner, and, and_then, behind, field, gives, got, needs, partial, wrong, behind_more, behind_none, Packet, Stands, enhanced_in, fitting, octets_in, original_in, packet, timed_behind, timed_in, told_behind, told_by, told_in, told_of, told_timed, padded, time_of, NgReason, Cut, Length, RecordTooLong, Frame, Interface}, specs.declared.{fault.NgReason.TheVariants.{Interface as WrongInterface}, packets.Told.{Told}}}
+use Rattle.fs_pcapng.proofs.Words.{◌≡◌, ℕ, List, Bool, true, false, Option, Some, None, ◌≤◌, ◌+◌, ◌*◌, max, length, take, drop, refl, ap, sym, ◌∙◌}
+use Rattle.fs_pcapng.proofs.Words.{subst, arith, IfErr, nat_le, slice_get, drop-drop, number, window, le_true, Read, scan_of, settled, Scanned, whole}
+use Rattle.fs_pcapng.proofs.Words.{Scan, Scanner, and, and_then, behind, field, gives, got, needs, partial, wrong, behind_more, behind_none, Packet}
+use Rattle.fs_pcapng.proofs.Words.{Stands, enhanced_in, fitting, octets_in, original_in, packet, timed_behind, timed_in, told_behind, told_by}
+use Rattle.fs_pcapng.proofs.Words.{told_in, told_of, told_timed, padded, time_of, NgReason, Cut, Length, RecordTooLong, Frame, Interface}
+use Rattle.fs_pcapng.specs.declared.{fault.NgReason.TheVariants.{Interface as WrongInterface}, packets.Told.{Told}}
 use Rattle.fs_base.specs.Filling.{Fills}
-use Rattle.fs_input.{specs.declared.judging.Judged.{Judged, TheVariants.{Whole, Wrong, Partial}}, proofs.{Fixed.{IsFixed, and_fixed, fails_fixed, field_fixed, gives_fixed, judged_reads, needs_fixed}, CutShort.{short_reads}}}
+use Rattle.fs_input.specs.declared.judging.Judged.{Judged, TheVariants.{Whole, Wrong, Partial}}
+use Rattle.fs_input.proofs.{Fixed.{IsFixed, and_fixed, fails_fixed, field_fixed, gives_fixed, judged_reads, needs_fixed}, CutShort.{short_reads}}
 
 -- chains in chains
 

@@ -1,5 +1,21 @@
 -- Blocks as they stand in a capture: what was written is read, and no other octets are.
-use Rattle.fs_pcapng.{proofs.{Words.{◌≡◌, ℕ, zero, suc, List, [], ◌∷◌, ◌++◌, Option, Some, None, Bool, true, false, ◌<◌, ◌≤◌, ◌+◌, ◌-◌, ◌*◌, ◌%◌, ◌==◌, ◌&&◌, not, max, length, drop, refl, ap, sym, subst, ◌∙◌, ◌↔◌, arith, append-nil, append_assoc, length-append, if◌then◌else◌, flat_map, nat_le, nat_lt, slice_get, slice_index, AllByRecursion, drop_at, length-take, nat_tests, big_number, at_limit, window, longest_record, number, Endian, End, bad, done, IsTextOf, whole, Scanner, and, field, gives, needs, skips, and_reads, field_reads, gives_reads, map_reads, needs_reads, skips_reads, told_text, Packet, Stands, allows, behind_packet, block_in, body_in, close_in, cut_to, described_behind, described_in, end_in, enhanced_in, fitting, frame_of, kind_behind, kind_of, least_of, magic_behind, octets_in, opened, order_of, ordered_in, original_in, packet, plain_in, section_header, section_in, simple_behind, simple_by, simple_in, timed_behind, timed_in, total_behind, version_in, with_interface, cursor, option_behind, option_in, options_in, padded, sized_in, value_in, nothing, packets_to_come, time_of, Block, Choice, Description, Fits, IsBlock, IsChoice, IsDescription, IsFramed, IsPlain, IsRecord, IsSection, IsShort, Outer, Record, Section, Short, Written, block_gives, block_text, body_text, choice_text, described, enhanced, gives_by, interface_of, packet_of, section, short_of, simple, skipped, unit_behind, unit_of, Kind, Described, Enhanced, Simple, Other, NgReason, Cut, Length, RecordTooLong, TooMany, Version, Frame, Cursor, Interface}, Spelled.{block_takes, Closing, block_spells, choice_size, is_one, joined, number_first, second_is, snap_is, third_is, timed_moment, value_reads}}, specs.Laws.{ReadsBack}}
+use Rattle.fs_pcapng.proofs.Words.{◌≡◌, ℕ, zero, suc, List, [], ◌∷◌, ◌++◌, Option, Some, None, Bool, true, false, ◌<◌, ◌≤◌, ◌+◌, ◌-◌, ◌*◌, ◌%◌, ◌==◌}
+use Rattle.fs_pcapng.proofs.Words.{◌&&◌, not, max, length, drop, refl, ap, sym, subst, ◌∙◌, ◌↔◌, arith, append-nil, append_assoc, length-append}
+use Rattle.fs_pcapng.proofs.Words.{if◌then◌else◌, flat_map, nat_le, nat_lt, slice_get, slice_index, AllByRecursion, drop_at, length-take, nat_tests}
+use Rattle.fs_pcapng.proofs.Words.{big_number, at_limit, window, longest_record, number, Endian, End, bad, done, IsTextOf, whole, Scanner, and, field}
+use Rattle.fs_pcapng.proofs.Words.{gives, needs, skips, and_reads, field_reads, gives_reads, map_reads, needs_reads, skips_reads, told_text, Packet}
+use Rattle.fs_pcapng.proofs.Words.{Stands, allows, behind_packet, block_in, body_in, close_in, cut_to, described_behind, described_in, end_in}
+use Rattle.fs_pcapng.proofs.Words.{enhanced_in, fitting, frame_of, kind_behind, kind_of, least_of, magic_behind, octets_in, opened, order_of}
+use Rattle.fs_pcapng.proofs.Words.{ordered_in, original_in, packet, plain_in, section_header, section_in, simple_behind, simple_by, simple_in}
+use Rattle.fs_pcapng.proofs.Words.{timed_behind, timed_in, total_behind, version_in, with_interface, cursor, option_behind, option_in, options_in}
+use Rattle.fs_pcapng.proofs.Words.{padded, sized_in, value_in, nothing, packets_to_come, time_of, Block, Choice, Description, Fits, IsBlock, IsChoice}
+use Rattle.fs_pcapng.proofs.Words.{IsDescription, IsFramed, IsPlain, IsRecord, IsSection, IsShort, Outer, Record, Section, Short, Written}
+use Rattle.fs_pcapng.proofs.Words.{block_gives, block_text, body_text, choice_text, described, enhanced, gives_by, interface_of, packet_of, section}
+use Rattle.fs_pcapng.proofs.Words.{short_of, simple, skipped, unit_behind, unit_of, Kind, Described, Enhanced, Simple, Other, NgReason, Cut, Length}
+use Rattle.fs_pcapng.proofs.Words.{RecordTooLong, TooMany, Version, Frame, Cursor, Interface}
+use Rattle.fs_pcapng.proofs.Spelled.{block_takes, Closing, block_spells, choice_size, is_one, joined, number_first, second_is, snap_is, third_is}
+use Rattle.fs_pcapng.proofs.Spelled.{timed_moment, value_reads}
+use Rattle.fs_pcapng.specs.Laws.{ReadsBack}
 use Rattle.fs_input.proofs.Spelling.{Reads}
 
 option_read : (order : Endian) (now : Cursor) (choice : Choice) → IsChoice order choice → length (choice_text choice) ≤ now.left
@@ -41,7 +57,8 @@ options_read order (suc fuel) now (choice ∷ choices) are long few =
     let sum : length part + length more ≡ now.left = sym (length-append part more) ∙ long in
     let next = cursor (now.left - length part) (unit_behind order now.unit choice) in
     let left : (now.left == 0) ≡ false = grind (arith, nat_tests, sum, some) in
-    subst (λ (b : Bool). Reads (if b then gives now.unit else and (option_in order now) (options_in order fuel)) (part ++ more) (unit_of order next.unit choices)) (sym left)
+    subst (λ (b : Bool). Reads (if b then gives now.unit else and (option_in order now) (options_in order fuel)) (part ++ more)
+    (unit_of order next.unit choices)) (sym left)
     (and_reads (option_in order now) (options_in order fuel) part more next (unit_of order next.unit choices)
     (option_read order now choice are.0 (omega (arith, sum)))
     (options_read order fuel next choices are.1 (omega (arith, sum)) (omega (arith, sum, some, few))))
@@ -68,10 +85,12 @@ module _ (order : Endian) (now : Stands) (start total : ℕ) (again : List ℕ) 
       let head = d.link ++ (d.reserved ++ d.snap) in
       let options = flat_map choice_text d.choices in
       let unit = unit_of order 6 d.choices in
-      let head_size : length head ≡ 8 = omega (arith, length-append d.link (d.reserved ++ d.snap), length-append d.reserved d.snap, is.link, is.reserved, is.snap) in
+      let head_size : length head ≡ 8 =
+      omega (arith, length-append d.link (d.reserved ++ d.snap), length-append d.reserved d.snap, is.link, is.reserved, is.snap) in
       let made : ℕ → Interface = λ unit. record { link = number order 2 head; snap = number order 4 (drop 4 head); unit = unit } in
       let link : number order 2 head ≡ number order 2 d.link = number_first order 2 d.link (d.reserved ++ d.snap) is.link in
-      let snap : number order 4 (drop 4 head) ≡ number order 4 d.snap = ap (number order 4) (snap_is order now start total d.link d.reserved d.snap is.link is.reserved) in
+      let snap : number order 4 (drop 4 head) ≡ number order 4 d.snap =
+      ap (number order 4) (snap_is order now start total d.link d.reserved d.snap is.link is.reserved) in
       let found : made unit ≡ interface_of order d = λ i. record { link = link i; snap = snap i; unit = unit } in
       let left : length options ≡ total - 20 = omega (arith, size, length-append head options, head_size) in
       let few = is.room in
@@ -93,7 +112,8 @@ module _ (order : Endian) (now : Stands) (start total : ℕ) (again : List ℕ) 
       (field_reads captured whole found long)
       (map_reads (end_in within (total - fixed - captured)) (λ _. found) (rest ++ again) total (end_read (total - fixed - captured) rest left))
 
-  fitting_read : {A : Type 0} (fixed captured place : ℕ) (next : Scanner A NgReason) (octets : List ℕ) (value : A) → captured ≤ longest_record → fixed + padded captured ≤ total
+  fitting_read : {A : Type 0} (fixed captured place : ℕ) (next : Scanner A NgReason) (octets : List ℕ) (value : A) → captured ≤ longest_record
+      → fixed + padded captured ≤ total
       → Reads next octets value → Reads (fitting within fixed captured place next) octets value
   fitting_read fixed captured place next octets value few room h =
       let a : nat_le captured longest_record ≡ true = grind (arith, nat_tests, few) in
@@ -109,7 +129,8 @@ module _ (order : Endian) (now : Stands) (start total : ℕ) (again : List ℕ) 
       let moment = timed_moment order now start total interface head in
       let found = packet moment interface.link (number order 4 r.original) r.octets in
       let octets = r.octets ++ (r.rest ++ again) in
-      let head_size : length head ≡ 12 = omega (arith, length-append r.high (r.low ++ r.captured), length-append r.low r.captured, is.high, is.low, is.captured) in
+      let head_size : length head ≡ 12 =
+      omega (arith, length-append r.high (r.low ++ r.captured), length-append r.low r.captured, is.high, is.low, is.captured) in
       let captured_is : captured ≡ number order 4 r.captured = ap (number order 4) (third_is order now start total r.high r.low r.captured is.high is.low) in
       let high : number order 4 head ≡ number order 4 r.high = number_first order 4 r.high (r.low ++ r.captured) is.high in
       let low : number order 4 (drop 4 head) ≡ number order 4 r.low = second_is order now start total r.high r.low r.captured is.high is.low in
@@ -131,15 +152,19 @@ module _ (order : Endian) (now : Stands) (start total : ℕ) (again : List ℕ) 
         is.original,
         long,
       ) in
-      map_reads (enhanced_in within now) (λ found. (Some found, behind_packet now found)) (body_text (enhanced interface r) ++ again) (packet_of order now.moment interface r)
-      (subst (λ l. Reads (enhanced_in within now) l (packet_of order now.moment interface r)) (joined order now start total r.which head r.original r.octets r.rest again)
+      map_reads (enhanced_in within now) (λ found. (Some found, behind_packet now found)) (body_text (enhanced interface r) ++ again)
+      (packet_of order now.moment interface r)
+      (subst (λ l. Reads (enhanced_in within now) l (packet_of order now.moment interface r))
+      (joined order now start total r.which head r.original r.octets r.rest again)
       (subst (Reads (enhanced_in within now) (r.which ++ (head ++ (r.original ++ octets)))) same
-      (and_reads (field 4 (number order 4)) (λ which. timed_in within now.moment (slice_get now.interfaces which)) r.which (head ++ (r.original ++ octets)) (number order 4 r.which) found
+      (and_reads (field 4 (number order 4)) (λ which. timed_in within now.moment (slice_get now.interfaces which)) r.which
+      (head ++ (r.original ++ octets)) (number order 4 r.which) found
       (field_reads 4 (number order 4) r.which is.which)
       (subst (λ (o : Option Interface). Reads (timed_in within now.moment o) (head ++ (r.original ++ octets)) found) (sym is.interface_is)
       (and_reads (field 12 whole) (timed_behind within interface now.moment) head (r.original ++ octets) head found (field_reads 12 whole head head_size)
       (fitting_read 32 captured (start + 20) (original_in within interface.link moment captured) (r.original ++ octets) found most (omega (arith, sum, padding))
-      (and_reads (field 4 (number order 4)) (λ original. and (octets_in within 32 captured) (λ found. gives (packet moment interface.link original found))) r.original octets
+      (and_reads (field 4 (number order 4))
+      (λ original. and (octets_in within 32 captured) (λ found. gives (packet moment interface.link original found))) r.original octets
       (number order 4 r.original) found (field_reads 4 (number order 4) r.original is.original)
       (map_reads (octets_in within 32 captured) (λ found. packet moment interface.link (number order 4 r.original) found) octets r.octets
       (octets_read 32 captured r.octets r.rest long (omega (arith, sum)))))))))))
@@ -160,8 +185,10 @@ module _ (order : Endian) (now : Stands) (start total : ℕ) (again : List ℕ) 
       map_reads (simple_in within now) (λ found. (Some found, behind_packet now found)) (body_text (simple interface s) ++ again) found
       (subst (λ l. Reads (simple_in within now) l found) text
       (subst (λ (o : Option Interface). Reads (simple_by within now.moment o) (s.original ++ octets) found) (sym is.interface_is)
-      (and_reads (field 4 (number order 4)) (simple_behind within interface now.moment) s.original octets original found (field_reads 4 (number order 4) s.original is.original)
-      (fitting_read 16 captured (start + 8) (and (octets_in within 16 captured) (λ octets. gives (packet now.moment interface.link original octets))) octets found is.holds.most
+      (and_reads (field 4 (number order 4)) (simple_behind within interface now.moment) s.original octets original found
+      (field_reads 4 (number order 4) s.original is.original)
+      (fitting_read 16 captured (start + 8) (and (octets_in within 16 captured) (λ octets. gives (packet now.moment interface.link original octets)))
+      octets found is.holds.most
       (omega (arith, sum, padding))
       (map_reads (octets_in within 16 captured) (λ octets. packet now.moment interface.link original octets) octets s.octets
       (octets_read 16 captured s.octets s.rest long (omega (arith, sum))))))))
@@ -188,9 +215,11 @@ module _ (order : Endian) (now : Stands) (start total : ℕ) (again : List ℕ) 
       (and_reads (field 4 (big_number 4)) (λ magic. ordered_in start total_text (order_of magic)) s.magic (s.major ++ (s.rest ++ again)) magic order
       (field_reads 4 (big_number 4) s.magic is.magic_size)
       (subst (λ (o : Option Endian). Reads (ordered_in start total_text o) (s.major ++ (s.rest ++ again)) order) (sym is.magic_is)
-      (subst (λ (t : ℕ). Reads (needs (allows 28 t) Length (start + 4) (version_in (frame_of order start t))) (s.major ++ (s.rest ++ again)) order) (sym total_is)
+      (subst (λ (t : ℕ). Reads (needs (allows 28 t) Length (start + 4) (version_in (frame_of order start t))) (s.major ++ (s.rest ++ again)) order)
+      (sym total_is)
       (needs_reads (allows 28 total) Length (start + 4) (version_in within) (s.major ++ (s.rest ++ again)) order (λ i. least i && whole_groups i)
-      (and_reads (field 2 (number order 2)) (λ major. needs (major == 1) Version (start + 12) (and (end_in within (total - 18)) (λ _. gives order))) s.major (s.rest ++ again) major order
+      (and_reads (field 2 (number order 2)) (λ major. needs (major == 1) Version (start + 12) (and (end_in within (total - 18)) (λ _. gives order)))
+      s.major (s.rest ++ again) major order
       (field_reads 2 (number order 2) s.major is.major_size)
       (needs_reads (major == 1) Version (start + 12) (and (end_in within (total - 18)) (λ _. gives order)) (s.rest ++ again) order first
       (map_reads (end_in within (total - 18)) (λ _. order) (s.rest ++ again) total (end_read (total - 18) s.rest (omega (arith, sum))))))))))
@@ -206,15 +235,19 @@ plain_read order now start outer kind body value f plain least read =
     let enough : nat_le (least_of kind) total ≡ true = grind (arith, nat_tests, least) in
     let whole_groups : (total % 4 == 0) ≡ true = grind (arith, nat_tests, groups) in
     let octets = body ++ outer.again in
-    subst (λ (b : Bool). Reads (if b then and (section_in start) (λ order. gives (None, opened order now.moment)) else plain_in start now now.order outer.kind) (outer.total ++ octets) value)
+    subst (λ (b : Bool). Reads (if b then and (section_in start) (λ order. gives (None, opened order now.moment))
+    else plain_in start now now.order outer.kind) (outer.total ++ octets) value)
     (sym plain.other)
     (subst (λ (o : Option Endian). Reads (plain_in start now o outer.kind) (outer.total ++ octets) value) (sym plain.order_is)
-    (and_reads (field 4 (number order 4)) (total_behind start order now (kind_of (number order 4 outer.kind))) outer.total octets (number order 4 outer.total) value
+    (and_reads (field 4 (number order 4)) (total_behind start order now (kind_of (number order 4 outer.kind))) outer.total octets
+    (number order 4 outer.total) value
     (field_reads 4 (number order 4) outer.total f.total)
     (subst (λ (p : Kind × ℕ). Reads (total_behind start order now p.0 p.1) octets value) (sym (λ i. (plain.kind_is i, f.total_is i)))
-    (needs_reads (allows (least_of kind) total) Length (start + 4) (body_in (frame_of order start total) now kind) octets value (λ i. enough i && whole_groups i) read))))
+    (needs_reads (allows (least_of kind) total) Length (start + 4) (body_in (frame_of order start total) now kind) octets value
+    (λ i. enough i && whole_groups i) read))))
 
-behind_read : (order : Endian) (now : Stands) (start : ℕ) (outer : Outer) (block : Block) → IsFramed order (length (body_text block)) outer → IsBlock order now outer block
+behind_read : (order : Endian) (now : Stands) (start : ℕ) (outer : Outer) (block : Block) → IsFramed order (length (body_text block)) outer
+    → IsBlock order now outer block
     → Reads (kind_behind now start outer.kind) (outer.total ++ (body_text block ++ outer.again)) (gives_by order now block)
 behind_read order now start outer (section s) f is =
     let total = 12 + length (body_text (section s)) in
@@ -268,7 +301,8 @@ behind_read order now start outer (simple interface s) f is =
     let body = body_text (simple interface s) in
     let c : Closing order (12 + length body) outer.again = record { long = f.again; is = f.again_is } in
     let h = is.1 in
-    plain_read order now start outer Simple body (gives_by order now (simple interface s)) f is.0 (omega (arith, length-append s.original (s.octets ++ s.rest), h.original))
+    plain_read order now start outer Simple body (gives_by order now (simple interface s)) f is.0
+    (omega (arith, length-append s.original (s.octets ++ s.rest), h.original))
     (short_read order now start (12 + length body) outer.again c interface s h refl)
 behind_read order now start outer (skipped octets) f is =
     let c : Closing order (12 + length octets) outer.again = record { long = f.again; is = f.again_is } in

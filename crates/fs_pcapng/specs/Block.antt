@@ -3,12 +3,17 @@
 -- Generation (pcapng) Capture File Format', draft-ietf-opsawg-pcapng: its sections 'General Block Structure', 'Section
 -- Header Block', 'Interface Description Block', 'Enhanced Packet Block' and 'Simple Packet Block'. Blocks of other types
 -- are skipped.)
-use Rattle.std.specs.Prelude.{ℕ, List, [], ◌∷◌, ◌++◌, Option, Some, None, Bool, ◌+◌, ◌-◌, ◌*◌, ◌%◌, ◌==◌, ◌&&◌, length, drop, max, min, nat_le, nat_lt, slice_get, if◌then◌else◌}
+use Rattle.std.specs.Prelude.{ℕ, List, [], ◌∷◌, ◌++◌, Option, Some, None, Bool, ◌+◌, ◌-◌, ◌*◌, ◌%◌, ◌==◌, ◌&&◌, length, drop, max, min, nat_le}
+use Rattle.std.specs.Prelude.{nat_lt, slice_get, if◌then◌else◌}
 use Rattle.byteorder.specs.Endian.{big_number}
 use Rattle.fs_pcap.specs.{Head.{longest_record}, Order.{number}, declared.order.Endian.{Endian, TheVariants.{Big, Little}}}
 use Rattle.fs_base.specs.{Link.{link_of}, declared.link.Link.{Link}}
 use Rattle.fs_input.specs.{Reads.{whole}, Scan.{Scanner, and, fails, field, gives, needs, skips}}
-use Rattle.fs_pcapng.specs.{Options.{options_in, padded, cursor}, Time.{time_of}, declared.{block.Kind.{Kind, TheVariants.{Described, Enhanced, Simple, Other}}, fault.NgReason.{NgReason, TheVariants.{Interface as WrongInterface, Length, Magic, RecordTooLong, TooMany, Version}}, fields.Frame.{Frame}, section.Interface.{Interface}}}
+use Rattle.fs_pcapng.specs.{Options.{options_in, padded, cursor}, Time.{time_of}}
+use Rattle.fs_pcapng.specs.declared.block.Kind.{Kind, TheVariants.{Described, Enhanced, Simple, Other}}
+use Rattle.fs_pcapng.specs.declared.fault.NgReason.{NgReason}
+use Rattle.fs_pcapng.specs.declared.fault.NgReason.TheVariants.{Interface as WrongInterface, Length, Magic, RecordTooLong, TooMany, Version}
+use Rattle.fs_pcapng.specs.declared.{fields.Frame.{Frame}, section.Interface.{Interface}}
 
 -- What a capture stands in: the order that the last section header tells, the section's interfaces, and the moment of
 -- the last packet.

@@ -3,7 +3,9 @@
 use Rattle.std.specs.Prelude.{ℕ, List, Option, Some, None, ◌≤◌, ◌+◌, ◌*◌, drop, max, slice_get, ⊤}
 use Rattle.fs_pcap.specs.{Head.{longest_record}, Order.{number}}
 use Rattle.fs_input.specs.{Reads.{whole}, Scan.{Scanner, and, fails, field, gives}, declared.judging.Judged.{Judged, TheVariants.{Whole, Wrong, Partial}}}
-use Rattle.fs_pcapng.specs.{Block.{Stands, fitting}, Time.{time_of}, declared.{fault.NgReason.{NgReason, TheVariants.{Interface as WrongInterface}}, fields.Frame.{Frame}, packets.Told.{Told}, section.Interface.{Interface}}}
+use Rattle.fs_pcapng.specs.{Block.{Stands, fitting}, Time.{time_of}}
+use Rattle.fs_pcapng.specs.declared.fault.NgReason.{NgReason, TheVariants.{Interface as WrongInterface}}
+use Rattle.fs_pcapng.specs.declared.{fields.Frame.{Frame}, packets.Told.{Told}, section.Interface.{Interface}}
 
 abbrev pub told_of : (link moment captured original : ℕ) → Told
 told_of link moment captured original =

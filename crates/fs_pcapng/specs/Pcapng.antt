@@ -4,7 +4,8 @@ use Rattle.std.specs.Prelude.{ℕ, List, [], Option, Some, None, Result, ◌≡�
 use Rattle.fs_base.specs.{Parts.{at_limit, window}, declared.link.Link.{Link}}
 use Rattle.fs_pcap.specs.Head.{longest_record}
 use Rattle.fs_input.specs.{NextRecord.{Grows as GrowsBy}, Records.{End, bad}, declared.fault.{Ended.{Ended}, Fault.{Fault}}, Coming.{told_to_come}}
-use Rattle.fs_pcapng.specs.{Block.{Packet, Stands, block_in}, declared.{caught.{NgCaught.{NgCaught}, Seen.{Seen}}, fault.NgReason.{NgReason, TheVariants.{Cut}}}}
+use Rattle.fs_pcapng.specs.Block.{Packet, Stands, block_in}
+use Rattle.fs_pcapng.specs.declared.{caught.{NgCaught.{NgCaught}, Seen.{Seen}}, fault.NgReason.{NgReason, TheVariants.{Cut}}}
 
 -- the packets that are still to come, where a capture stands so and so many octets of it were taken, and how it ends
 abbrev pub packets_to_come : (limit taken : ℕ) → Stands → List ℕ → List Packet × End NgReason

@@ -1,10 +1,14 @@
 -- A block as it stands in a capture, field by field (the pcapng draft's sections 'General Block Structure', 'Section
 -- Header Block', 'Interface Description Block', 'Options', 'Enhanced Packet Block' and 'Simple Packet Block'), and what it
 -- gives.
-use Rattle.std.specs.{Prelude.{ℕ, List, [], ◌∷◌, ◌++◌, Option, Some, None, false, ◌≡◌, ◌≤◌, ◌<◌, ◌+◌, ◌*◌, ◌%◌, ◌==◌, ◌&&◌, length, max, flat_map, slice_get, slice_index, if◌then◌else◌}, List.{AllByRecursion}}
+use Rattle.std.specs.Prelude.{ℕ, List, [], ◌∷◌, ◌++◌, Option, Some, None, false, ◌≡◌, ◌≤◌, ◌<◌, ◌+◌, ◌*◌, ◌%◌, ◌==◌, ◌&&◌, length, max, flat_map}
+use Rattle.std.specs.Prelude.{slice_get, slice_index, if◌then◌else◌}
+use Rattle.std.specs.List.{AllByRecursion}
 use Rattle.byteorder.specs.Endian.{big_number}
 use Rattle.fs_pcap.specs.{Head.{longest_record}, Order.{number}, declared.order.Endian.{Endian}}
-use Rattle.fs_pcapng.specs.{Block.{Packet, Stands, behind_packet, cut_to, kind_of, opened, order_of, packet, section_header, with_interface}, Options.{padded}, Time.{time_of}, declared.{block.Kind.{Kind, TheVariants.{Described, Enhanced, Simple, Other}}, section.Interface.{Interface}}}
+use Rattle.fs_pcapng.specs.Block.{Packet, Stands, behind_packet, cut_to, kind_of, opened, order_of, packet, section_header, with_interface}
+use Rattle.fs_pcapng.specs.{Options.{padded}, Time.{time_of}}
+use Rattle.fs_pcapng.specs.declared.{block.Kind.{Kind, TheVariants.{Described, Enhanced, Simple, Other}}, section.Interface.{Interface}}
 
 -- what stands round the body of each block: type and total length before it, the total length again behind it
 pub record Outer : Type 0 where

@@ -3,7 +3,8 @@ ghost use Rattle.std.specs.Prelude.{◌≡◌, ◌≤◌, ◌<◌, ◌+◌, ◌-
 ghost use Rattle.fs_pcap.specs.Head.{longest_record};
 ghost use Rattle.fs_base.specs.Link.{link_of};
 ghost use Rattle.fs_input.specs.{Judging.{scan_of}, Reads.{Scans}};
-ghost use Rattle.fs_pcapng.specs.{Block.{cut_to, described_in, enhanced_in, octets_in, simple_in}, Packets.{Suits, told_by, told_in}, Pcapng.{seen_from}, declared.fault.NgReason.TheVariants.{Cut}};
+ghost use Rattle.fs_pcapng.specs.Block.{cut_to, described_in, enhanced_in, octets_in, simple_in};
+ghost use Rattle.fs_pcapng.specs.{Packets.{Suits, told_by, told_in}, Pcapng.{seen_from}, declared.fault.NgReason.TheVariants.{Cut}};
 
 use crate::caught::{NgCaught, Seen};
 use crate::fault::{Got, NgFault, NgReason};

@@ -1,4 +1,7 @@
-use Rattle.fs_peering.proofs.Words.{Announcing, Closed, SaysText, Sent, Starts, StartsOpen, StartsWith, StaysEnded, first_text, is_established, next_text, state_in, text_sent, ◌≡◌, ◌≤◌, ℕ, suc, zero, ◌+◌, ◌-◌, List, [], ◌∷◌, ◌++◌, length, drop, take, Bool, true, false, if◌then◌else◌, Option, Some, None, Result, Ok, Err, refl, ap, sym, ◌∙◌, subst, arith, IfSome, IfOk, OnOk, is_some, ahead_of}
+use Rattle.fs_peering.proofs.Words.{Announcing, Closed, SaysText, Sent, Starts, StartsOpen, StartsWith, StaysEnded, first_text, is_established}
+use Rattle.fs_peering.proofs.Words.{next_text, state_in, text_sent, ◌≡◌, ◌≤◌, ℕ, suc, zero, ◌+◌, ◌-◌, List, [], ◌∷◌, ◌++◌, length, drop, take, Bool}
+use Rattle.fs_peering.proofs.Words.{true, false, if◌then◌else◌, Option, Some, None, Result, Ok, Err, refl, ap, sym, ◌∙◌, subst, arith, IfSome, IfOk}
+use Rattle.fs_peering.proofs.Words.{OnOk, is_some, ahead_of}
 
 -- What an announcing end has still to say.
 
@@ -37,18 +40,21 @@ none_left text n [] h = omega arith
 none_left text zero (sent ∷ rules) h = absurd cc
 none_left text (suc n) (sent ∷ rules) h = let later = none_left text n rules h in omega (arith, later)
 
-starts_ahead_at : (b : Bool) (old new : Announcing) (out out' : List ℕ) (started : Bool) → StartsWith b old new out out' → ahead_of new started ≤ ahead_of old started
+starts_ahead_at : (b : Bool) (old new : Announcing) (out out' : List ℕ) (started : Bool) → StartsWith b old new out out'
+    → ahead_of new started ≤ ahead_of old started
 starts_ahead_at true old new out out' started s = subst (λ (n : Announcing). ahead_of n started ≤ ahead_of old started) (sym s.0) (least (ahead_of old started))
   where
     least : (n : ℕ) → n ≤ n
     least n = omega arith
-starts_ahead_at false old new out out' started s = subst (λ (n : Announcing). ahead_of n started ≤ ahead_of old started) (sym s.0) (least (ahead_of old started))
+starts_ahead_at false old new out out' started s =
+    subst (λ (n : Announcing). ahead_of n started ≤ ahead_of old started) (sym s.0) (least (ahead_of old started))
   where
     least : (n : ℕ) → n ≤ n
     least n = omega arith
 
 -- saying the OPEN leaves no more to be said
-pub starts_ahead : (old new : Announcing) (out out' : List ℕ) (result : Result (Unit {0}) Closed) → StaysEnded old new result out out' → StartsOpen old new out out' result
+pub starts_ahead : (old new : Announcing) (out out' : List ℕ) (result : Result (Unit {0}) Closed) → StaysEnded old new result out out'
+    → StartsOpen old new out out' result
     → (started : Bool) → ahead_of new started ≤ ahead_of old started
 starts_ahead old new out out' result stays starts started = by old.line.closed refl
   where
@@ -70,7 +76,8 @@ starts_ahead old new out out' result stays starts started = by old.line.closed r
     by (Some why) e = same (stayed old new out out' result stays why e).1
 
 -- none is left once an established end says nothing more
-pub says_all : (old new : Announcing) (started : Bool) (out out' : List ℕ) → old.line.closed ≡ None → is_established (state_in old.line) ≡ true → started ≡ true → SaysText (next_text old) false old new out out'
+pub says_all : (old new : Announcing) (started : Bool) (out out' : List ℕ) → old.line.closed ≡ None → is_established (state_in old.line) ≡ true
+    → started ≡ true → SaysText (next_text old) false old new out out'
     → ahead_of new started ≡ 0
 says_all old new started out out' alive up begun_is says =
     at texts refl (subst (λ (b : Bool). SaysText (if b then texts else None) false old new out out') up says)
@@ -78,18 +85,21 @@ says_all old new started out out' alive up begun_is says =
     texts : Option (List ℕ)
     texts = first_text (text_sent old.config old.peer old.line.phase.four old.sending) (drop old.appended old.sending.rules)
 
-    enough : length old.sending.rules ≤ old.appended → (if is_some old.line.closed then 0 else (if started then 0 else 1) + (length old.sending.rules - old.appended)) ≡ 0
+    enough : length old.sending.rules ≤ old.appended
+        → (if is_some old.line.closed then 0 else (if started then 0 else 1) + (length old.sending.rules - old.appended)) ≡ 0
     enough h = subst (λ (c : Option Closed). (if is_some c then 0 else (if started then 0 else 1) + (length old.sending.rules - old.appended)) ≡ 0) (sym alive)
         (subst (λ (b : Bool). (if b then 0 else 1) + (length old.sending.rules - old.appended) ≡ 0) (sym begun_is) (omega (arith, h)))
 
     at : (o : Option (List ℕ)) → texts ≡ o → SaysText o false old new out out' → ahead_of new started ≡ 0
-    at None e s = subst (λ (n : Announcing). ahead_of n started ≡ 0) (sym s.1) (enough (none_left (text_sent old.config old.peer old.line.phase.four old.sending) old.appended old.sending.rules e))
+    at None e s = subst (λ (n : Announcing). ahead_of n started ≡ 0) (sym s.1)
+        (enough (none_left (text_sent old.config old.peer old.line.phase.four old.sending) old.appended old.sending.rules e))
     at (Some text) e s = absurd (never s.0)
       where
         never : false ≡ true → ⊥
         never h = cc
 
-pub starts_ok : (old new : Announcing) (out out' : List ℕ) (result : Result (Unit {0}) Closed) → result ≡ Ok tt → StaysEnded old new result out out' → StartsOpen old new out out' result
+pub starts_ok : (old new : Announcing) (out out' : List ℕ) (result : Result (Unit {0}) Closed) → result ≡ Ok tt → StaysEnded old new result out out'
+    → StartsOpen old new out out' result
     → (old.line.closed ≡ None) × StartsWith old.started old new out out'
 starts_ok old new out out' result e stays starts =
     let alive : old.line.closed ≡ None = alive_on old new out out' result stays tt e in

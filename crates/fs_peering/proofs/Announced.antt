@@ -1,5 +1,14 @@
 -- How what an announcing end says over a wire follows from how it stands.
-use Rattle.fs_peering.{proofs.{Words.{Announcing, Closed, Config, Lined, Machine, Peer, Phase, Sending, TakesIn, Told, WireEnd, WireEnds, is_established, machine_in, open_sent, state_in, text_sent, ◌≡◌, ◌<◌, ◌≤◌, ℕ, ◌+◌, ◌-◌, List, [], ◌++◌, length, IsTrue, Bool, true, false, if◌then◌else◌, Option, Some, None, refl, ap, sym, ◌∙◌, subst, arith, append_assoc, append-nil, flat_map, is_some, length-map, take_all, none_there, EndsSo, HeardOut, HearsOut, Part, Pieces, Spoken, Stance, moments_in, octets_in, Stopped, All, Over, Ending, Done, AtLimit, course, CountsTo, SaysUpTo, ClosesSo, HasHeard, ahead_of, before_all, is_settled, rules_of, Teller, Tells, TellsOver, TellsSo, answers_to, begins_with}, Composing.{part_then, same_stance}, WrittenInParts.{told_and}, Counting.{Opens, ends_by, met_by, opens_so}, Hearing.{no_rules, unsettled}, Sending.{says_start}, Settled.{settled_up, state_open, state_shut}}, specs.{declared.{listening.Stopped.TheVariants.{AtLimit as MetIt}, tell.Ending.TheVariants.{Ended, Closed as HasClosed}}, Teller.{is_over}, Tell.{SaidAll, farewell_to}}}
+use Rattle.fs_peering.proofs.Words.{Announcing, Closed, Config, Lined, Machine, Peer, Phase, Sending, TakesIn, Told, WireEnd, WireEnds}
+use Rattle.fs_peering.proofs.Words.{is_established, machine_in, open_sent, state_in, text_sent, ◌≡◌, ◌<◌, ◌≤◌, ℕ, ◌+◌, ◌-◌, List, [], ◌++◌, length}
+use Rattle.fs_peering.proofs.Words.{IsTrue, Bool, true, false, if◌then◌else◌, Option, Some, None, refl, ap, sym, ◌∙◌, subst, arith, append_assoc}
+use Rattle.fs_peering.proofs.Words.{append-nil, flat_map, is_some, length-map, take_all, none_there, EndsSo, HeardOut, HearsOut, Part, Pieces, Spoken}
+use Rattle.fs_peering.proofs.Words.{Stance, moments_in, octets_in, Stopped, All, Over, Ending, Done, AtLimit, course, CountsTo, SaysUpTo, ClosesSo}
+use Rattle.fs_peering.proofs.Words.{HasHeard, ahead_of, before_all, is_settled, rules_of, Teller, Tells, TellsOver, TellsSo, answers_to, begins_with}
+use Rattle.fs_peering.proofs.{Composing.{part_then, same_stance}, WrittenInParts.{told_and}, Counting.{Opens, ends_by, met_by, opens_so}}
+use Rattle.fs_peering.proofs.{Hearing.{no_rules, unsettled}, Sending.{says_start}, Settled.{settled_up, state_open, state_shut}}
+use Rattle.fs_peering.specs.declared.{listening.Stopped.TheVariants.{AtLimit as MetIt}, tell.Ending.TheVariants.{Ended, Closed as HasClosed}}
+use Rattle.fs_peering.specs.{Teller.{is_over}, Tell.{SaidAll, farewell_to}}
 
 -- whose it is
 pub record IsOf (end : Announcing) (config : Config) (peer : Peer) (sending : Sending) : Type 0 where
@@ -7,7 +16,8 @@ pub record IsOf (end : Announcing) (config : Config) (peer : Peer) (sending : Se
   pub peer_is : end.peer ≡ peer
   pub sending_is : end.sending ≡ sending
 
-pub is_of : (end old : Announcing) (config : Config) (peer : Peer) (sending : Sending) → before_all end ≡ before_all old → old ≡ begins_with config peer sending → IsOf end config peer sending
+pub is_of : (end old : Announcing) (config : Config) (peer : Peer) (sending : Sending) → before_all end ≡ before_all old
+    → old ≡ begins_with config peer sending → IsOf end config peer sending
 is_of end old config peer sending own e = record {
   config_is = ap (λ (n : Announcing). n.config) own ∙ ap (λ (n : Announcing). n.config) e;
   peer_is = ap (λ (n : Announcing). n.peer) own ∙ ap (λ (n : Announcing). n.peer) e;
@@ -38,7 +48,8 @@ module _ (end : Announcing) (started : Bool) (count : ℕ) (heard : Pieces) (sai
   said_none some none = said_so [] some (no_rules end none) ∙ append-nil (answers_to end.config end.peer end.sending heard)
 
   closed_so : (why : Closed) → 0 < length heard → end.line.closed ≡ Some why
-      → ((course machine heard).point.closed ≡ Some why) × (ClosesSo machine (moments_in heard) (octets_in heard) why × (said ≡ answers_to end.config end.peer end.sending heard))
+      → ((course machine heard).point.closed ≡ Some why)
+      × (ClosesSo machine (moments_in heard) (octets_in heard) why × (said ≡ answers_to end.config end.peer end.sending heard))
   closed_so why some shut =
       let early : is_established (state_in end.line) ≡ false = state_shut end.line why shut in
       (sym (h.at early).closed_is ∙ shut, (h.shut why shut, said_none some (h.none early)))
@@ -71,7 +82,8 @@ module _ (end : Announcing) (started : Bool) (count : ℕ) (heard : Pieces) (sai
         sub_none a b c z = omega (arith, z)
 
         all : rules_of end ≡ flat_map (text_sent end.config end.peer end.line.phase.four end.sending) end.sending.rules
-        all = ap (flat_map (text_sent end.config end.peer end.line.phase.four end.sending)) (take_all end.appended end.sending.rules (sub_none (if started then 0 else 1) (length end.sending.rules) end.appended left))
+        all = ap (flat_map (text_sent end.config end.peer end.line.phase.four end.sending))
+            (take_all end.appended end.sending.rules (sub_none (if started then 0 else 1) (length end.sending.rules) end.appended left))
 
 -- what an end said, and then this
 abbrev pub Leaves : Stance → List ℕ → Stance
@@ -106,12 +118,14 @@ first_heard heard s0 s1 s2 over begun count limit given a b c first later = reco
   part = part_then s0 s1 s2 1 [] later.listened.heard first.out later.listened.said a b c first.part later.listened.part;
   asked = later.listened.asked;
   some =
-      let e : length later.listened.heard ≡ length given = sym (length-map later.listened.heard (λ (p : ℕ × List ℕ). p.0)) ∙ ap (λ (z : List ℕ). length z) later.listened.asked in
+      let e : length later.listened.heard ≡ length given = sym (length-map later.listened.heard (λ (p : ℕ × List ℕ). p.0))
+      ∙ ap (λ (z : List ℕ). length z) later.listened.asked in
       omega (arith, e, later.some);
   within = let few = later.within in omega (arith, few);
 }
 
-said_last : (s0 s1 s2 : Stance) (limit : ℕ) (given : List ℕ) (a b c : WireEnds) (w : Whole s0 s1 limit given a b) → Spoken s1 s2 1 b c → Whole s0 s2 limit given a c
+said_last : (s0 s1 s2 : Stance) (limit : ℕ) (given : List ℕ) (a b c : WireEnds) (w : Whole s0 s1 limit given a b) → Spoken s1 s2 1 b c
+    → Whole s0 s2 limit given a c
 said_last s0 s1 s2 limit given a b c w last = record {
   heard = w.heard ++ [];
   said = w.said ++ last.out;
@@ -122,14 +136,17 @@ said_last s0 s1 s2 limit given a b c w last = record {
 }
 
 -- the clause, from how the end stands
-module _ (ending : Ending) (config : Config) (peer : Peer) (sending : Sending) (limit : ℕ) (on : Bool) (end : Announcing) (started : Bool) (count : ℕ) (off : on ≡ false) (of : IsOf end config peer sending) where
+module _ (ending : Ending) (config : Config) (peer : Peer) (sending : Sending) (limit : ℕ) (on : Bool) (end : Announcing) (started : Bool) (count : ℕ)
+    (off : on ≡ false) (of : IsOf end config peer sending) where
   abbrev own : List ℕ → Pieces → List ℕ → Type 0
   own left heard said = TellsSo ending end.config end.peer end.sending limit heard said left
 
-  told_so : (given : List ℕ) (s0 : Stance) (a b : WireEnds) → s0 [] [] → ((heard : Pieces) (said : List ℕ) → 0 < length heard → SaysUpTo false end started count heard said → own b.second.left heard said)
+  told_so : (given : List ℕ) (s0 : Stance) (a b : WireEnds) → s0 [] []
+      → ((heard : Pieces) (said : List ℕ) → 0 < length heard → SaysUpTo false end started count heard said → own b.second.left heard said)
       → Whole s0 (SaysUpTo on end started count) limit given a b → Tells ending config peer sending limit given a b
   told_so given s0 a b start ends w =
-      let h : SaysUpTo false end started count w.heard w.said = subst (λ (x : Bool). SaysUpTo x end started count w.heard w.said) off (w.part.stands [] [] start) in
+      let h : SaysUpTo false end started count w.heard w.said =
+      subst (λ (x : Bool). SaysUpTo x end started count w.heard w.said) off (w.part.stands [] [] start) in
       subst (λ (c : Config). Tells ending c peer sending limit given a b) of.config_is
       (subst (λ (p : Peer). Tells ending end.config p sending limit given a b) of.peer_is
       (subst (λ (s : Sending). Tells ending end.config end.peer s limit given a b) of.sending_is (record {
@@ -168,10 +185,13 @@ abbrev own_of : Teller → Teller
 own_of t = record { announcer = before_all t.announcer; hears_on = t.hears_on; started = false; count = 0 }
 
 -- what an end is that hears more, and how it then stands
-module _ (config : Config) (peer : Peer) (sending : Sending) (limit : ℕ) (first spoke now : Teller) (t0 t1 t2 : Option WireEnds) (answers answers' : Option (List ℕ))
-    (own_spoke : own_of spoke ≡ own_of first) (own_now : own_of now ≡ own_of spoke) (early : first.hears_on ≡ false) (e : first.announcer ≡ begins_with config peer sending)
+module _ (config : Config) (peer : Peer) (sending : Sending) (limit : ℕ) (first spoke now : Teller) (t0 t1 t2 : Option WireEnds)
+    (answers answers' : Option (List ℕ))
+    (own_spoke : own_of spoke ≡ own_of first) (own_now : own_of now ≡ own_of spoke) (early : first.hears_on ≡ false)
+    (e : first.announcer ≡ begins_with config peer sending)
     (unstarted : first.started ≡ false) (fresh : first.count ≡ 0)
-    (told : Told (Spoken (SaysUpTo first.hears_on first.announcer first.started first.count) (SaysUpTo spoke.hears_on spoke.announcer spoke.started spoke.count) 1) t0 t1)
+    (told : Told (Spoken (SaysUpTo first.hears_on first.announcer first.started first.count)
+    (SaysUpTo spoke.hears_on spoke.announcer spoke.started spoke.count) 1) t0 t1)
     (open_before : is_over spoke.hears_on spoke.announcer.line ≡ false) where
   abbrev end : Announcing
   end = now.announcer
@@ -202,7 +222,8 @@ module _ (config : Config) (peer : Peer) (sending : Sending) (limit : ℕ) (firs
 
   pub at_end : (ending : Ending) (heard : Stopped) (over : Bool) (begun so_far : ℕ) → HearsOut heard s1 s2 over begun so_far 1 limit t1 t2 answers answers'
       → end.appended ≡ spoke.announcer.appended
-      → ((pieces : Pieces) (said left : List ℕ) → end.appended ≡ 0 → EndsSo heard over so_far limit left → 0 < length pieces → SaysUpTo false end now.started now.count pieces said
+      → ((pieces : Pieces) (said left : List ℕ) → end.appended ≡ 0 → EndsSo heard over so_far limit left → 0 < length pieces
+      → SaysUpTo false end now.started now.count pieces said
       → TellsSo ending end.config end.peer end.sending limit pieces said left)
       → TellsOver ending config peer sending limit t0 t2 answers answers'
   at_end ending heard over begun so_far hears same ends = record {
@@ -210,20 +231,24 @@ module _ (config : Config) (peer : Peer) (sending : Sending) (limit : ℕ) (firs
     grew = hears.grew;
     told = told_and (Spoken s0 s1 1) (HeardOut heard s1 s2 over begun so_far 1 limit hears.given) (Tells ending config peer sending limit hears.given)
         (λ a b c f l.
-        told_so ending config peer sending limit now.hears_on end now.started now.count off (is_of end first.announcer config peer sending (ap (λ (t : Teller). t.announcer) (own_now ∙ own_spoke)) e) hears.given s0 a c start
+        told_so ending config peer sending limit now.hears_on end now.started now.count off
+        (is_of end first.announcer config peer sending (ap (λ (t : Teller). t.announcer) (own_now ∙ own_spoke)) e) hears.given s0 a c start
         (λ pieces said some h. ends pieces said c.second.left (same ∙ unsent a b f) l.ends some h)
         (first_heard heard s0 s1 s2 over begun so_far limit hears.given a b c f l))
         t0 t1 t2 told hears.told;
   }
 
-  pub over_so : (why : Closed) (over : Bool) (begun so_far : ℕ) → HearsOut Over s1 s2 over begun so_far 1 limit t1 t2 answers answers' → end.line.closed ≡ Some why
+  pub over_so : (why : Closed) (over : Bool) (begun so_far : ℕ) → HearsOut Over s1 s2 over begun so_far 1 limit t1 t2 answers answers'
+      → end.line.closed ≡ Some why
       → (t3 : Option WireEnds) → Told (TakesIn 1 (farewell_to why)) t2 t3 → TellsOver (HasClosed why) config peer sending limit t0 t3 answers answers'
   over_so why over begun so_far hears shut t3 leaves = record {
     given = hears.given;
     grew = hears.grew;
     told = told_and (Whole s0 s2 limit hears.given) (TakesIn 1 (farewell_to why)) (Tells (HasClosed why) config peer sending limit hears.given)
         (λ a b c w l.
-        told_leaving (HasClosed why) config peer sending limit now.hears_on end now.started now.count off (is_of end first.announcer config peer sending (ap (λ (t : Teller). t.announcer) (own_now ∙ own_spoke)) e) (farewell_to why) hears.given s0 a c start
+        told_leaving (HasClosed why) config peer sending limit now.hears_on end now.started now.count off
+        (is_of end first.announcer config peer sending (ap (λ (t : Teller). t.announcer) (own_now ∙ own_spoke)) e)
+        (farewell_to why) hears.given s0 a c start
         (λ pieces said some h. let c = closed_so end now.started now.count pieces said h.0 h.1 why some shut in
         (c.0, (c.1.0, ap (λ (z : List ℕ). z ++ farewell_to why) c.1.1)))
         (said_last s0 s2 (Leaves s2 (farewell_to why)) limit hears.given a b c w (leaving s2 (farewell_to why) b c l)))
@@ -234,53 +259,64 @@ module _ (config : Config) (peer : Peer) (sending : Sending) (limit : ℕ) (firs
         leaves;
   }
 
-  limit_end : (alive : end.line.closed ≡ None) → limit ≤ now.count → (pieces : Pieces) (said left : List ℕ) → end.appended ≡ 0 → 0 < length pieces → SaysUpTo false end now.started now.count pieces said
+  limit_end : (alive : end.line.closed ≡ None) → limit ≤ now.count → (pieces : Pieces) (said left : List ℕ) → end.appended ≡ 0 → 0 < length pieces
+      → SaysUpTo false end now.started now.count pieces said
       → TellsSo AtLimit end.config end.peer end.sending limit pieces said left
-  limit_end alive met pieces said left none some h =
-      (met_by (opens end now.started now.count pieces said h.0 h.1 alive) limit met, (said_none end now.started now.count pieces said h.0 h.1 some none, h.0.alive alive))
+  limit_end alive met pieces said left none some h = (
+    met_by (opens end now.started now.count pieces said h.0 h.1 alive) limit met,
+    (said_none end now.started now.count pieces said h.0 h.1 some none, h.0.alive alive),
+  )
 
-  pub over_limit : (over : Bool) (begun so_far : ℕ) → HearsOut Over s1 s2 over begun so_far 1 limit t1 t2 answers answers' → end.appended ≡ spoke.announcer.appended
+  pub over_limit : (over : Bool) (begun so_far : ℕ) → HearsOut Over s1 s2 over begun so_far 1 limit t1 t2 answers answers'
+      → end.appended ≡ spoke.announcer.appended
       → end.line.closed ≡ None → limit ≤ now.count → TellsOver AtLimit config peer sending limit t0 t2 answers answers'
   over_limit over begun so_far hears same alive met =
       at_end AtLimit Over over begun so_far hears same (λ pieces said left none e some h. limit_end alive met pieces said left none some h)
 
-  pub limit_so : (over : Bool) (begun so_far : ℕ) → HearsOut MetIt s1 s2 over begun so_far 1 limit t1 t2 answers answers' → end.appended ≡ spoke.announcer.appended
+  pub limit_so : (over : Bool) (begun so_far : ℕ) → HearsOut MetIt s1 s2 over begun so_far 1 limit t1 t2 answers answers'
+      → end.appended ≡ spoke.announcer.appended
       → over ≡ is_settled end.line → so_far ≡ now.count → TellsOver AtLimit config peer sending limit t0 t2 answers answers'
   limit_so over begun so_far hears same o k =
       at_end AtLimit MetIt over begun so_far hears same
       (λ pieces said left none e some h. limit_end (unsettled end.line (sym o ∙ e.0)).0 (subst (λ (n : ℕ). limit ≤ n) k e.1) pieces said left none some h)
 
-  pub ended_so : (over : Bool) (begun so_far : ℕ) → HearsOut All s1 s2 over begun so_far 1 limit t1 t2 answers answers' → end.appended ≡ spoke.announcer.appended
+  pub ended_so : (over : Bool) (begun so_far : ℕ) → HearsOut All s1 s2 over begun so_far 1 limit t1 t2 answers answers'
+      → end.appended ≡ spoke.announcer.appended
       → over ≡ is_settled end.line → so_far ≡ now.count → TellsOver Ended config peer sending limit t0 t2 answers answers'
   ended_so over begun so_far hears same o k =
       at_end Ended All over begun so_far hears same
       (λ pieces said left none e some h.
       let alive = unsettled end.line (sym o ∙ e.0) in (
-        ends_by (opens end now.started now.count pieces said h.0 h.1 alive.0) limit left (sym (state_open end.line alive.0) ∙ alive.1) (subst (λ (n : ℕ). n < limit) k e.1.0) e.1.1,
+        ends_by (opens end now.started now.count pieces said h.0 h.1 alive.0) limit left (sym (state_open end.line alive.0)
+            ∙ alive.1) (subst (λ (n : ℕ). n < limit) k e.1.0) e.1.1,
         (said_none end now.started now.count pieces said h.0 h.1 some none, h.0.alive alive.0),
       ))
 
 -- and when its rules were said
-pub done_so : (config : Config) (peer : Peer) (sending : Sending) (limit : ℕ) (s0 s1 s2 : Stance) (heard : Lined) (on : Bool) (end : Announcing) (started : Bool) (count : ℕ)
+pub done_so : (config : Config) (peer : Peer) (sending : Sending) (limit : ℕ) (s0 s1 s2 : Stance) (heard : Lined) (on : Bool) (end : Announcing)
+    (started : Bool) (count : ℕ)
     (t0 t1 t2 t3 : Option WireEnds) (answers answers' : Option (List ℕ)) → s0 [] [] → Told (Spoken s0 s1 1) t0 t1 → on ≡ false → IsOf end config peer sending
-    → (over : Bool) (begun_at so_far : ℕ) → HearsOut Over s1 s2 over begun_at so_far 1 limit t1 t2 answers answers' → Told (Spoken s2 (SaysUpTo on end started count) 1) t2 t3
+    → (over : Bool) (begun_at so_far : ℕ) → HearsOut Over s1 s2 over begun_at so_far 1 limit t1 t2 answers answers'
+    → Told (Spoken s2 (SaysUpTo on end started count) 1) t2 t3
     → over ≡ is_settled heard → heard.closed ≡ None → is_some end.line.closed ≡ is_some heard.closed → is_settled end.line ≡ is_settled heard → count < limit
     → (IsTrue (is_settled heard) → ahead_of end started ≡ 0) → TellsOver Done config peer sending limit t0 t3 answers answers'
-done_so config peer sending limit s0 s1 s2 heard on end started count t0 t1 t2 t3 answers answers' start first off of over begun_at so_far hears last o alive shut ready within ahead = record {
-  given = hears.given;
-  grew = hears.grew;
-  told = told_and Before (Spoken s2 (SaysUpTo on end started count) 1) (Tells Done config peer sending limit hears.given)
-      (λ a b c w l.
-      let open_end : end.line.closed ≡ None = none_there end.line.closed (shut ∙ ap is_some alive) in
-      told_so Done config peer sending limit on end started count off of hears.given s0 a c start
-      (λ pieces said some h. said_all end started count pieces said h.0 h.1 open_end limit some within (settled_up end.line open_end (ready ∙ w.1)) (ahead w.1))
-      (said_last s0 s2 (SaysUpTo on end started count) limit hears.given a b c w.0 l))
-      t0 t2 t3
-      (told_and (Spoken s0 s1 1) (HeardOut Over s1 s2 over begun_at so_far 1 limit hears.given) Before
-      (λ a b c f l. (first_heard Over s0 s1 s2 over begun_at so_far limit hears.given a b c f l, sym o ∙ l.ends))
-      t0 t1 t2 first hears.told)
-      last;
-}
+done_so config peer sending limit s0 s1 s2 heard on end started count t0 t1 t2 t3 answers answers' start first off of over begun_at so_far hears last
+    o alive shut ready within ahead = record {
+      given = hears.given;
+      grew = hears.grew;
+      told = told_and Before (Spoken s2 (SaysUpTo on end started count) 1) (Tells Done config peer sending limit hears.given)
+          (λ a b c w l.
+          let open_end : end.line.closed ≡ None = none_there end.line.closed (shut ∙ ap is_some alive) in
+          told_so Done config peer sending limit on end started count off of hears.given s0 a c start
+          (λ pieces said some h. said_all end started count pieces said h.0 h.1 open_end limit some within
+          (settled_up end.line open_end (ready ∙ w.1)) (ahead w.1))
+          (said_last s0 s2 (SaysUpTo on end started count) limit hears.given a b c w.0 l))
+          t0 t2 t3
+          (told_and (Spoken s0 s1 1) (HeardOut Over s1 s2 over begun_at so_far 1 limit hears.given) Before
+          (λ a b c f l. (first_heard Over s0 s1 s2 over begun_at so_far limit hears.given a b c f l, sym o ∙ l.ends))
+          t0 t1 t2 first hears.told)
+          last;
+    }
   where
     Before : WireEnds → WireEnds → Type 0
     Before a c = Whole s0 s2 limit hears.given a c × (is_settled heard ≡ true)

@@ -1,5 +1,11 @@
 -- What the machine of an announcing end answers to the OPEN: a KEEPALIVE.
-use Rattle.fs_peering.proofs.{Words.{Closed, Config, Handed, Machine, Message, MessageFault, Needs, NoFamily, Open, Phase, State, Times, Update, WaitKeep, WaitOpen, announcer, faulted, first_message, keepalive_to, lacks_of, message_text, not_taken, notice_of, notified, open_of, opened, phase, rest_step, runs_by, step_at, step_by, stops, taken, taken_in, takes, transition_at, transition_by, wrong_at, ◌≡◌, ◌==◌, ◌⊎◌, inl, inr, ℕ, List, [], ◌++◌, Bool, true, false, if◌then◌else◌, min, Option, Some, None, Result, Ok, Err, refl, ap, sym, ◌∙◌, subst, append-nil, arith, nat_tests, runs_stops, runs_takes, runs_waits, TookOpen}, Phases.{Quiet, awaits_open, quiet_by, silent}}
+use Rattle.fs_peering.proofs.Words.{Closed, Config, Handed, Machine, Message, MessageFault, Needs, NoFamily, Open, Phase, State, Times, Update}
+use Rattle.fs_peering.proofs.Words.{WaitKeep, WaitOpen, announcer, faulted, first_message, keepalive_to, lacks_of, message_text, not_taken, notice_of}
+use Rattle.fs_peering.proofs.Words.{notified, open_of, opened, phase, rest_step, runs_by, step_at, step_by, stops, taken, taken_in, takes}
+use Rattle.fs_peering.proofs.Words.{transition_at, transition_by, wrong_at, ◌≡◌, ◌==◌, ◌⊎◌, inl, inr, ℕ, List, [], ◌++◌, Bool, true, false}
+use Rattle.fs_peering.proofs.Words.{if◌then◌else◌, min, Option, Some, None, Result, Ok, Err, refl, ap, sym, ◌∙◌, subst, append-nil, arith, nat_tests}
+use Rattle.fs_peering.proofs.Words.{runs_stops, runs_takes, runs_waits, TookOpen}
+use Rattle.fs_peering.proofs.Phases.{Quiet, awaits_open, quiet_by, silent}
 
 abbrev Made : Type 0
 Made = Result (Phase × Option Update) Closed
@@ -30,12 +36,14 @@ module _ (config : Config) (needs : Needs) where
   -- of an OPEN that was taken
   abbrev OpenOf : Phase → Message → Made → Type 0
   OpenOf now message (Ok next) =
-      (message.kind ≡ 1) × ((found : Open) × ((open_of config.local_as message.body ≡ Ok found) × ((next.0.four ≡ found.four) × (awaits_open next.0.state ≡ false))))
+      (message.kind ≡ 1) × ((found : Open)
+      × ((open_of config.local_as message.body ≡ Ok found) × ((next.0.four ≡ found.four) × (awaits_open next.0.state ≡ false))))
   OpenOf now message (Err why) = Unit {0}
 
   is_open : (now : Phase) (message : Message) → now.state ≡ WaitOpen → OpenOf now message (transition_by machine now message)
   is_open now message e =
-      subst (λ (s : State). OpenOf now message (if message.kind == 3 then Err (notified (notice_of message.body)) else transition_at machine s now.four now.hold message)) (sym e)
+      subst (λ (s : State). OpenOf now message (if message.kind == 3 then Err (notified (notice_of message.body))
+      else transition_at machine s now.four now.hold message)) (sym e)
       (at (message.kind == 3) (message.kind == 1) refl (open_of config.local_as message.body) refl)
     where
       one : (n : ℕ) → (n == 1) ≡ true → n ≡ 1
@@ -95,7 +103,8 @@ module _ (config : Config) (needs : Needs) where
           let quiet : Quiet config needs next.0 later = quiet_by config needs next.0 (taken_in now.state times) (found.1 ++ []) o.1.1.1.1 in
           subst (Opens octets now) (sym (ap (runs_by machine now times) (sym whole) ∙ runs_takes machine now next.0 times next.1 octets found.1 [] step))
           (inr (inl (record {
-            text_is = ap (λ (s : State). keepalive_to s ++ later.text) e ∙ ap (λ (z : List ℕ). message_text 4 [] ++ z) quiet.text_is ∙ append-nil (message_text 4 []);
+            text_is = ap (λ (s : State). keepalive_to s ++ later.text) e ∙ ap (λ (z : List ℕ). message_text 4 [] ++ z) quiet.text_is
+                ∙ append-nil (message_text 4 []);
             past = λ h. (quiet.goes h).past;
             took = λ h. record {
               message = found.0;

@@ -1,5 +1,10 @@
 -- Of all moments a later one lies so far above an earlier one where some of them do.
-use Rattle.fs_peering.proofs.{Words.{Config, Expires, Fault, Last, Machine, Peer, Sending, Update, announcer, at_moment, needs_of, receiver, tick_at, ◌≡◌, ◌⊎◌, inl, inr, ℕ, ◌+◌, ◌<◌, ◌≤◌, nat_le, List, [], ◌∷◌, ◌++◌, length, Bool, true, false, not, flat_map, if◌then◌else◌, None, Some, refl, ap, sym, ◌∙◌, ◌*◌, subst, append_assoc, arith, nat_tests, flat_map-append, map-append, Spans, most, Heard, heard_by, moments_of, of_first, of_second, Pieces, moments_in, octets_in, ClosesIn, ExpiresAt, HasClosed, LieApart, Reaches, RunsLate, told_by, course}, Moments.{expires_late, positive}, Expiring.{Expired, bounded_late, closed_late}, StaysOpen.{stands}}
+use Rattle.fs_peering.proofs.Words.{Config, Expires, Fault, Last, Machine, Peer, Sending, Update, announcer, at_moment, needs_of, receiver, tick_at}
+use Rattle.fs_peering.proofs.Words.{◌≡◌, ◌⊎◌, inl, inr, ℕ, ◌+◌, ◌<◌, ◌≤◌, nat_le, List, [], ◌∷◌, ◌++◌, length, Bool, true, false, not, flat_map}
+use Rattle.fs_peering.proofs.Words.{if◌then◌else◌, None, Some, refl, ap, sym, ◌∙◌, ◌*◌, subst, append_assoc, arith, nat_tests, flat_map-append}
+use Rattle.fs_peering.proofs.Words.{map-append, Spans, most, Heard, heard_by, moments_of, of_first, of_second, Pieces, moments_in, octets_in}
+use Rattle.fs_peering.proofs.Words.{ClosesIn, ExpiresAt, HasClosed, LieApart, Reaches, RunsLate, told_by, course}
+use Rattle.fs_peering.proofs.{Moments.{expires_late, positive}, Expiring.{Expired, bounded_late, closed_late}, StaysOpen.{stands}}
 
 reaches_behind : (least : ℕ) (xs ys : List ℕ) → Reaches least ys → Reaches least (xs ++ ys)
 reaches_behind least [] ys r = r
@@ -64,7 +69,8 @@ module _ (which : Bool) where
       by rest false k = inr (rest k)
 
 -- the hold time of an end expired at one of the moments
-module _ (machine : Machine) (heard earlier later : Pieces) (event : ℕ × List ℕ) (split : heard ≡ earlier ++ event ∷ later) (lived : (course machine earlier).point.closed ≡ None)
+module _ (machine : Machine) (heard earlier later : Pieces) (event : ℕ × List ℕ) (split : heard ≡ earlier ++ event ∷ later)
+    (lived : (course machine earlier).point.closed ≡ None)
     (due : tick_at (course machine earlier).point.phase.hold (at_moment event.0 (course machine earlier).point.times) ≡ Expires) where
   abbrev hold : ℕ
   hold = (course machine earlier).point.phase.hold
@@ -73,7 +79,8 @@ module _ (machine : Machine) (heard earlier later : Pieces) (event : ℕ × List
   far =
       let late = expires_late machine earlier event.0 lived due in
       subst (LieApart (1000 * hold))
-      (append_assoc (moments_in earlier) (event.0 ∷ []) (moments_in later) ∙ sym (ap moments_in split ∙ map-append (λ (e : ℕ × List ℕ). e.0) earlier (event ∷ later)))
+      (append_assoc (moments_in earlier) (event.0 ∷ []) (moments_in later)
+      ∙ sym (ap moments_in split ∙ map-append (λ (e : ℕ × List ℕ). e.0) earlier (event ∷ later)))
       (apart_front (1000 * hold) (moments_in earlier ++ event.0 ∷ []) (moments_in later)
       (apart_spans (1000 * hold) (moments_in earlier ++ event.0 ∷ []) (positive hold late.0) late.1))
 
@@ -88,13 +95,15 @@ module _ (machine : Machine) (heard earlier later : Pieces) (event : ℕ × List
     apart = lift (1000 * hold) far;
   }
 
-pub late_first : (config : Config) (peer : ℕ) (whose : Peer) (events : List Heard) (replied : List ℕ) → HasClosed config peer whose (of_first events) replied (Fault 4 0)
+pub late_first : (config : Config) (peer : ℕ) (whose : Peer) (events : List Heard) (replied : List ℕ)
+    → HasClosed config peer whose (of_first events) replied (Fault 4 0)
     → RunsLate (receiver config whose) (of_first events) (moments_of events)
 late_first config peer whose events replied c = by c.closes
   where
     by : ExpiresAt config whose c.earlier c.moment replied (Fault 4 0) ⊎ ClosesIn config peer whose c.earlier c.moment c.piece replied (Fault 4 0)
         → RunsLate (receiver config whose) (of_first events) (moments_of events)
-    by (inl x) = runs_late (receiver config whose) (of_first events) c.earlier [] (c.moment, c.piece) c.split c.lived x.due (moments_of events) (λ least a. apart_one true least events a)
+    by (inl x) = runs_late (receiver config whose) (of_first events) c.earlier [] (c.moment, c.piece) c.split c.lived x.due (moments_of events)
+        (λ least a. apart_one true least events a)
     by (inr y) = absurd (bounded_late config whose ((octets_in c.earlier ++ c.piece) ++ []) (ap (λ (z : List Update × Last). z.1) (y.over.stays [])))
 
 pub late_second : (config : Config) (sending : Sending) (events : List Heard) → (told_by config sending (of_second events)).point.closed ≡ Some (Fault 4 0)

@@ -1,5 +1,12 @@
 -- What two ends that are joined know of each other.
-use Rattle.fs_peering.proofs.{Words.{CanArrive, ComesBack, Config, Established, Last, Machine, Message, MessageFault, Open, Peer, Phase, Sending, Sent, Update, UpdateFault, WaitKeep, WaitOpen, as_update, at_start, body_by, first_message, message_text, open_body, open_of, open_sent, opened, phase, receiver, reply_to, session_by, session_from, still, terms_of, text_sent, transition_by, update_sent, updates, with_update, ◌≡◌, ◌⊎◌, inl, inr, ℕ, List, [], ◌∷◌, ◌++◌, length, map, min, Bool, true, Option, Some, None, Result, Ok, Err, refl, ap, sym, ◌∙◌, subst, append_assoc, arith, AllByRecursion, none-some, open_read, message_stable, text_first, at_most, body_long, one_message, open_fits, update_fits, machine_waits, Pieces, course_of, TookOpen, rules_in, woven}, Courses.{keepalives}, Replying.{replies}}
+use Rattle.fs_peering.proofs.Words.{CanArrive, ComesBack, Config, Established, Last, Machine, Message, MessageFault, Open, Peer, Phase, Sending, Sent}
+use Rattle.fs_peering.proofs.Words.{Update, UpdateFault, WaitKeep, WaitOpen, as_update, at_start, body_by, first_message, message_text, open_body}
+use Rattle.fs_peering.proofs.Words.{open_of, open_sent, opened, phase, receiver, reply_to, session_by, session_from, still, terms_of, text_sent}
+use Rattle.fs_peering.proofs.Words.{transition_by, update_sent, updates, with_update, ◌≡◌, ◌⊎◌, inl, inr, ℕ, List, [], ◌∷◌, ◌++◌, length, map, min}
+use Rattle.fs_peering.proofs.Words.{Bool, true, Option, Some, None, Result, Ok, Err, refl, ap, sym, ◌∙◌, subst, append_assoc, arith, AllByRecursion}
+use Rattle.fs_peering.proofs.Words.{none-some, open_read, message_stable, text_first, at_most, body_long, one_message, open_fits, update_fits}
+use Rattle.fs_peering.proofs.Words.{machine_waits, Pieces, course_of, TookOpen, rules_in, woven}
+use Rattle.fs_peering.proofs.{Courses.{keepalives}, Replying.{replies}}
 use Rattle.fs_message.specs.Laws.{own_open}
 
 module _ (config : Config) (whose : Peer) where
@@ -14,7 +21,8 @@ module _ (config : Config) (whose : Peer) where
       by (inr m) = inr (keepalives m.0, m.1)
 
   -- an OPEN that was taken of what the receiving end said is its own: AS numbers have four octets
-  pub meets : (sending : Sending) (four : Bool) (octets left said : List ℕ) → CanArrive config whose sending → TookOpen config four octets → said ≡ octets ++ left
+  pub meets : (sending : Sending) (four : Bool) (octets left said : List ℕ) → CanArrive config whose sending → TookOpen config four octets
+      → said ≡ octets ++ left
       → (said ≡ []) ⊎ ((more : List ℕ) × (said ≡ reply_to config WaitOpen ++ more)) → four ≡ true
   meets sending four octets left said can t split form = by form
     where
@@ -27,11 +35,13 @@ module _ (config : Config) (whose : Peer) where
           let body : List ℕ = open_body config.local_as config.hold_time config.local_id in
           let own : Message = record { kind = 1; body = body } in
           let first : first_message said ≡ Some (own, message_text 4 [] ++ m.0) =
-          ap first_message (m.1 ∙ append_assoc (message_text 1 body) (message_text 4 []) m.0) ∙ text_first 1 body (message_text 4 [] ++ m.0) (omega arith) (omega arith) refl (omega arith) in
+          ap first_message (m.1 ∙ append_assoc (message_text 1 body) (message_text 4 []) m.0)
+          ∙ text_first 1 body (message_text 4 [] ++ m.0) (omega arith) (omega arith) refl (omega arith) in
           let same : t.message ≡ own = ap (λ (o : Option (Message × List ℕ)). elim o [ None ↦ own | Some f ↦ f.0 ]) (sym here ∙ first) in
           let read : Ok t.found ≡ Ok (own_open config.local_as config.hold_time config.local_id) =
           sym t.read ∙ ap (λ (z : Message). open_of config.local_as z.body) same
-          ∙ open_read config.local_as config.hold_time config.local_id can.own.asn.small can.own.hold_time.small can.own.id.small can.own.asn.some can.own.hold_time.not_one can.own.hold_time.not_two can.own.id.some in
+          ∙ open_read config.local_as config.hold_time config.local_id can.own.asn.small can.own.hold_time.small can.own.id.small can.own.asn.some
+          can.own.hold_time.not_one can.own.hold_time.not_two can.own.id.some in
           t.four_is ∙ ap (λ (r : Result Open MessageFault). elim r [ Ok found ↦ found.four | Err fault ↦ true ]) read
 
 module _ (config : Config) (peer : Peer) (sending : Sending) where
@@ -44,11 +54,13 @@ module _ (config : Config) (peer : Peer) (sending : Sending) where
       ≡ (map (update_sent config peer sending) (rules_in parts), still (established hold))
   parts_taken hold [] h = machine_waits (receiver config peer) (established hold) [] refl
   parts_taken hold (None ∷ parts) h =
-      one_message (receiver config peer) (established hold) (established hold) None 4 [] (woven (text_sent config peer true sending) parts) (omega arith) (omega arith) refl (omega arith) refl
+      one_message (receiver config peer) (established hold) (established hold) None 4 [] (woven (text_sent config peer true sending) parts)
+      (omega arith) (omega arith) refl (omega arith) refl
       ∙ parts_taken hold parts h
   parts_taken hold (Some sent ∷ parts) h =
       let body : List ℕ = body_by (terms_of config peer true) sending.as_path sent in
-      one_message (receiver config peer) (established hold) (established hold) (Some (update_sent config peer sending sent)) 2 body (woven (text_sent config peer true sending) parts)
+      one_message (receiver config peer) (established hold) (established hold) (Some (update_sent config peer sending sent)) 2 body
+      (woven (text_sent config peer true sending) parts)
       (omega arith) (omega arith) (update_fits (length body) (body_long config peer sending sent)) (at_most (length body) h.0.short)
       (ap (λ (r : Result Update UpdateFault). updates (established hold) (as_update r)) h.0.read)
       ∙ ap (λ (later : List Update × Last). with_update (Some (update_sent config peer sending sent)) later) (parts_taken hold parts h.1)
@@ -64,7 +76,8 @@ module _ (config : Config) (peer : Peer) (sending : Sending) where
   pub peer_opens : CanArrive config peer sending → transition_by (receiver config peer) at_start own_message ≡ Ok (phase WaitKeep true config.hold_time, None)
   peer_opens can =
       ap (λ (r : Result Open MessageFault). opened (receiver config peer) r)
-      (open_read peer.asn config.hold_time sending.id can.asn.small can.own.hold_time.small can.id.small can.asn.some can.own.hold_time.not_one can.own.hold_time.not_two can.id.some)
+      (open_read peer.asn config.hold_time sending.id can.asn.small can.own.hold_time.small can.id.small can.asn.some can.own.hold_time.not_one
+      can.own.hold_time.not_two can.id.some)
       ∙ ap (λ (n : ℕ). Ok (phase WaitKeep true n, None)) (least config.hold_time)
 
   -- it is the first message

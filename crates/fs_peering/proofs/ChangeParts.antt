@@ -1,13 +1,19 @@
 -- What is said where rules change: which rules are kept and which messages were said, and how rules go into packs.
-use Rattle.fs_peering.proofs.Words.{ℕ, zero, suc, ◌≡◌, ◌+◌, ◌-◌, ◌≤◌, ◌<◌, ◌==◌, ◌||◌, ◌++◌, ◌∷◌, ◌∙◌, Bool, true, false, true≢false, not, List, [], cond, length, map, filter, take, drop, take_all, flat_map, refl, sym, ap, subst, arith, append_assoc, append-nil, length-append, length-drop, flat_map-append, none-some, same_Some, list_all, Sent, is_short}
-use Rattle.std.{proofs.{Common.{bytes_eq, get_or}, lemmas.{Map.Text.{is_eq-slice_cmp}, Slice.Eq.{bytes_eq-Decides}, Bool.{leb-true, le-leb}}}, specs.{BTreeSet.{BTreeSet, insert_key}, List.{list_any}, Ordering.{is_eq, match_ordering, nat_cmp}, declared.cmp.Ordering.{Ordering, TheVariants.{Less, Equal, Greater}}, Cmp.Lexicographic.{slice_cmp}, Global.{Vec}}}
-use Rattle.fs_base.{proofs.{Bools.{and_first, and_second}, Parts.{all_end, all_step}}, specs.{Bits.{afi_of}, Parts.{ShrinksBy}, declared.prefix.Family.{Family, TheVariants.{V4, V6}}}}
+use Rattle.fs_peering.proofs.Words.{ℕ, zero, suc, ◌≡◌, ◌+◌, ◌-◌, ◌≤◌, ◌<◌, ◌==◌, ◌||◌, ◌++◌, ◌∷◌, ◌∙◌, Bool, true, false, true≢false, not, List, []}
+use Rattle.fs_peering.proofs.Words.{cond, length, map, filter, take, drop, take_all, flat_map, refl, sym, ap, subst, arith, append_assoc, append-nil}
+use Rattle.fs_peering.proofs.Words.{length-append, length-drop, flat_map-append, none-some, same_Some, list_all, Sent, is_short}
+use Rattle.std.proofs.{Common.{bytes_eq, get_or}, lemmas.{Map.Text.{is_eq-slice_cmp}, Slice.Eq.{bytes_eq-Decides}, Bool.{leb-true, le-leb}}}
+use Rattle.std.specs.{BTreeSet.{BTreeSet, insert_key}, List.{list_any}, Ordering.{is_eq, match_ordering, nat_cmp}}
+use Rattle.std.specs.{declared.cmp.Ordering.{Ordering, TheVariants.{Less, Equal, Greater}}, Cmp.Lexicographic.{slice_cmp}, Global.{Vec}}
+use Rattle.fs_base.proofs.{Bools.{and_first, and_second}, Parts.{all_end, all_step}}
+use Rattle.fs_base.specs.{Bits.{afi_of}, Parts.{ShrinksBy}, declared.prefix.Family.{Family, TheVariants.{V4, V6}}}
 use Rattle.fs_nlri.specs.{Parts.{Ruled}, Rule.{canonical_frame}}
 use Rattle.fs_order.specs.{Comparison.{rule_cmp}, Ranked.{rule_equivalence}, declared.ranked.Ranked.{Ranked}}
 use Rattle.fs_message.specs.Write.{message_text}
 use Rattle.fs_attrs.specs.{Texts.{rules_text}, Writable.{are_rules_of}, Write.{update_text}, declared.update.{Terms.{Terms}, Update.{Update}}}
 use Rattle.fs_peering.proofs.Packing.{fitting_small, frame_small}
-use Rattle.fs_peering.specs.{Keeper.{first_pack, fitting, fresh, gone, of_family, packs, room_for_rules, withdrawal, withdrawal_text, withdrawals}, Change.{AreSaid, Keeps, fits_alone, has_rule, has_text, joined, unkept, unsaid}}
+use Rattle.fs_peering.specs.Keeper.{first_pack, fitting, fresh, gone, of_family, packs, room_for_rules, withdrawal, withdrawal_text, withdrawals}
+use Rattle.fs_peering.specs.Change.{AreSaid, Keeps, fits_alone, has_rule, has_text, joined, unkept, unsaid}
 
 -- Lists.
 
@@ -27,7 +33,8 @@ joined_texts : {A : Type 0} (text : A → List ℕ) (xs : List A) → joined (ma
 joined_texts text [] = refl
 joined_texts text (x ∷ xs) = ap (λ l. text x ++ l) (joined_texts text xs)
 
-pub all_texts : {A : Type 0} (text : A → List ℕ) (lent xs : List A) (out now : List ℕ) → lent ≡ xs → now ≡ out ++ flat_map text lent → now ≡ out ++ joined (map text xs)
+pub all_texts : {A : Type 0} (text : A → List ℕ) (lent xs : List A) (out now : List ℕ) → lent ≡ xs → now ≡ out ++ flat_map text lent
+    → now ≡ out ++ joined (map text xs)
 all_texts text lent xs out now e h = h ∙ ap (λ l. out ++ l) (ap (flat_map text) e ∙ sym (joined_texts text xs))
 
 -- what is left is the first one and the others
@@ -36,7 +43,8 @@ headed [] first some is = absurd (omega arith)
 headed (x ∷ xs) first some is =
     ap (λ y. y ∷ xs) (sym is) ∙ ap (λ l. first ∷ l) (sym (take_all (length (x ∷ xs) - 1) xs (omega arith)))
 
-pub all_behind : {A : Type 0} (test : A → Bool) (rest : List A) (first : A) (others : List A) → rest ≡ first ∷ others → list_all test rest ≡ true → list_all test others ≡ true
+pub all_behind : {A : Type 0} (test : A → Bool) (rest : List A) (first : A) (others : List A) → rest ≡ first ∷ others → list_all test rest ≡ true
+    → list_all test others ≡ true
 all_behind test rest first others e h = and_second (test first) (list_all test others) (subst (λ l. list_all test l ≡ true) e h)
 
 pub said_behind : {A : Type 0} (text : A → List ℕ) (rest : List A) (first : A) (others : List A) (out now all : List ℕ) → rest ≡ first ∷ others
@@ -80,8 +88,12 @@ of_both [] = refl
 of_both (sent ∷ rules) = at sent.rule.family (of_both rules)
   where
     at : (family : Family) → length (of_family V4 rules) + length (of_family V6 rules) ≡ length rules
-        → length (map (λ (one : Sent). one.rule) (cond (afi_of family == afi_of V4) (sent ∷ filter (λ (one : Sent). afi_of one.rule.family == afi_of V4) rules) (filter (λ (one : Sent). afi_of one.rule.family == afi_of V4) rules)))
-        + length (map (λ (one : Sent). one.rule) (cond (afi_of family == afi_of V6) (sent ∷ filter (λ (one : Sent). afi_of one.rule.family == afi_of V6) rules) (filter (λ (one : Sent). afi_of one.rule.family == afi_of V6) rules)))
+        → length (map (λ (one : Sent). one.rule)
+        (cond (afi_of family == afi_of V4) (sent ∷ filter (λ (one : Sent). afi_of one.rule.family == afi_of V4) rules)
+        (filter (λ (one : Sent). afi_of one.rule.family == afi_of V4) rules)))
+        + length (map (λ (one : Sent). one.rule)
+        (cond (afi_of family == afi_of V6) (sent ∷ filter (λ (one : Sent). afi_of one.rule.family == afi_of V6) rules)
+        (filter (λ (one : Sent). afi_of one.rule.family == afi_of V6) rules)))
         ≡ length (sent ∷ rules)
     at V4 rest = omega (arith, rest)
     at V6 rest = omega (arith, rest)
@@ -91,11 +103,14 @@ are_of_family family [] = refl
 are_of_family family (sent ∷ rules) = at (afi_of sent.rule.family == afi_of family) refl (are_of_family family rules)
   where
     at : (b : Bool) → (afi_of sent.rule.family == afi_of family) ≡ b → are_rules_of family (of_family family rules) ≡ true
-        → are_rules_of family (map (λ (one : Sent). one.rule) (cond b (sent ∷ filter (λ (one : Sent). afi_of one.rule.family == afi_of family) rules) (filter (λ (one : Sent). afi_of one.rule.family == afi_of family) rules))) ≡ true
+        → are_rules_of family (map (λ (one : Sent). one.rule)
+        (cond b (sent ∷ filter (λ (one : Sent). afi_of one.rule.family == afi_of family) rules)
+        (filter (λ (one : Sent). afi_of one.rule.family == afi_of family) rules))) ≡ true
     at true h rest = rw h rest
     at false h rest = rest
 
-all_ruled : (rules : List Sent) → list_all (λ (sent : Sent). fits_alone sent.rule) rules ≡ true → list_all fits_alone (map (λ (sent : Sent). sent.rule) rules) ≡ true
+all_ruled : (rules : List Sent) → list_all (λ (sent : Sent). fits_alone sent.rule) rules ≡ true
+    → list_all fits_alone (map (λ (sent : Sent). sent.rule) rules) ≡ true
 all_ruled [] h = refl
 all_ruled (sent ∷ rules) h =
     let first : fits_alone sent.rule ≡ true = and_first (fits_alone sent.rule) (list_all (λ (one : Sent). fits_alone one.rule) rules) h in
@@ -165,7 +180,8 @@ inserted text (x ∷ xs) key = at (slice_cmp nat_cmp key.items x.items) refl (in
         (bytes_eq text key.items) (is_eq-slice_cmp text x.items ∙ ap (bytes_eq text) same)
     at Greater h rest =
         ap (λ b. is_eq (slice_cmp nat_cmp text x.items) || b) rest
-        ∙ swapped (is_eq (slice_cmp nat_cmp text x.items)) (bytes_eq text key.items) (list_any (λ (other : Vec ℕ). is_eq (slice_cmp nat_cmp text other.items)) xs)
+        ∙ swapped (is_eq (slice_cmp nat_cmp text x.items)) (bytes_eq text key.items)
+        (list_any (λ (other : Vec ℕ). is_eq (slice_cmp nat_cmp text other.items)) xs)
 
 pub added_text : (text : List ℕ) (old new : List (Vec ℕ)) (key : Vec ℕ) → new ≡ insert_key text_cmp old key
     → list_any (λ (other : Vec ℕ). is_eq (slice_cmp nat_cmp text other.items)) new
@@ -178,7 +194,8 @@ unsaid_fresh said old new h = filtered_so (λ text. not (has_text said text)) (�
 pub fresh_texts : (said : BTreeSet (Vec ℕ)) (text other : Sent → List ℕ) (lent_old old lent_new new : List Sent) → lent_old ≡ old → lent_new ≡ new
     → AreSaid said (map text lent_old) → unsaid said (map other lent_new) ≡ fresh (map text old) (map other new)
 fresh_texts said text other lent_old old lent_new new o n h =
-    unsaid_fresh said (map text lent_old) (map other lent_new) h ∙ ap (λ l. fresh (map text l) (map other lent_new)) o ∙ ap (λ l. fresh (map text old) (map other l)) n
+    unsaid_fresh said (map text lent_old) (map other lent_new) h ∙ ap (λ l. fresh (map text l) (map other lent_new)) o
+    ∙ ap (λ l. fresh (map text old) (map other l)) n
 
 -- the first message, where it wasn't said, and the others
 unsaid_split : {A : Type 0} (said : BTreeSet (Vec ℕ)) (text_of : A → List ℕ) (rest : List A) (first : A) (others : List A) (text : List ℕ)
@@ -188,7 +205,8 @@ unsaid_split said text_of rest first others text e h =
     ∙ ap (λ t. unsaid said (t ∷ map text_of others)) (sym h)
     ∙ at (not (has_text said text))
   where
-    at : (b : Bool) → cond b (text ∷ unsaid said (map text_of others)) (unsaid said (map text_of others)) ≡ cond b (text ∷ []) [] ++ unsaid said (map text_of others)
+    at : (b : Bool) → cond b (text ∷ unsaid said (map text_of others)) (unsaid said (map text_of others)) ≡ cond b (text ∷ []) []
+        ++ unsaid said (map text_of others)
     at true = refl
     at false = refl
 
@@ -202,7 +220,8 @@ unsaid_behind said text_of rest first others text out now all e t h k =
     ∙ ap (λ l. out ++ joined l) (sym (unsaid_split said text_of rest first others text e t))
     ∙ k
 
-pub counted_behind : {A : Type 0} (said : BTreeSet (Vec ℕ)) (text_of : A → List ℕ) (rest : List A) (first : A) (others : List A) (text : List ℕ) (count more all : ℕ)
+pub counted_behind : {A : Type 0} (said : BTreeSet (Vec ℕ)) (text_of : A → List ℕ) (rest : List A) (first : A) (others : List A) (text : List ℕ)
+    (count more all : ℕ)
     → rest ≡ first ∷ others → text ≡ text_of first → more ≡ length (unsaid said (text ∷ []))
     → count + length (unsaid said (map text_of rest)) ≡ all → (count + more) + length (unsaid said (map text_of others)) ≡ all
 counted_behind said text_of rest first others text count more all e t h k =

@@ -1,13 +1,20 @@
 -- What is said when rules change leaves the receiving end exactly the new ones.
 use Rattle.std.{specs.{List.{AllByRecursion, list_any}, Str.{bytes_eq}}, proofs.lemmas.Slice.Eq.{bytes_eq-Decides}}
-use Rattle.fs_base.{specs.declared.{path.Path.{Path}, prefix.Family.{Family, TheVariants.{V4, V6}}}, proofs.{Bools.{true_of_not}, Lists.{each_both, each_filtered, each_weaker}}}
+use Rattle.fs_base.specs.declared.{path.Path.{Path}, prefix.Family.{Family, TheVariants.{V4, V6}}}
+use Rattle.fs_base.proofs.{Bools.{true_of_not}, Lists.{each_both, each_filtered, each_weaker}}
 use Rattle.fs_nlri.specs.{Parts.{Ruled}, Rule.{IsRule, canonical_frame}}
 use Rattle.fs_message.{specs.Stream.{Message, first_message}, proofs.TextFirst.{text_first}}
 use Rattle.fs_attrs.specs.{Update.{flows_in, update_of}, Write.{update_text}, declared.update.{Terms.{Terms}, UpdateFault.{UpdateFault}}}
 use Rattle.fs_speaker.specs.Sending.{path_by, text_by, update_by}
 use Rattle.fs_desk.specs.Updates.{Given, flow_left, is_rule}
 use Rattle.fs_peering.specs.{Keeper.{change_text, fresh, gone, is_same, of_family, packs, texts, withdrawal, withdrawals}, KeeperLaws.{are_single, given_by}}
-use Rattle.fs_peering.proofs.{Words.{Bool, ComesBack, Config, IsSent, List, None, Ok, Option, Peer, Phase, Result, Sending, Sent, Some, Update, [], ap, append_assoc, arith, at_most, at_start, body_by, body_long, cond, false, filter, find, flat_map, length, map, message_text, not, option_map, receiver, refl, same_Some, subst, sym, terms_of, true, true≢false, update_fits, ℕ, ◌++◌, ◌+◌, ◌||◌, ◌∙◌, ◌∷◌, ◌≡◌, ◌≤◌}, Holding.{alone, announced_left, changed_left, fits, found_passes, given_last, gives, nowhere, single_first}, Leading.{IsRead, Leads, leads_each, leads_then, up}, Packing.{IsPack, has_room, packs_are, withdrawal_long, withdrawal_read, withdrawal_short}}
+use Rattle.fs_peering.proofs.Words.{Bool, ComesBack, Config, IsSent, List, None, Ok, Option, Peer, Phase, Result, Sending, Sent, Some, Update, [], ap}
+use Rattle.fs_peering.proofs.Words.{append_assoc, arith, at_most, at_start, body_by, body_long, cond, false, filter, find, flat_map, length, map}
+use Rattle.fs_peering.proofs.Words.{message_text, not, option_map, receiver, refl, same_Some, subst, sym, terms_of, true, true≢false, update_fits, ℕ}
+use Rattle.fs_peering.proofs.Words.{◌++◌, ◌+◌, ◌||◌, ◌∙◌, ◌∷◌, ◌≡◌, ◌≤◌}
+use Rattle.fs_peering.proofs.Holding.{alone, announced_left, changed_left, fits, found_passes, given_last, gives, nowhere, single_first}
+use Rattle.fs_peering.proofs.Leading.{IsRead, Leads, leads_each, leads_then, up}
+use Rattle.fs_peering.proofs.Packing.{IsPack, has_room, packs_are, withdrawal_long, withdrawal_read, withdrawal_short}
 
 -- TEXTS
 
@@ -51,7 +58,8 @@ pub record Told (P : Sent → Type 0) (rule : Ruled) (said : List ℕ) (text : S
   pub same : said ≡ text sent
   pub holds : P sent
 
-told_before : (P : Sent → Type 0) (rule : Ruled) (said : List ℕ) (text : Sent → List ℕ) → ((other : Sent) → P other → said ≡ text other → fits rule other ≡ true) → (rules : List Sent)
+told_before : (P : Sent → Type 0) (rule : Ruled) (said : List ℕ) (text : Sent → List ℕ)
+    → ((other : Sent) → P other → said ≡ text other → fits rule other ≡ true) → (rules : List Sent)
     → are_single rules ≡ true → AllByRecursion P rules → list_any (bytes_eq said) (map text rules) ≡ true → Told P rule said text rules
 told_before P rule said text same [] e all h = absurd (true≢false (sym h))
 told_before P rule said text same (other ∷ rules) e all h =
@@ -110,7 +118,8 @@ module _ (config : Config) (peer : Peer) where
   abbrev update_by_it : Sending → Sent → Update
   update_by_it sending sent = update_by (terms_of config peer true) sending.as_path sent
 
-  is_read : (sending : Sending) (sent : Sent) → ComesBack config peer sending sent → IsRead (terms_of config peer true) (body_of sending sent) (update_by_it sending sent)
+  is_read : (sending : Sending) (sent : Sent) → ComesBack config peer sending sent
+      → IsRead (terms_of config peer true) (body_of sending sent) (update_by_it sending sent)
   is_read sending sent c = record { long = body_long config peer sending sent; short = at_most (length (body_of sending sent)) c.short; read = c.read }
 
   -- the same text is the same update
@@ -130,7 +139,8 @@ module _ (config : Config) (peer : Peer) where
   known : (old new : Sending) → IsFit old → IsFit new → (rule : Ruled) (sent : Sent) → find (fits rule) new.rules ≡ Some sent → is_fresh old new sent ≡ false
       → given_by terms old rule ≡ given_by terms new rule
   known old new o n rule sent f e =
-      ap (option_map (gives rule terms old.as_path)) told.found ∙ (λ i. Some (rule_is i, path_is i, actions_is i)) ∙ sym (ap (option_map (gives rule terms new.as_path)) f)
+      ap (option_map (gives rule terms old.as_path)) told.found ∙ (λ i. Some (rule_is i, path_is i, actions_is i))
+      ∙ sym (ap (option_map (gives rule terms new.as_path)) f)
     where
       back : ComesBack config peer new sent
       back = found_each (ComesBack config peer new) (fits rule) new.rules sent n.read f
@@ -141,7 +151,8 @@ module _ (config : Config) (peer : Peer) where
       told : Told (ComesBack config peer old) rule (text_of new sent) (text_of old) old.rules
       told =
           told_before (ComesBack config peer old) rule (text_of new sent) (text_of old)
-          (λ other c t. subst (λ (r : Ruled). is_rule rule r ≡ true) (sym (one_rule other c t)) (found_passes (fits rule) new.rules sent f)) old.rules o.single o.read
+          (λ other c t. subst (λ (r : Ruled). is_rule rule r ≡ true) (sym (one_rule other c t)) (found_passes (fits rule) new.rules sent f)) old.rules
+          o.single o.read
           (true_of_not (list_any (bytes_eq (text_of new sent)) (map (text_of old) old.rules)) e)
 
       both : update_by_it new sent ≡ update_by_it old told.sent
@@ -170,24 +181,35 @@ module _ (config : Config) (peer : Peer) where
       (λ sent s c. has_room terms sending.as_path sent s.rule c.short) sending.rules is.rules is.read
 
   packs_fit : (family : Family) (old new : Sending) → IsFit old
-      → AllByRecursion (IsPack family) (packs_of family old new) × (flat_map (λ (pack : List Ruled). pack) (packs_of family old new) ≡ of_family family (left old new))
+      → AllByRecursion (IsPack family) (packs_of family old new)
+      × (flat_map (λ (pack : List Ruled). pack) (packs_of family old new) ≡ of_family family (left old new))
   packs_fit family old new is =
       packs_are family (left old new)
-      (each_filtered (λ (sent : Sent). IsRule sent.rule × (length (canonical_frame sent.rule) ≤ 4066)) (λ (sent : Sent). not (list_any (is_same sent) new.rules)) old.rules (room_of old is))
+      (each_filtered (λ (sent : Sent). IsRule sent.rule × (length (canonical_frame sent.rule) ≤ 4066))
+      (λ (sent : Sent). not (list_any (is_same sent) new.rules)) old.rules (room_of old is))
 
   withdrawals_lead : (family : Family) (old new : Sending) → IsFit old
-      → Leads (receiver config peer) (up config peer) (withdrawals (terms_of config peer true) family (left old new)) (map (withdrawal family) (packs_of family old new)) (up config peer)
+      → Leads (receiver config peer) (up config peer) (withdrawals (terms_of config peer true) family (left old new))
+      (map (withdrawal family) (packs_of family old new)) (up config peer)
   withdrawals_lead family old new is =
-      leads_each config peer (λ (pack : List Ruled). update_text (terms_of config peer true) (withdrawal family pack)) (withdrawal family) (packs_of family old new)
-      (each_weaker (IsPack family) (λ (pack : List Ruled). IsRead (terms_of config peer true) (update_text (terms_of config peer true) (withdrawal family pack)) (withdrawal family pack))
-      (λ pack p. record { long = withdrawal_long terms family pack; short = withdrawal_short terms family pack p.small; read = withdrawal_read terms family pack refl p })
+      leads_each config peer (λ (pack : List Ruled). update_text (terms_of config peer true) (withdrawal family pack)) (withdrawal family)
+      (packs_of family old new)
+      (each_weaker (IsPack family) (λ (pack : List Ruled).
+      IsRead (terms_of config peer true) (update_text (terms_of config peer true) (withdrawal family pack)) (withdrawal family pack))
+      (λ pack p. record {
+        long = withdrawal_long terms family pack;
+        short = withdrawal_short terms family pack p.small;
+        read =
+            withdrawal_read terms family pack refl p;
+      })
       (packs_of family old new) (packs_fit family old new is).0)
 
   rules_lead : (sending : Sending) (rules : List Sent) → AllByRecursion (ComesBack config peer sending) rules
       → Leads (receiver config peer) (up config peer) (flat_map (text_of sending) rules) (map (update_by_it sending) rules) (up config peer)
   rules_lead sending rules all =
       leads_each config peer (body_of sending) (update_by_it sending) rules
-      (each_weaker (ComesBack config peer sending) (λ (sent : Sent). IsRead (terms_of config peer true) (body_of sending sent) (update_by_it sending sent)) (is_read sending) rules all)
+      (each_weaker (ComesBack config peer sending)
+      (λ (sent : Sent). IsRead (terms_of config peer true) (body_of sending sent) (update_by_it sending sent)) (is_read sending) rules all)
 
   -- what a peer holds of a rule that was told these, or nothing yet
   abbrev pub held_by : Option Sending → Ruled → Option Given
@@ -204,8 +226,10 @@ module _ (config : Config) (peer : Peer) where
   first_told octets new is h = record {
     updates = h.updates ++ map (update_by_it new) new.rules;
     leads =
-        leads_then (receiver config peer) at_start (up config peer) (up config peer) octets (change_text (terms_of config peer true) None new) h.updates (map (update_by_it new) new.rules) h.leads
-        (subst (λ (z : List ℕ). Leads (receiver config peer) (up config peer) z (map (update_by_it new) new.rules) (up config peer)) (sym (all_texts (text_of new) new.rules)) (rules_lead new new.rules is.read));
+        leads_then (receiver config peer) at_start (up config peer) (up config peer) octets (change_text (terms_of config peer true) None new)
+        h.updates (map (update_by_it new) new.rules) h.leads
+        (subst (λ (z : List ℕ). Leads (receiver config peer) (up config peer) z (map (update_by_it new) new.rules) (up config peer))
+        (sym (all_texts (text_of new) new.rules)) (rules_lead new new.rules is.read));
     leaves = λ rule.
         announced_left rule terms new.as_path h.updates new.rules is.single
         ∙ ap (λ (o : Option Given). given_last rule terms new.as_path o (find (fits rule) new.rules)) (h.leaves rule) ∙ by rule (find (fits rule) new.rules);
@@ -215,16 +239,19 @@ module _ (config : Config) (peer : Peer) where
       by rule None = refl
       by rule (Some sent) = refl
 
-  other_told : (octets : List ℕ) (old new : Sending) → IsFit old → IsFit new → Holds (Some old) octets → Holds (Some new) (octets ++ change_text (terms_of config peer true) (Some old) new)
+  other_told : (octets : List ℕ) (old new : Sending) → IsFit old → IsFit new → Holds (Some old) octets
+      → Holds (Some new) (octets ++ change_text (terms_of config peer true) (Some old) new)
   other_told octets old new o n h = record {
     updates = h.updates ++ (four ++ (six ++ news));
     leads =
-        leads_then (receiver config peer) at_start now now octets (change_text (terms_of config peer true) (Some old) new) h.updates (four ++ (six ++ news)) h.leads
+        leads_then (receiver config peer) at_start now now octets (change_text (terms_of config peer true) (Some old) new) h.updates
+        (four ++ (six ++ news)) h.leads
         (leads_then (receiver config peer) now now now (withdrawals terms V4 (left old new)) _ four (six ++ news) (withdrawals_lead V4 old new o)
         (leads_then (receiver config peer) now now now (withdrawals terms V6 (left old new)) _ six news (withdrawals_lead V6 old new o) news_lead));
     leaves = λ rule.
         ap (flow_left rule) regrouped
-        ∙ changed_left rule terms old new (is_fresh old new) (packs_of V4 old new) (packs_of V6 old new) (packs_fit V4 old new o).1 (packs_fit V6 old new o).1 n.single
+        ∙ changed_left rule terms old new (is_fresh old new) (packs_of V4 old new) (packs_of V6 old new) (packs_fit V4 old new o).1
+        (packs_fit V6 old new o).1 n.single
         (known old new o n rule) h.updates (h.leaves rule);
   }
     where
@@ -240,9 +267,11 @@ module _ (config : Config) (peer : Peer) where
       news : List Update
       news = map (update_by_it new) (filter (is_fresh old new) new.rules)
 
-      news_lead : Leads (receiver config peer) (up config peer) (flat_map (λ (t : List ℕ). t) (fresh (texts (terms_of config peer true) old) (texts (terms_of config peer true) new))) news (up config peer)
+      news_lead : Leads (receiver config peer) (up config peer)
+          (flat_map (λ (t : List ℕ). t) (fresh (texts (terms_of config peer true) old) (texts (terms_of config peer true) new))) news (up config peer)
       news_lead =
-          subst (λ (z : List ℕ). Leads (receiver config peer) (up config peer) z news (up config peer)) (sym (fresh_texts (text_of new) (texts (terms_of config peer true) old) new.rules))
+          subst (λ (z : List ℕ). Leads (receiver config peer) (up config peer) z news (up config peer))
+          (sym (fresh_texts (text_of new) (texts (terms_of config peer true) old) new.rules))
           (rules_lead new (filter (is_fresh old new) new.rules) (each_filtered (ComesBack config peer new) (is_fresh old new) new.rules n.read))
 
       regrouped : h.updates ++ (four ++ (six ++ news)) ≡ ((h.updates ++ four) ++ six) ++ news

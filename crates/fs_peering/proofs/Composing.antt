@@ -1,5 +1,7 @@
 -- What an end heard and said, part by part.
-use Rattle.fs_peering.proofs.{Words.{WireEnds, end_at, heard_end, other_than, ◌≡◌, ℕ, List, [], ◌++◌, refl, ap, sym, ◌∙◌, append_assoc, flat_map-append, Part, Pieces, Stance, octets_in}, WrittenInParts.{heard_none, heard_then}}
+use Rattle.fs_peering.proofs.Words.{WireEnds, end_at, heard_end, other_than, ◌≡◌, ℕ, List, [], ◌++◌, refl, ap, sym, ◌∙◌, append_assoc}
+use Rattle.fs_peering.proofs.Words.{flat_map-append, Part, Pieces, Stance, octets_in}
+use Rattle.fs_peering.proofs.WrittenInParts.{heard_none, heard_then}
 use Rattle.std.proofs.lemmas.List.{append-nil}
 
 pub octets_then : (first later : Pieces) → octets_in (first ++ later) ≡ octets_in first ++ octets_in later

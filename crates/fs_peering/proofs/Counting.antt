@@ -1,5 +1,11 @@
 -- How many of the octets that an announcing end heard count: those up to and with the message that establishes it.
-use Rattle.fs_peering.proofs.{Words.{Advanced, Announcing, Closed, FeedsEnd, Framing, IsAt, Lined, Machine, Memory, Phase, Point, SaysText, StaysEnded, Step, TicksEnd, at_start, closed, closed_after, is_established, machine_in, moved, pending, step_by, still, stops, takes, waits, with_line, ◌≡◌, ℕ, ◌+◌, ◌-◌, ◌≤◌, ◌<◌, List, [], ◌++◌, length, drop, Bool, true, false, if◌then◌else◌, Option, Some, None, Result, Ok, Err, refl, ap, sym, ◌∙◌, subst, arith, append_assoc, append-nil, length-append, length-drop, drop_all, none-some, same_Some, close_is, opened_by, CountsBy, CountsOn, CountsTo, CountsUp, KeepsHand, KeepsSettled, EndsBefore, MetLimit, ShutsBy, is_settled}, Ahead.{alive_on}, OpenSteps.{opened_stops, opened_takes, opened_waits}, Settled.{open_settled}}
+use Rattle.fs_peering.proofs.Words.{Advanced, Announcing, Closed, FeedsEnd, Framing, IsAt, Lined, Machine, Memory, Phase, Point, SaysText, StaysEnded}
+use Rattle.fs_peering.proofs.Words.{Step, TicksEnd, at_start, closed, closed_after, is_established, machine_in, moved, pending, step_by, still, stops}
+use Rattle.fs_peering.proofs.Words.{takes, waits, with_line, ◌≡◌, ℕ, ◌+◌, ◌-◌, ◌≤◌, ◌<◌, List, [], ◌++◌, length, drop, Bool, true, false}
+use Rattle.fs_peering.proofs.Words.{if◌then◌else◌, Option, Some, None, Result, Ok, Err, refl, ap, sym, ◌∙◌, subst, arith, append_assoc, append-nil}
+use Rattle.fs_peering.proofs.Words.{length-append, length-drop, drop_all, none-some, same_Some, close_is, opened_by, CountsBy, CountsOn, CountsTo}
+use Rattle.fs_peering.proofs.Words.{CountsUp, KeepsHand, KeepsSettled, EndsBefore, MetLimit, ShutsBy, is_settled}
+use Rattle.fs_peering.proofs.{Ahead.{alive_on}, OpenSteps.{opened_stops, opened_takes, opened_waits}, Settled.{open_settled}}
 use Rattle.std.proofs.lemmas.Bool.{true≢false as never}
 
 -- before the first message of a piece
@@ -12,7 +18,8 @@ counts_start on machine line piece e = (
 )
 
 -- an end that has closed
-pub counts_shut : (on : Bool) (machine : Machine) (old line : Lined) (piece rest : List ℕ) (count : ℕ) (result : Result ℕ Closed) (why : Closed) → result ≡ Err why
+pub counts_shut : (on : Bool) (machine : Machine) (old line : Lined) (piece rest : List ℕ) (count : ℕ) (result : Result ℕ Closed) (why : Closed)
+    → result ≡ Err why
     → line.closed ≡ closed_after result → CountsOn on machine old line piece rest count
 counts_shut on machine old line piece rest count result why is shut e = absurd (none-some why (sym e ∙ shut ∙ ap closed_after is))
 
@@ -43,12 +50,14 @@ module _ (on : Bool) (machine : Machine) (old line new : Lined) (moment : ℕ) (
       let gone : length left ≡ length rest - count = length-drop count rest in
       omega (arith, e, few, k, gone)
 
-  module _ (opens : (more : List ℕ) → opened_by machine old.phase (pending old.framing ++ (piece ++ more)) ≡ opened_by machine line.phase (hand ++ (rest ++ more)))
+  module _ (opens : (more : List ℕ)
+      → opened_by machine old.phase (pending old.framing ++ (piece ++ more)) ≡ opened_by machine line.phase (hand ++ (rest ++ more)))
       (before : needed + length rest ≡ length piece) (added : needed' ≡ needed + count) (down : is_established line.phase.state ≡ false) where
     abbrev Answer : Bool → Type 0
     Answer b = CountsBy on b machine old.phase (pending old.framing) piece new left needed'
 
-    by_step : (step : Step) → step_by machine line.phase (hand ++ rest) ≡ step → Advanced step (moved moment line) new rest count None → Answer (is_established new.phase.state)
+    by_step : (step : Step) → step_by machine line.phase (hand ++ rest) ≡ step → Advanced step (moved moment line) new rest count None
+        → Answer (is_established new.phase.state)
     by_step waits s did =
         let gone : left ≡ [] = drop_all count rest (omega (arith, did.0)) in
         subst Answer (sym (ap (λ (p : Phase). is_established p.state) did.2 ∙ down)) (
@@ -101,15 +110,25 @@ module _ (on : Bool) (machine : Machine) (old line new : Lined) (moment : ℕ) (
   counts_step counts alive did stays added kept off e =
       let o = counts alive in (o.0, λ f. by f (is_established line.phase.state) refl (o.1 f))
     where
-      by : is_established old.phase.state ≡ false → (b : Bool) → is_established line.phase.state ≡ b → CountsBy on b machine old.phase (pending old.framing) piece line rest needed
+      by : is_established old.phase.state ≡ false → (b : Bool) → is_established line.phase.state ≡ b
+          → CountsBy on b machine old.phase (pending old.framing) piece line rest needed
           → CountsBy on (is_established new.phase.state) machine old.phase (pending old.framing) piece new left needed'
       by f true h k =
           subst (λ (x : Bool). CountsBy on x machine old.phase (pending old.framing) piece new left needed') (sym (stays h))
-          (record { phase = k.phase; behind = k.behind; opens = k.opens; up = k.up; stays = λ cut. absurd (never (sym h ∙ off cut f)); counted = ap (λ (n : ℕ). n + length k.behind) (kept h) ∙ k.counted })
+          (record {
+            phase = k.phase;
+            behind = k.behind;
+            opens = k.opens;
+            up = k.up;
+            stays = λ cut. absurd (never (sym h ∙ off cut f));
+            counted =
+                ap (λ (n : ℕ). n + length k.behind) (kept h) ∙ k.counted;
+          })
       by f false h k = by_step k.0 k.1 (added h) h (step_by machine line.phase (hand ++ rest)) refl did
 
 -- one call more
-pub counts_fed : (on : Bool) (a b c : Announcing) (moment : ℕ) (piece rest o1 o2 : List ℕ) (result : Result ℕ Closed) (was : Bool) (needed needed' count : ℕ) → KeepsSettled a b
+pub counts_fed : (on : Bool) (a b c : Announcing) (moment : ℕ) (piece rest o1 o2 : List ℕ) (result : Result ℕ Closed) (was : Bool)
+    (needed needed' count : ℕ) → KeepsSettled a b
     → result ≡ Ok count → StaysEnded b c result o1 o2 → FeedsEnd moment b c rest o1 o2 result → KeepsSettled b c → c.line.closed ≡ closed_after result
     → was ≡ is_settled b.line → (was ≡ false → needed' ≡ needed + count) → (was ≡ true → needed' ≡ needed)
     → (on ≡ false → is_established a.line.phase.state ≡ false → is_established b.line.phase.state ≡ false)
@@ -120,13 +139,16 @@ counts_fed on a b c moment piece rest o1 o2 result was needed needed' count same
     let up : is_settled b.line ≡ is_established b.line.phase.state = open_settled b.line alive in
     let fed = rw e at feeds alive in
     counts_step on (machine_in a) a.line b.line c.line moment piece rest needed needed' count counts alive
-    (subst (λ (m : Machine). Advanced (step_by m b.line.phase (pending b.line.framing ++ rest)) (moved moment b.line) c.line rest count None) (ap machine_in same.0) fed.0)
+    (subst (λ (m : Machine). Advanced (step_by m b.line.phase (pending b.line.framing ++ rest)) (moved moment b.line) c.line rest count None)
+    (ap machine_in same.0) fed.0)
     (λ h. sym (open_settled c.line open_c) ∙ settles.1 (up ∙ h))
     (λ h. added (w ∙ up ∙ h)) (λ h. kept (w ∙ up ∙ h)) off
 
 -- a call that closes an end which isn't established
-pub shuts_fed : (on : Bool) (a b c : Announcing) (moment : ℕ) (piece rest o1 o2 : List ℕ) (result : Result ℕ Closed) (why : Closed) (needed : ℕ) → b ≡ with_line a b.line
-    → result ≡ Err why → (why ≡ Memory → ⊥) → FeedsEnd moment b c rest o1 o2 result → c.line.closed ≡ closed_after result → (a.line.closed ≡ None → b.line.closed ≡ None)
+pub shuts_fed : (on : Bool) (a b c : Announcing) (moment : ℕ) (piece rest o1 o2 : List ℕ) (result : Result ℕ Closed) (why : Closed) (needed : ℕ)
+    → b ≡ with_line a b.line
+    → result ≡ Err why → (why ≡ Memory → ⊥) → FeedsEnd moment b c rest o1 o2 result → c.line.closed ≡ closed_after result
+    → (a.line.closed ≡ None → b.line.closed ≡ None)
     → (on ≡ false → is_established a.line.phase.state ≡ false → is_established b.line.phase.state ≡ false)
     → CountsOn on (machine_in a) a.line b.line piece rest needed → on ≡ false → ShutsBy (machine_in a) a.line c.line piece
 shuts_fed on a b c moment piece rest o1 o2 result why needed same e other feeds shut alive early counts off what how open_a down more =
@@ -135,7 +157,8 @@ shuts_fed on a b c moment piece rest o1 o2 result why needed same e other feeds 
     let step : step_by (machine_in a) b.line.phase (pending b.line.framing ++ rest) ≡ stops why =
     subst (λ (m : Machine). step_by m b.line.phase (pending b.line.framing ++ rest) ≡ stops why) (ap machine_in same)
     (close_is (step_by (machine_in b) b.line.phase (pending b.line.framing ++ rest)) why other fed.0) in
-    let opens = subst (λ (x : Bool). CountsBy on x (machine_in a) a.line.phase (pending a.line.framing) piece b.line rest needed) (early off down) ((counts open_b).1 down) in
+    let opens = subst (λ (x : Bool). CountsBy on x (machine_in a) a.line.phase (pending a.line.framing) piece b.line rest needed) (early off down)
+    ((counts open_b).1 down) in
     opens.0 more ∙ ap (opened_by (machine_in a) b.line.phase) (sym (append_assoc (pending b.line.framing) rest more))
     ∙ opened_stops (machine_in a) b.line.phase why (pending b.line.framing ++ rest) more step
     ∙ ap (λ (w : Closed). (closed w, [])) (same_Some why what (sym (shut ∙ ap closed_after e) ∙ how))
@@ -143,12 +166,14 @@ shuts_fed on a b c moment piece rest o1 o2 result why needed same e other feeds 
 pub still_open : (line : Lined) (result : Result ℕ Closed) (count : ℕ) → result ≡ Ok count → line.closed ≡ closed_after result → line.closed ≡ None
 still_open line result count e shut = shut ∙ ap closed_after e
 
-pub shuts_open : (machine : Machine) (old line : Lined) (piece : List ℕ) (result : Result ℕ Closed) (count : ℕ) → result ≡ Ok count → line.closed ≡ closed_after result
+pub shuts_open : (machine : Machine) (old line : Lined) (piece : List ℕ) (result : Result ℕ Closed) (count : ℕ) → result ≡ Ok count
+    → line.closed ≡ closed_after result
     → ShutsBy machine old line piece
 shuts_open machine old line piece result count e shut why how = absurd (none-some why (sym (still_open line result count e shut) ∙ how))
 
 -- The clock, and then a piece.
-module _ (on : Bool) (machine : Machine) (a w c : Lined) (octets piece : List ℕ) (needed count count' : ℕ) (hand : KeepsHand a w) (counts : CountsOn on machine w c piece [] needed)
+module _ (on : Bool) (machine : Machine) (a w c : Lined) (octets piece : List ℕ) (needed count count' : ℕ) (hand : KeepsHand a w)
+    (counts : CountsOn on machine w c piece [] needed)
     (stays : c.closed ≡ None → is_established w.phase.state ≡ true → is_established c.phase.state ≡ true)
     (added : is_established a.phase.state ≡ false → count' ≡ count + needed) (kept : is_established a.phase.state ≡ true → count' ≡ count)
     (off : on ≡ false → is_established a.phase.state ≡ false) (before : CountsTo on machine a count octets) where
@@ -159,7 +184,8 @@ module _ (on : Bool) (machine : Machine) (a w c : Lined) (octets piece : List �
   both = length-append octets piece
 
   module _ (e : c.closed ≡ None) where
-    woke : (w.closed ≡ None) × (is_established w.phase.state ≡ false → CountsBy on (is_established c.phase.state) machine w.phase (pending w.framing) piece c [] needed)
+    woke : (w.closed ≡ None) × (is_established w.phase.state ≡ false
+        → CountsBy on (is_established c.phase.state) machine w.phase (pending w.framing) piece c [] needed)
     woke = counts e
 
     same : (a.closed ≡ None) × ((w.phase ≡ a.phase) × (w.framing ≡ a.framing))
@@ -183,7 +209,8 @@ module _ (on : Bool) (machine : Machine) (a w c : Lined) (octets piece : List �
         })
 
     module _ (d : is_established a.phase.state ≡ false)
-        (opens : (more : List ℕ) → opened_by machine at_start (octets ++ more) ≡ opened_by machine a.phase (pending a.framing ++ more)) (all : count + 0 ≡ length octets) where
+        (opens : (more : List ℕ) → opened_by machine at_start (octets ++ more) ≡ opened_by machine a.phase (pending a.framing ++ more))
+        (all : count + 0 ≡ length octets) where
       goes : (more : List ℕ) → opened_by machine at_start ((octets ++ piece) ++ more) ≡ opened_by machine w.phase (pending w.framing ++ (piece ++ more))
       goes more =
           ap (opened_by machine at_start) (append_assoc octets piece more) ∙ opens (piece ++ more)
@@ -195,7 +222,15 @@ module _ (on : Bool) (machine : Machine) (a w c : Lined) (octets piece : List �
           let n : count' ≡ count + needed = added d in
           let m = k.counted in
           let l = both in
-          record { phase = k.phase; behind = k.behind; opens = λ more. goes more ∙ k.opens more; up = k.up; stays = k.stays; counted = omega (arith, n, m, l, all) }
+          record {
+            phase = k.phase;
+            behind = k.behind;
+            opens = λ more. goes more ∙ k.opens more;
+            up = k.up;
+            stays = k.stays;
+            counted =
+                omega (arith, n, m, l, all);
+          }
       opening false u k =
           let n : count' ≡ count + needed = added d in
           let m = k.1 in
@@ -221,7 +256,8 @@ counts_piece on b w c was piece needed count count' woke took hand counts is add
     let open_w : w.line.closed ≡ None = (counts_b e).0 in
     let open_b : b.line.closed ≡ None = (hand open_w).0 in
     let up : is_settled b.line ≡ is_established b.line.phase.state = open_settled b.line open_b in
-    subst (λ (m : Machine). CountsBy on (is_established c.line.phase.state) m at_start [] (octets ++ piece) c.line [] count') (sym (ap machine_in took.0 ∙ ap machine_in woke.0))
+    subst (λ (m : Machine). CountsBy on (is_established c.line.phase.state) m at_start [] (octets ++ piece) c.line [] count')
+    (sym (ap machine_in took.0 ∙ ap machine_in woke.0))
     (counts_more on (machine_in b) b.line w.line c.line octets piece needed count count' hand counts_b
     (λ f h. sym (open_settled c.line f) ∙ took.1 (open_settled w.line open_w ∙ h))
     (λ h. added (is ∙ up ∙ h)) (λ h. kept (is ∙ up ∙ h)) (λ cut. sym up ∙ off cut) before e)
@@ -279,7 +315,8 @@ opens_so on machine line now count octets e at k = by (is_established line.phase
     }
     by false u c =
         let waits_here : step_by machine line.phase (pending line.framing) ≡ waits =
-        ap (λ (z : List ℕ). step_by machine line.phase z) (at u).waiting_is ∙ ap (λ (p : Phase). step_by machine p now.waiting) (at u).phase_is ∙ (at u).waits_is in
+        ap (λ (z : List ℕ). step_by machine line.phase z) (at u).waiting_is ∙ ap (λ (p : Phase). step_by machine p now.waiting) (at u).phase_is
+        ∙ (at u).waits_is in
         record {
           phase = line.phase;
           behind = [];

@@ -1,5 +1,9 @@
 -- One piece more.
-use Rattle.fs_peering.proofs.Words.{Closed, Expires, Fault, Handed, Keeps, Machine, Point, Quiet, Tick, Times, at_moment, first_point, hand, handed, message_text, point, runs_by, tick_at, ticked, ticks, written_now, ◌≡◌, ◌⊎◌, inl, inr, ℕ, suc, zero, ◌+◌, List, [], ◌∷◌, ◌++◌, length, drop, take, Option, Some, None, refl, ap, sym, ◌∙◌, subst, arith, append_assoc, append-nil, length-append, flat_map-append, map-append, none-some, closed_hand, ticked_by, Pieces, moments_in, octets_in, after, hears, course, course_from}
+use Rattle.fs_peering.proofs.Words.{Closed, Expires, Fault, Handed, Keeps, Machine, Point, Quiet, Tick, Times, at_moment, first_point, hand, handed}
+use Rattle.fs_peering.proofs.Words.{message_text, point, runs_by, tick_at, ticked, ticks, written_now, ◌≡◌, ◌⊎◌, inl, inr, ℕ, suc, zero, ◌+◌, List}
+use Rattle.fs_peering.proofs.Words.{[], ◌∷◌, ◌++◌, length, drop, take, Option, Some, None, refl, ap, sym, ◌∙◌, subst, arith, append_assoc, append-nil}
+use Rattle.fs_peering.proofs.Words.{length-append, flat_map-append, map-append, none-some, closed_hand, ticked_by, Pieces, moments_in, octets_in}
+use Rattle.fs_peering.proofs.Words.{after, hears, course, course_from}
 use Rattle.std.proofs.Math.Seq.{drop-append_seam, take-append_seam}
 
 -- so many KEEPALIVEs
@@ -36,7 +40,8 @@ last_one xs ys x y e =
     (sym (drop-append_seam xs (x ∷ [])) ∙ ap (λ (n : ℕ). drop n (xs ++ x ∷ [])) same ∙ ap (drop (length ys)) e ∙ drop-append_seam ys (y ∷ []))
 
 pub octets_more : (heard : Pieces) (moment : ℕ) (piece : List ℕ) → octets_in (heard ++ (moment, piece) ∷ []) ≡ octets_in heard ++ piece
-octets_more heard moment piece = flat_map-append (λ (p : ℕ × List ℕ). p.1) heard ((moment, piece) ∷ []) ∙ ap (λ (z : List ℕ). octets_in heard ++ z) (append-nil piece)
+octets_more heard moment piece = flat_map-append (λ (p : ℕ × List ℕ). p.1) heard ((moment, piece) ∷ [])
+    ∙ ap (λ (z : List ℕ). octets_in heard ++ z) (append-nil piece)
 
 pub moments_more : (heard : Pieces) (moment : ℕ) (piece : List ℕ) → moments_in (heard ++ (moment, piece) ∷ []) ≡ moments_in heard ++ moment ∷ []
 moments_more heard moment piece = map-append (λ (p : ℕ × List ℕ). p.0) heard ((moment, piece) ∷ [])
@@ -107,7 +112,8 @@ module _ (machine : Machine) (event : ℕ × List ℕ) (now : Point) where
   pub lived : (hears machine event now).point.closed ≡ None → (now.closed ≡ None) × Steps machine event now
   lived end = by now.closed refl
     where
-      at : now.closed ≡ None → Steps machine event now ⊎ (tick_at now.phase.hold (at_moment event.0 now.times) ≡ Expires) → (now.closed ≡ None) × Steps machine event now
+      at : now.closed ≡ None → Steps machine event now ⊎ (tick_at now.phase.hold (at_moment event.0 now.times) ≡ Expires)
+          → (now.closed ≡ None) × Steps machine event now
       at e (inl s) = (e, s)
       at e (inr k) = absurd (none-some (Fault 4 0) (sym end ∙ shut (Fault 4 0) (ap (λ (m : Handed). m.point.closed) (woke_is Expires e k))))
 

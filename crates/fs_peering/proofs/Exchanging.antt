@@ -1,5 +1,12 @@
 -- Two joined ends, round by round.
-use Rattle.fs_peering.{proofs.{Words.{Told, WireEnd, WireEnds, end_at, heard_end, ◌≡◌, ℕ, ◌+◌, ◌-◌, ◌<◌, ◌≤◌, List, [], ◌∷◌, ◌++◌, Bool, true, false, Option, Some, None, if◌then◌else◌, length, refl, ap, sym, ◌∙◌, subst, arith, append_assoc, append-nil, length-append, IsTrue, flat_map-append, map-append, Grew, Grew-refl, Grew-trans, Talk, Broken, AreJoined, ExchangedOut, Exchanges, Heard, Side, StopsSo, heard_by, moments_of, of_first, of_second, Part, Pieces, Speech, Stance, Round, octets_in}, Composing.{octets_then, same_stance}, WrittenInParts.{told_and, told_same}}, specs.{declared.joined.{InFlight.{InFlight}, Talk.TheVariants.{Done}}, Joined.{Ended}, InFlight.{no_flow, first_heard, second_heard, second_said}}}
+use Rattle.fs_peering.proofs.Words.{Told, WireEnd, WireEnds, end_at, heard_end, ◌≡◌, ℕ, ◌+◌, ◌-◌, ◌<◌, ◌≤◌, List, [], ◌∷◌, ◌++◌, Bool, true, false}
+use Rattle.fs_peering.proofs.Words.{Option, Some, None, if◌then◌else◌, length, refl, ap, sym, ◌∙◌, subst, arith, append_assoc, append-nil}
+use Rattle.fs_peering.proofs.Words.{length-append, IsTrue, flat_map-append, map-append, Grew, Grew-refl, Grew-trans, Talk, Broken, AreJoined}
+use Rattle.fs_peering.proofs.Words.{ExchangedOut, Exchanges, Heard, Side, StopsSo, heard_by, moments_of, of_first, of_second, Part, Pieces, Speech}
+use Rattle.fs_peering.proofs.Words.{Stance, Round, octets_in}
+use Rattle.fs_peering.proofs.{Composing.{octets_then, same_stance}, WrittenInParts.{told_and, told_same}}
+use Rattle.fs_peering.specs.{declared.joined.{InFlight.{InFlight}, Talk.TheVariants.{Done}}, Joined.{Ended}}
+use Rattle.fs_peering.specs.InFlight.{no_flow, first_heard, second_heard, second_said}
 
 side_none : (stance : Stance) (end : WireEnd) → end.joined ≡ true → end.left ≡ [] → Side stance stance [] [] [] end end
 side_none stance end tied empty = record {
@@ -10,7 +17,8 @@ side_none stance end tied empty = record {
 }
 
 -- an end heard more and said more
-side_more : (s0 s1 s2 : Stance) (place : ℕ) (heard more : Pieces) (said out others : List ℕ) (b : WireEnd) (m n : WireEnds) → Side s0 s1 heard said others b (end_at place m)
+side_more : (s0 s1 s2 : Stance) (place : ℕ) (heard more : Pieces) (said out others : List ℕ) (b : WireEnd) (m n : WireEnds)
+    → Side s0 s1 heard said others b (end_at place m)
     → Part s1 s2 place more out m n → Side s0 s2 (heard ++ more) (said ++ out) others b (end_at place n)
 side_more s0 s1 s2 place heard more said out others b m n s part = record {
   stands = λ earlier spoken e. same_stance s2 _ _ _ _ (append_assoc earlier heard more) (append_assoc spoken said out)
@@ -71,14 +79,22 @@ abbrev event : Bool → ℕ → List ℕ → Heard
 event first moment piece = record { first = first; moment = moment; piece = piece }
 
 first_more : (events : List Heard) (moment : ℕ) (got : List ℕ)
-    → (of_first (events ++ event true moment got ∷ []) ≡ of_first events ++ (moment, got) ∷ []) × (of_second (events ++ event true moment got ∷ []) ≡ of_second events)
-first_more events moment got =
-    (flat_map-append (heard_by true) events (event true moment got ∷ []), flat_map-append (heard_by false) events (event true moment got ∷ []) ∙ append-nil (of_second events))
+    → (of_first (events ++ event true moment got ∷ []) ≡ of_first events ++ (moment, got) ∷ [])
+    × (of_second (events ++ event true moment got ∷ []) ≡ of_second events)
+first_more events moment got = (
+  flat_map-append (heard_by true) events (event true moment got ∷ []),
+  flat_map-append (heard_by false) events (event true moment got ∷ [])
+      ∙ append-nil (of_second events),
+)
 
 second_more : (events : List Heard) (moment : ℕ) (got : List ℕ)
-    → (of_first (events ++ event false moment got ∷ []) ≡ of_first events) × (of_second (events ++ event false moment got ∷ []) ≡ of_second events ++ (moment, got) ∷ [])
-second_more events moment got =
-    (flat_map-append (heard_by true) events (event false moment got ∷ []) ∙ append-nil (of_first events), flat_map-append (heard_by false) events (event false moment got ∷ []))
+    → (of_first (events ++ event false moment got ∷ []) ≡ of_first events)
+    × (of_second (events ++ event false moment got ∷ []) ≡ of_second events ++ (moment, got) ∷ [])
+second_more events moment got = (
+  flat_map-append (heard_by true) events (event false moment got ∷ [])
+      ∙ append-nil (of_first events),
+  flat_map-append (heard_by false) events (event false moment got ∷ []),
+)
 
 moments_more : (events : List Heard) (given : List ℕ) (first : Bool) (moment : ℕ) (got : List ℕ) → moments_of events ≡ given
     → moments_of (events ++ event first moment got ∷ []) ≡ given ++ moment ∷ []
@@ -88,28 +104,36 @@ moments_more events given first moment got e =
 -- of what was left these octets were read
 left_less : (left left' got : List ℕ) (n count : ℕ) → left ≡ (got ++ []) ++ left' → n ≡ length left → length got ≡ count → n - count ≡ length left'
 left_less left left' got n count e h k =
-    let whole : length left ≡ length got + length left' = ap length (e ∙ ap (λ (octets : List ℕ). octets ++ left') (append-nil got)) ∙ length-append got left' in
+    let whole : length left ≡ length got + length left' = ap length (e ∙ ap (λ (octets : List ℕ). octets ++ left') (append-nil got))
+    ∙ length-append got left' in
     omega (arith, h, k, whole)
 
-left_grown : (m n : WireEnd) (out : List ℕ) (count said : ℕ) → n ≡ heard_end out m → m.joined ≡ true → count ≡ length m.left → length out ≡ said → count + said ≡ length n.left
+left_grown : (m n : WireEnd) (out : List ℕ) (count said : ℕ) → n ≡ heard_end out m → m.joined ≡ true → count ≡ length m.left → length out ≡ said
+    → count + said ≡ length n.left
 left_grown m n out count said e tied h k =
-    let whole : length n.left ≡ length m.left + length out = ap (λ (end : WireEnd). length end.left) e ∙ ap length (joined_left m out tied) ∙ length-append m.left out in
+    let whole : length n.left ≡ length m.left + length out = ap (λ (end : WireEnd). length end.left) e ∙ ap length (joined_left m out tied)
+    ∙ length-append m.left out in
     omega (arith, h, k, whole)
 
-read_more : (heard heard' : Pieces) (moment : ℕ) (got : List ℕ) (n count : ℕ) → heard' ≡ heard ++ (moment, got) ∷ [] → n ≡ length (octets_in heard) → length got ≡ count
+read_more : (heard heard' : Pieces) (moment : ℕ) (got : List ℕ) (n count : ℕ) → heard' ≡ heard ++ (moment, got) ∷ [] → n ≡ length (octets_in heard)
+    → length got ≡ count
     → n + count ≡ length (octets_in heard')
 read_more heard heard' moment got n count e h k =
     let whole : length (octets_in heard') ≡ length (octets_in heard) + length got =
-    ap (λ (p : Pieces). length (octets_in p)) e ∙ ap length (octets_then heard ((moment, got) ∷ []) ∙ ap (λ (octets : List ℕ). octets_in heard ++ octets) (append-nil got))
+    ap (λ (p : Pieces). length (octets_in p)) e
+    ∙ ap length (octets_then heard ((moment, got) ∷ []) ∙ ap (λ (octets : List ℕ). octets_in heard ++ octets) (append-nil got))
     ∙ length-append (octets_in heard) got in
     omega (arith, h, k, whole)
 
 -- an end heard a piece and said more
-counted_more : (s0 s1 s2 : Stance) (place : ℕ) (heard heard' : Pieces) (moment : ℕ) (got said out others : List ℕ) (b : WireEnd) (m n : WireEnds) (unread read count : ℕ)
-    → heard' ≡ heard ++ (moment, got) ∷ [] → length got ≡ count → Counted s0 s1 heard said others b (end_at place m) unread read → Part s1 s2 place ((moment, got) ∷ []) out m n
+counted_more : (s0 s1 s2 : Stance) (place : ℕ) (heard heard' : Pieces) (moment : ℕ) (got said out others : List ℕ) (b : WireEnd) (m n : WireEnds)
+    (unread read count : ℕ)
+    → heard' ≡ heard ++ (moment, got) ∷ [] → length got ≡ count → Counted s0 s1 heard said others b (end_at place m) unread read
+    → Part s1 s2 place ((moment, got) ∷ []) out m n
     → Counted s0 s2 heard' (said ++ out) others b (end_at place n) (unread - count) (read + count)
 counted_more s0 s1 s2 place heard heard' moment got said out others b m n unread read count e k c part = record {
-  side = side_same s0 s2 _ _ _ _ _ _ b (end_at place n) (sym e) refl refl (side_more s0 s1 s2 place heard ((moment, got) ∷ []) said out others b m n c.side part);
+  side = side_same s0 s2 _ _ _ _ _ _ b (end_at place n) (sym e) refl refl
+      (side_more s0 s1 s2 place heard ((moment, got) ∷ []) said out others b m n c.side part);
   unread_is = left_less (end_at place m).left (end_at place n).left got unread count part.read c.unread_is k;
   read_is = read_more heard heard' moment got read count e c.read_is k;
 }
@@ -197,7 +221,8 @@ Counts talk end limit flow =
     → StopsSo talk end (length (octets_in (of_first events))) limit now
 
 pub talked : (talk : Talk) (r r' a a' : Stance) (end : Ended) (limit : ℕ) (flow : InFlight) (before now : Option WireEnds) (answers answers' : Option (List ℕ))
-    → Talking r r' a a' flow before now answers answers' → IsBounded flow limit → Counts talk end limit flow → Exchanges talk r r' a a' end limit before now answers answers'
+    → Talking r r' a a' flow before now answers answers' → IsBounded flow limit → Counts talk end limit flow
+    → Exchanges talk r r' a a' end limit before now answers answers'
 talked talk r r' a a' end limit flow before now answers answers' t few stops = record {
   given = t.given;
   grew = t.grew;
@@ -220,9 +245,11 @@ talked talk r r' a a' end limit flow before now answers answers' t few stops = r
         }
 
 -- octets in flight to an end arrive there: a read of none found none left
-never_arrives : (left left' got : List ℕ) (flying count : ℕ) → left ≡ (got ++ []) ++ left' → flying ≡ length left → 0 < flying → length got ≡ count → count ≡ 0 → left' ≡ [] → ⊥
+never_arrives : (left left' got : List ℕ) (flying count : ℕ) → left ≡ (got ++ []) ++ left' → flying ≡ length left → 0 < flying → length got ≡ count
+    → count ≡ 0 → left' ≡ [] → ⊥
 never_arrives left left' got flying count e h some k none empty =
-    let whole : length left ≡ length got + length left' = ap length (e ∙ ap (λ (octets : List ℕ). octets ++ left') (append-nil got)) ∙ length-append got left' in
+    let whole : length left ≡ length got + length left' = ap length (e ∙ ap (λ (octets : List ℕ). octets ++ left') (append-nil got))
+    ∙ length-append got left' in
     absurd (omega (arith, h, some, k, none, whole, ap length empty))
 
 pub no_octets : (octets : List ℕ) → 0 ≡ length octets → octets ≡ []
@@ -230,7 +257,8 @@ no_octets [] h = refl
 no_octets (octet ∷ octets) h = absurd (omega (arith, h))
 
 -- One step more.
-module _ {r r1 a a1 : Stance} {flow : InFlight} {before now : Option WireEnds} {answers asked : Option (List ℕ)} (t : Talking r r1 a a1 flow before now answers asked)
+module _ {r r1 a a1 : Stance} {flow : InFlight} {before now : Option WireEnds} {answers asked : Option (List ℕ)}
+    (t : Talking r r1 a a1 flow before now answers asked)
     (later : Option WireEnds) where
   -- in which the clock answered these moments
   stepped : (r2 a2 : Stance) (flow' : InFlight) (step : WireEnds → WireEnds → Type 0) (more : List ℕ) (last : Option (List ℕ))
@@ -247,15 +275,18 @@ module _ {r r1 a a1 : Stance} {flow : InFlight} {before now : Option WireEnds} {
       → Told (Round r1 r2 0 moment count said) now later → Grew asked last (moment ∷ []) → Talking r r2 a a1 flow' before later answers last
   talking_first r2 flow' moment count said last e round grew =
       subst (λ (f : InFlight). Talking r r2 a a1 f before later answers last) (sym e)
-      (stepped r2 a1 (first_heard count said flow) (Round r1 r2 0 moment count said) (moment ∷ []) last (exchanging_first r r1 r2 a a1 t.given flow moment count said) round grew)
+      (stepped r2 a1 (first_heard count said flow) (Round r1 r2 0 moment count said) (moment ∷ []) last
+      (exchanging_first r r1 r2 a a1 t.given flow moment count said) round grew)
 
   pub talking_second : (a2 : Stance) (flow' : InFlight) (moment count said : ℕ) (last : Option (List ℕ)) → flow' ≡ second_heard count said flow
       → Told (Round a1 a2 1 moment count said) now later → Grew asked last (moment ∷ []) → Talking r r1 a a2 flow' before later answers last
   talking_second a2 flow' moment count said last e round grew =
       subst (λ (f : InFlight). Talking r r1 a a2 f before later answers last) (sym e)
-      (stepped r1 a2 (second_heard count said flow) (Round a1 a2 1 moment count said) (moment ∷ []) last (exchanging_second r r1 a a1 a2 t.given flow moment count said) round grew)
+      (stepped r1 a2 (second_heard count said flow) (Round a1 a2 1 moment count said) (moment ∷ []) last
+      (exchanging_second r r1 a a1 a2 t.given flow moment count said) round grew)
 
-  pub talking_said : (a2 : Stance) (flow' : InFlight) (said : ℕ) → flow' ≡ second_said said flow → Told (Speech a1 a2 1 said) now later → Talking r r1 a a2 flow' before later answers asked
+  pub talking_said : (a2 : Stance) (flow' : InFlight) (said : ℕ) → flow' ≡ second_said said flow → Told (Speech a1 a2 1 said) now later
+      → Talking r r1 a a2 flow' before later answers asked
   talking_said a2 flow' said e speech =
       subst (λ (f : InFlight). Talking r r1 a a2 f before later answers asked) (sym e)
       (stepped r1 a2 (second_said said flow) (Speech a1 a2 1 said) [] asked (exchanging_said r r1 a a1 a2 t.given flow said) speech (Grew-refl asked))
@@ -267,24 +298,30 @@ module _ {r r1 a a1 : Stance} {flow : InFlight} {before now : Option WireEnds} {
   never r2 a2 end limit step more last arrives told grew = record {
     given = t.given ++ more;
     grew = Grew-trans answers asked last t.given more t.grew grew;
-    told = told_and (λ b n. AreJoined b → Exchanging r r1 a a1 t.given flow b n) step (λ b n. AreJoined b → ExchangedOut Broken r r2 a a2 end limit (t.given ++ more) b n)
+    told = told_and (λ b n. AreJoined b → Exchanging r r1 a a1 t.given flow b n) step (λ b n. AreJoined b
+        → ExchangedOut Broken r r2 a a2 end limit (t.given ++ more) b n)
         (λ b m n x taken j. absurd (arrives b m n (x j) taken)) before now later t.told told;
   }
 
-  pub never_first : (r2 : Stance) (end : Ended) (limit moment count said : ℕ) (last : Option (List ℕ)) → Told (Round r1 r2 0 moment count said) now later → Grew asked last (moment ∷ [])
+  pub never_first : (r2 : Stance) (end : Ended) (limit moment count said : ℕ) (last : Option (List ℕ))
+      → Told (Round r1 r2 0 moment count said) now later → Grew asked last (moment ∷ [])
       → 0 < flow.to_first → count ≡ 0 → Exchanges Broken r r2 a a1 end limit before later answers last
   never_first r2 end limit moment count said last round grew some none =
       never r2 a1 end limit (Round r1 r2 0 moment count said) (moment ∷ []) last
-      (λ b m n x turned. never_arrives m.first.left n.first.left turned.got flow.to_first count turned.part.read x.one.unread_is some turned.counted none (turned.none none)) round grew
+      (λ b m n x turned. never_arrives m.first.left n.first.left turned.got flow.to_first count turned.part.read x.one.unread_is some turned.counted
+      none (turned.none none)) round grew
 
-  pub never_second : (a2 : Stance) (end : Ended) (limit moment count said : ℕ) (last : Option (List ℕ)) → Told (Round a1 a2 1 moment count said) now later → Grew asked last (moment ∷ [])
+  pub never_second : (a2 : Stance) (end : Ended) (limit moment count said : ℕ) (last : Option (List ℕ))
+      → Told (Round a1 a2 1 moment count said) now later → Grew asked last (moment ∷ [])
       → 0 < flow.to_second → count ≡ 0 → Exchanges Broken r r1 a a2 end limit before later answers last
   never_second a2 end limit moment count said last round grew some none =
       never r1 a2 end limit (Round a1 a2 1 moment count said) (moment ∷ []) last
-      (λ b m n x turned. never_arrives m.second.left n.second.left turned.got flow.to_second count turned.part.read x.other.unread_is some turned.counted none (turned.none none)) round grew
+      (λ b m n x turned. never_arrives m.second.left n.second.left turned.got flow.to_second count turned.part.read x.other.unread_is some
+      turned.counted none (turned.none none)) round grew
 
   -- or the second end said no more
-  pub talked_done : (a2 : Stance) (end : Ended) (limit : ℕ) → Told (Speech a1 a2 1 0) now later → IsBounded flow limit → end.over_first ≡ false → end.over_second ≡ false → flow.first_read < limit
+  pub talked_done : (a2 : Stance) (end : Ended) (limit : ℕ) → Told (Speech a1 a2 1 0) now later → IsBounded flow limit → end.over_first ≡ false
+      → end.over_second ≡ false → flow.first_read < limit
       → end.count < limit → flow.to_first ≡ 0 → IsTrue end.begun → (end.ready ≡ false → flow.to_second ≡ 0) → (IsTrue end.ready → end.ahead ≡ 0)
       → Exchanges Done r r1 a a2 end limit before later answers asked
   talked_done a2 end limit speech few one other within counted none begun rest all =

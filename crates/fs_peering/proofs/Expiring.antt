@@ -1,8 +1,20 @@
 -- No octets close an end with Hold Timer Expired: only the clock does.
-use Rattle.fs_peering.proofs.{Words.{Closed, Config, Established, Expires, Fault, Handed, Last, Machine, Message, MessageFault, NoFamily, Open, Peer, Phase, Point, State, Times, Update, UpdateFault, WaitKeep, WaitOpen, at_moment, at_start, bounded_from, closed, closing_of, faulted, fields_fault, first_message, first_over, header_of, is_established, not_taken, notice_of, notified, open_of, opened, parts_of, phase, plays, receiver, rest_closes, runs, runs_by, session_by, session_from, shuts, still, taken, taken_in, tick_at, too_many, transition_at, transition_by, updates, wrong_at, ◌≡◌, ◌⊎◌, inl, inr, ◌==◌, ◌||◌, not, ℕ, ◌-◌, nat_lt, List, [], ◌∷◌, ◌++◌, length, drop, get_or, min, Bool, true, false, if◌then◌else◌, Option, Some, None, Result, Ok, Err, refl, ap, sym, ◌∙◌, subst, append_assoc, none-some, same_Some, ran, runs_none, runs_step, going, plays_none, plays_step, opened_by, opens, front_message, Pieces, hears, course, last_update}, Courses.{Steps, by_pieces, course_more, stays_shut, steps}, OpenSteps.{Opened, going as made_open, opens_none, opens_step}}
+use Rattle.fs_peering.proofs.Words.{Closed, Config, Established, Expires, Fault, Handed, Last, Machine, Message, MessageFault, NoFamily, Open, Peer}
+use Rattle.fs_peering.proofs.Words.{Phase, Point, State, Times, Update, UpdateFault, WaitKeep, WaitOpen, at_moment, at_start, bounded_from, closed}
+use Rattle.fs_peering.proofs.Words.{closing_of, faulted, fields_fault, first_message, first_over, header_of, is_established, not_taken, notice_of}
+use Rattle.fs_peering.proofs.Words.{notified, open_of, opened, parts_of, phase, plays, receiver, rest_closes, runs, runs_by, session_by, session_from}
+use Rattle.fs_peering.proofs.Words.{shuts, still, taken, taken_in, tick_at, too_many, transition_at, transition_by, updates, wrong_at, ◌≡◌, ◌⊎◌, inl}
+use Rattle.fs_peering.proofs.Words.{inr, ◌==◌, ◌||◌, not, ℕ, ◌-◌, nat_lt, List, [], ◌∷◌, ◌++◌, length, drop, get_or, min, Bool, true, false}
+use Rattle.fs_peering.proofs.Words.{if◌then◌else◌, Option, Some, None, Result, Ok, Err, refl, ap, sym, ◌∙◌, subst, append_assoc, none-some, same_Some}
+use Rattle.fs_peering.proofs.Words.{ran, runs_none, runs_step, going, plays_none, plays_step, opened_by, opens, front_message, Pieces, hears, course}
+use Rattle.fs_peering.proofs.Words.{last_update}
+use Rattle.fs_peering.proofs.Courses.{Steps, by_pieces, course_more, stays_shut, steps}
+use Rattle.fs_peering.proofs.OpenSteps.{Opened, going as made_open, opens_none, opens_step}
 use Rattle.std.proofs.lemmas.Bool.{true≢false as never}
 use Rattle.byteorder.specs.Endian.{big_number}
-use Rattle.fs_message.specs.{Capabilities.{Field, are_parameters, capabilities_of}, Header.{allows, fault, header_fault, kind_at, kind_wrong, marker_wrong, size_at, size_wrong}, Open.{opened as reads_open}}
+use Rattle.fs_message.specs.Capabilities.{Field, are_parameters, capabilities_of}
+use Rattle.fs_message.specs.Header.{allows, fault, header_fault, kind_at, kind_wrong, marker_wrong, size_at, size_wrong}
+use Rattle.fs_message.specs.Open.{opened as reads_open}
 use Rattle.fs_attrs.specs.declared.update.UpdateFault.TheVariants.{List as ListFault, Network, Optional, Memory as NoMemory}
 use Rattle.fs_speaker.specs.declared.State.TheVariants.{Closed as IsClosed}
 
@@ -57,9 +69,14 @@ open_not : (expected : ℕ) (body : List ℕ) → OpenNot (open_of expected body
 open_not expected body = by (fields_fault body) (fields_not body)
   where
     by : (o : Option MessageFault) → WrongNot o
-        → OpenNot (elim o [ Some wrong ↦ Err wrong | None ↦ if are_parameters (drop 10 body) then reads_open expected body (capabilities_of (drop 10 body)) else Err (fault 2 4) ])
+        → OpenNot (elim o [
+          | Some wrong ↦ Err wrong
+          | None ↦ if are_parameters (drop 10 body)
+              then reads_open expected body (capabilities_of (drop 10 body)) else Err (fault 2 4)
+        ])
     by None n =
-        either OpenNot (are_parameters (drop 10 body)) (reads_open expected body (capabilities_of (drop 10 body))) (Err (fault 2 4)) (reads_not expected body (capabilities_of (drop 10 body))) refl
+        either OpenNot (are_parameters (drop 10 body)) (reads_open expected body (capabilities_of (drop 10 body))) (Err (fault 2 4))
+        (reads_not expected body (capabilities_of (drop 10 body))) refl
     by (Some wrong) n = n
 
 abbrev MadeNot : Made → Type 0
@@ -78,7 +95,8 @@ updates_not now (Err wrong) = update_not wrong
 
 module _ (machine : Machine) where
   opened_not : (r : Result Open MessageFault) → OpenNot r → MadeNot (opened machine r)
-  opened_not (Ok found) n = either MadeNot (machine.lacks found) (Err NoFamily) (taken (phase WaitKeep found.four (min machine.offer found.hold_time)) None) tt tt
+  opened_not (Ok found) n = either MadeNot (machine.lacks found) (Err NoFamily)
+      (taken (phase WaitKeep found.four (min machine.offer found.hold_time)) None) tt tt
   opened_not (Err wrong) n = n
 
   at_not : (state : State) (four : Bool) (hold : ℕ) (message : Message) → MadeNot (transition_at machine state four hold message)
@@ -97,7 +115,8 @@ module _ (machine : Machine) where
 
   transition_not : (now : Phase) (message : Message) → MadeNot (transition_by machine now message)
   transition_not now message =
-      either MadeNot (message.kind == 3) (Err (notified (notice_of message.body))) (transition_at machine now.state now.four now.hold message) tt (at_not now.state now.four now.hold message)
+      either MadeNot (message.kind == 3) (Err (notified (notice_of message.body))) (transition_at machine now.state now.four now.hold message) tt
+      (at_not now.state now.four now.hold message)
 
   -- handed over
   abbrev RunsNot : Handed → Type 0
@@ -106,7 +125,8 @@ module _ (machine : Machine) where
   shut_not : (now : Phase) (times : Times) (why : Closed) → NotLate why → RunsNot (shuts machine now times why)
   shut_not now times why n e = no_late why n (same_Some why (Fault 4 0) e)
 
-  runs_not : (messages : List Message) (now : Phase) (times : Times) (waiting : List ℕ) (wrong : Option MessageFault) → WrongNot wrong → RunsNot (runs machine now times messages waiting wrong)
+  runs_not : (messages : List Message) (now : Phase) (times : Times) (waiting : List ℕ) (wrong : Option MessageFault) → WrongNot wrong
+      → RunsNot (runs machine now times messages waiting wrong)
   runs_not [] now times waiting None n = subst RunsNot (sym (runs_none machine now times waiting None)) (λ e. none-some (Fault 4 0) e)
   runs_not [] now times waiting (Some wrong) n = subst RunsNot (sym (runs_none machine now times waiting (Some wrong))) (shut_not now times (faulted wrong) n)
   runs_not (message ∷ messages) now times waiting wrong n =
@@ -120,7 +140,8 @@ module _ (machine : Machine) where
 
   runs_by_not : (now : Phase) (times : Times) (octets : List ℕ) → RunsNot (runs_by machine now times octets)
   runs_by_not now times octets =
-      runs_not (parts_of first_message octets).0 now times (parts_of first_message octets).1 (wrong_at (parts_of first_message octets).1) (wrong_not (parts_of first_message octets).1)
+      runs_not (parts_of first_message octets).0 now times (parts_of first_message octets).1 (wrong_at (parts_of first_message octets).1)
+      (wrong_not (parts_of first_message octets).1)
 
   -- as a session
   abbrev LastNot : Last → Type 0
@@ -137,12 +158,14 @@ module _ (machine : Machine) where
       subst (λ (z : List Update × Last). LastNot z.1) (sym (plays_step machine now message messages wrong))
       (by (λ next. plays_not messages next wrong n) (transition_by machine now message) (transition_not now message))
     where
-      by : ((next : Phase) → LastNot (plays machine next messages wrong).1) → (made : Made) → MadeNot made → LastNot (going made (λ next. plays machine next messages wrong)).1
+      by : ((next : Phase) → LastNot (plays machine next messages wrong).1) → (made : Made) → MadeNot made
+          → LastNot (going made (λ next. plays machine next messages wrong)).1
       by rest (Ok next) m = subst LastNot (sym (last_update next.1 (plays machine next.0 messages wrong))) (rest next.0)
       by rest (Err why) m = m
 
   session_not : (now : Phase) (octets : List ℕ) → LastNot (session_by machine now octets).1
-  session_not now octets = plays_not (parts_of first_message octets).0 now (wrong_at (parts_of first_message octets).1) (wrong_not (parts_of first_message octets).1)
+  session_not now octets = plays_not (parts_of first_message octets).0 now (wrong_at (parts_of first_message octets).1)
+      (wrong_not (parts_of first_message octets).1)
 
   -- up to where it is established
   opens_not : (parts : List (Message × List ℕ)) (now : Phase) (wrong : Option MessageFault) → WrongNot wrong → LastNot (opens machine now parts wrong).0
@@ -151,16 +174,19 @@ module _ (machine : Machine) where
       subst (λ (z : Opened). LastNot z.0) (sym (opens_step machine now found later wrong))
       (by (λ next. opens_not later next wrong n) (transition_by machine now found.0) (transition_not now found.0))
     where
-      up : (b : Bool) (next : Phase) → LastNot (opens machine next later wrong).0 → LastNot (if b then (still next, found.1) else opens machine next later wrong).0
+      up : (b : Bool) (next : Phase) → LastNot (opens machine next later wrong).0
+          → LastNot (if b then (still next, found.1) else opens machine next later wrong).0
       up true next rest = tt
       up false next rest = rest
 
-      by : ((next : Phase) → LastNot (opens machine next later wrong).0) → (made : Made) → MadeNot made → LastNot (made_open made found.1 (λ next. opens machine next later wrong)).0
+      by : ((next : Phase) → LastNot (opens machine next later wrong).0) → (made : Made) → MadeNot made
+          → LastNot (made_open made found.1 (λ next. opens machine next later wrong)).0
       by rest (Ok next) m = up (is_established next.0.state) next.0 (rest next.0)
       by rest (Err why) m = m
 
   opened_by_not : (now : Phase) (octets : List ℕ) → LastNot (opened_by machine now octets).0
-  opened_by_not now octets = opens_not (parts_of front_message octets).0 now (wrong_at (parts_of front_message octets).1) (wrong_not (parts_of front_message octets).1)
+  opened_by_not now octets = opens_not (parts_of front_message octets).0 now (wrong_at (parts_of front_message octets).1)
+      (wrong_not (parts_of front_message octets).1)
 
   last_late : (last : Last) → LastNot last → last ≡ closed (Fault 4 0) → ⊥
   last_late last n e = never (subst LastNot e n)
@@ -193,7 +219,8 @@ module _ (machine : Machine) where
     late_more : Expired (heard ++ event ∷ [])
     late_more = by here.closed refl
       where
-        alive : here.closed ≡ None → Steps machine event here ⊎ (tick_at here.phase.hold (at_moment event.0 here.times) ≡ Expires) → Expired (heard ++ event ∷ [])
+        alive : here.closed ≡ None → Steps machine event here ⊎ (tick_at here.phase.hold (at_moment event.0 here.times) ≡ Expires)
+            → Expired (heard ++ event ∷ [])
         alive k (inl s) =
             absurd (runs_by_not here.phase s.times (here.waiting ++ event.1) (sym (ap (λ (p : Point). p.closed) s.point_is) ∙ there))
         alive k (inr due) = record { earlier = heard; event = event; later = []; split = refl; lived = k; due = due }

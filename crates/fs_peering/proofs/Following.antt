@@ -1,5 +1,14 @@
 -- What a keeper does, one part after the other.
-use Rattle.fs_peering.proofs.{KeeperWords.{ℕ, ◌*◌, min, most_wait, not, List, [], ◌∷◌, ◌++◌, append-nil, ◌≡◌, ◌==◌, ◌&&◌, Bool, true, false, Option, Some, None, IfSome, refl, ap, sym, subst, ◌∙◌, if◌then◌else◌, option_or, Turn, What, ended, gave, made, nothing, taken, shut, Grew, Grew-refl, Grew-trans, Config, Peer, CanSend, has_started, is_established, machine_in, open_sent, sender_of, state_in, terms_of, StandsAt, Closed, Lined, Machine, Point, Sending, Connection, Kept, Outcome, Said, at_line, begins, checks, ends, follows, hears, is_up, machine_of, news_up, outcome, rests, rises, received, receives, speaks, wakes, woken, BreaksSo, Fits, IsConnection, IsOwn, KeepsOwn, Keeping, LinkSaid, LinkSays, Linked, MayBeSaid, Stands, Took, TookQuietly, TookSo, let_go, terms_in, News, Ended, Unreached}, Standing.{going, linked_none, linked_some, machines, checks_none, checks_some, line_none, line_some, settled, settled_by, took_open, took_rests, took_shut}}
+use Rattle.fs_peering.proofs.KeeperWords.{ℕ, ◌*◌, min, most_wait, not, List, [], ◌∷◌, ◌++◌, append-nil, ◌≡◌, ◌==◌, ◌&&◌, Bool, true, false, Option}
+use Rattle.fs_peering.proofs.KeeperWords.{Some, None, IfSome, refl, ap, sym, subst, ◌∙◌, if◌then◌else◌, option_or, Turn, What, ended, gave, made}
+use Rattle.fs_peering.proofs.KeeperWords.{nothing, taken, shut, Grew, Grew-refl, Grew-trans, Config, Peer, CanSend, has_started, is_established}
+use Rattle.fs_peering.proofs.KeeperWords.{machine_in, open_sent, sender_of, state_in, terms_of, StandsAt, Closed, Lined, Machine, Point, Sending}
+use Rattle.fs_peering.proofs.KeeperWords.{Connection, Kept, Outcome, Said, at_line, begins, checks, ends, follows, hears, is_up, machine_of, news_up}
+use Rattle.fs_peering.proofs.KeeperWords.{outcome, rests, rises, received, receives, speaks, wakes, woken, BreaksSo, Fits, IsConnection, IsOwn}
+use Rattle.fs_peering.proofs.KeeperWords.{KeepsOwn, Keeping, LinkSaid, LinkSays, Linked, MayBeSaid, Stands, Took, TookQuietly, TookSo, let_go}
+use Rattle.fs_peering.proofs.KeeperWords.{terms_in, News, Ended, Unreached}
+use Rattle.fs_peering.proofs.Standing.{going, linked_none, linked_some, machines, checks_none, checks_some, line_none, line_some, settled, settled_by}
+use Rattle.fs_peering.proofs.Standing.{took_open, took_rests, took_shut}
 use Rattle.fs_session.proofs.Fitting.{all_short}
 use Rattle.fs_session.specs.declared.transition.Phase.{Phase}
 use Rattle.fs_speaker.specs.declared.State.TheVariants.{Closed as IsClosed}
@@ -19,7 +28,8 @@ all_said config linked None own can = tt
 all_said config linked (Some sending) own can = may_be_said config linked sending own can
 
 -- whose the end of the connection is stays
-pub owns_on : (config : Config) (linked linked' : Linked) → IsOwn config linked → (linked'.end.config ≡ linked.end.config) → (linked'.end.peer ≡ linked.end.peer) → IsOwn config linked'
+pub owns_on : (config : Config) (linked linked' : Linked) → IsOwn config linked → (linked'.end.config ≡ linked.end.config)
+    → (linked'.end.peer ≡ linked.end.peer) → IsOwn config linked'
 owns_on config linked linked' own same peer = record {
   config_is = same ∙ own.config_is;
   sender = own.sender ∙ ap (λ (p : Peer). Some p) (sym peer);
@@ -47,35 +57,44 @@ module _ (time : ℕ) (old : Keeping) (linked : Linked) (link_is : old.link ≡ 
       let f = linked_some kept old linked stands link_is in
       let said : LinkSaid (woken time f.connection.since f.connection.point) news linked linked' [] out =
       subst (λ since. LinkSaid (woken time since f.connection.point) news linked linked' [] out) f.is.since_is
-      (says f.connection.point (subst (λ machine. StandsAt machine linked.end.line f.connection.point) (sym (machines old.config kept.rules f.connection linked f.is)) f.is.stands) f.is.alive) in
+      (says f.connection.point (subst (λ machine. StandsAt machine linked.end.line f.connection.point)
+      (sym (machines old.config kept.rules f.connection linked f.is)) f.is.stands) f.is.alive) in
       subst (λ (o : Outcome). Took o None old new turns turns1) (sym (checks_some time kept f.connection true f.there (sym f.is.made_is ∙ on)))
-      (took_open (woken time f.connection.since f.connection.point) news time f.connection linked linked' out kept old stands f.is said turns turns1 asked false new none goes)
+      (took_open (woken time f.connection.since f.connection.point) news time f.connection linked linked' out kept old stands f.is said turns turns1
+      asked false new none goes)
 
-  pub check_shut : (news : Option News) (linked' : Linked) (out : List ℕ) (new : Keeping) (turns turns1 turns2 : Option (List Turn)) (done : News) → linked.made ≡ true
+  pub check_shut : (news : Option News) (linked' : Linked) (out : List ℕ) (new : Keeping) (turns turns1 turns2 : Option (List Turn)) (done : News)
+      → linked.made ≡ true
       → LinkSays (woken time linked.since) news linked linked' [] out → Grew turns turns1 (speaks linked.line out) → news ≡ Some done
       → Grew turns1 turns2 (shut linked.line ∷ []) → new ≡ let_go time old → TookSo (checks time) (Some done) old new turns turns2
   check_shut news linked' out new turns turns1 turns2 done on says asked some closed goes = λ kept stands.
       let f = linked_some kept old linked stands link_is in
       let said : LinkSaid (woken time f.connection.since f.connection.point) news linked linked' [] out =
       subst (λ since. LinkSaid (woken time since f.connection.point) news linked linked' [] out) f.is.since_is
-      (says f.connection.point (subst (λ machine. StandsAt machine linked.end.line f.connection.point) (sym (machines old.config kept.rules f.connection linked f.is)) f.is.stands) f.is.alive) in
+      (says f.connection.point (subst (λ machine. StandsAt machine linked.end.line f.connection.point)
+      (sym (machines old.config kept.rules f.connection linked f.is)) f.is.stands) f.is.alive) in
       subst (λ (o : Outcome). Took o (Some done) old new turns turns2) (sym (checks_some time kept f.connection true f.there (sym f.is.made_is ∙ on)))
-      (took_shut (woken time f.connection.since f.connection.point) news time f.connection linked linked' out kept old stands f.is said turns turns1 asked false done turns2 new some closed goes)
+      (took_shut (woken time f.connection.since f.connection.point) news time f.connection linked linked' out kept old stands f.is said turns turns1
+      asked false done turns2 new some closed goes)
 
 pub check_none : (time : ℕ) (old : Keeping) (turns : Option (List Turn)) → old.link ≡ None → TookSo (checks time) None old old turns turns
 check_none time old turns none = λ kept stands. took_rests (checks time kept) kept old turns stands (checks_none time kept (linked_none kept old stands none))
 
 -- no connection is there, or another
-pub at_none : (line : ℕ) (fits : Connection → Bool) (act : Connection → Kept → Outcome) (old : Keeping) → old.link ≡ None → TookQuietly (at_line line fits act) None old old
-at_none line fits act old none = λ turns kept stands. took_rests (at_line line fits act kept) kept old turns stands (line_none line fits act kept (linked_none kept old stands none))
+pub at_none : (line : ℕ) (fits : Connection → Bool) (act : Connection → Kept → Outcome) (old : Keeping) → old.link ≡ None
+    → TookQuietly (at_line line fits act) None old old
+at_none line fits act old none =
+    λ turns kept stands. took_rests (at_line line fits act kept) kept old turns stands (line_none line fits act kept (linked_none kept old stands none))
 
 same_lines : (a b line : ℕ) (fits is : Bool) → a ≡ b → ((a == line) && fits) ≡ is → ((b == line) && fits) ≡ is
 same_lines a b line fits is e h = subst (λ n. ((n == line) && fits) ≡ is) e h
 
 -- what is asked of a connection is asked of its link
-at_link : (line : ℕ) (fits : Connection → Bool) (connection : Connection) (linked : Linked) (fit is : Bool) → linked.line ≡ connection.line → fits connection ≡ fit
+at_link : (line : ℕ) (fits : Connection → Bool) (connection : Connection) (linked : Linked) (fit is : Bool) → linked.line ≡ connection.line
+    → fits connection ≡ fit
     → ((linked.line == line) && fit) ≡ is → ((connection.line == line) && fits connection) ≡ is
-at_link line fits connection linked fit is line_is fit_is h = same_lines linked.line connection.line line (fits connection) is line_is (ap (λ b. (linked.line == line) && b) fit_is ∙ h)
+at_link line fits connection linked fit is line_is fit_is h =
+    same_lines linked.line connection.line line (fits connection) is line_is (ap (λ b. (linked.line == line) && b) fit_is ∙ h)
 
 pub at_other : (line : ℕ) (fits : Connection → Bool) (act : Connection → Kept → Outcome) (old : Keeping) (linked : Linked) (fit : Bool) → old.link ≡ Some linked
     → ((connection : Connection) → linked.made ≡ connection.made → fits connection ≡ fit) → ((linked.line == line) && fit) ≡ false
@@ -83,30 +102,35 @@ pub at_other : (line : ℕ) (fits : Connection → Bool) (act : Connection → K
 at_other line fits act old linked fit some fits_is other = λ turns kept stands.
     let f = linked_some kept old linked stands some in
     took_rests (at_line line fits act kept) kept old turns stands
-    (line_some line fits act kept f.connection false f.there (at_link line fits f.connection linked fit false f.is.line_is (fits_is f.connection f.is.made_is) other))
+    (line_some line fits act kept f.connection false f.there
+    (at_link line fits f.connection linked fit false f.is.line_is (fits_is f.connection f.is.made_is) other))
 
 pub at_this : (line : ℕ) (fits : Connection → Bool) (act : Connection → Kept → Outcome) (news : Option News) (old new : Keeping) (linked : Linked) (fit : Bool)
     (turns turns' : Option (List Turn)) → old.link ≡ Some linked
     → ((connection : Connection) → linked.made ≡ connection.made → fits connection ≡ fit) → ((linked.line == line) && fit) ≡ true
-    → ((kept : Kept) (connection : Connection) → Stands kept old → IsConnection old.config kept.rules connection linked → Took (act connection kept) news old new turns turns')
+    → ((kept : Kept) (connection : Connection) → Stands kept old → IsConnection old.config kept.rules connection linked
+    → Took (act connection kept) news old new turns turns')
     → TookSo (at_line line fits act) news old new turns turns'
 at_this line fits act news old new linked fit turns turns' some fits_is this took = λ kept stands.
     let f = linked_some kept old linked stands some in
     subst (λ (o : Outcome). Took o news old new turns turns')
-    (sym (line_some line fits act kept f.connection true f.there (at_link line fits f.connection linked fit true f.is.line_is (fits_is f.connection f.is.made_is) this)))
+    (sym (line_some line fits act kept f.connection true f.there
+    (at_link line fits f.connection linked fit true f.is.line_is (fits_is f.connection f.is.made_is) this)))
     (took kept f.connection stands f.is)
 
 -- the OPEN is said
 pub begun_so : (time : ℕ) (old new : Keeping) (linked linked' : Linked) (out : List ℕ) (turns turns1 : Option (List Turn)) → linked.made ≡ false
     → (linked.end.started ≡ false
-    → (linked' ≡ record linked { made = true; since = time; end = has_started linked.end }) × (out ≡ [] ++ open_sent linked.end.config linked.end.peer linked.end.sending))
+    → (linked' ≡ record linked { made = true; since = time; end = has_started linked.end })
+    × (out ≡ [] ++ open_sent linked.end.config linked.end.peer linked.end.sending))
     → Grew turns turns1 (speaks linked.line out) → new ≡ going false linked' old
     → (kept : Kept) (connection : Connection) → Stands kept old → IsConnection old.config kept.rules connection linked
     → Took (begins old.config time connection kept) None old new turns turns1
 begun_so time old new linked linked' out turns turns1 off begun asked goes kept connection stands is =
     let b = begun (is.started_is ∙ sym is.made_is ∙ off) in
     let text : out ≡ open_sent old.config connection.peer connection.asked =
-    b.1 ∙ ap (λ (c : Config). open_sent c linked.end.peer linked.end.sending) is.config_is ∙ ap (λ (p : Peer). open_sent old.config p linked.end.sending) is.peer_is
+    b.1 ∙ ap (λ (c : Config). open_sent c linked.end.peer linked.end.sending) is.config_is
+    ∙ ap (λ (p : Peer). open_sent old.config p linked.end.sending) is.peer_is
     ∙ ap (λ (s : Sending). open_sent old.config connection.peer s) is.asked_is in
     subst (λ (n : Keeping). Took (begins old.config time connection kept) None old n turns turns1) (sym goes)
     (record {
@@ -179,27 +203,35 @@ module _ (time : ℕ) (piece : List ℕ) (old : Keeping) (linked linked' : Linke
   said_so : (kept : Kept) (connection : Connection) → IsConnection old.config kept.rules connection linked
       → LinkSaid (received (machine_of old.config connection) time piece connection.point) news linked linked' [] out
   said_so kept connection is =
-      subst (λ machine. LinkSaid (received machine time piece connection.point) news linked linked' [] out) (machines old.config kept.rules connection linked is)
-      (says connection.point (subst (λ machine. StandsAt machine linked.end.line connection.point) (sym (machines old.config kept.rules connection linked is)) is.stands) is.alive)
+      subst (λ machine. LinkSaid (received machine time piece connection.point) news linked linked' [] out)
+      (machines old.config kept.rules connection linked is)
+      (says connection.point (subst (λ machine. StandsAt machine linked.end.line connection.point)
+      (sym (machines old.config kept.rules connection linked is)) is.stands) is.alive)
 
-  pub received_shut : (new : Keeping) (done : News) (turns2 : Option (List Turn)) → news ≡ Some done → Grew turns1 turns2 (shut linked.line ∷ []) → new ≡ let_go time old
+  pub received_shut : (new : Keeping) (done : News) (turns2 : Option (List Turn)) → news ≡ Some done → Grew turns1 turns2 (shut linked.line ∷ [])
+      → new ≡ let_go time old
       → (kept : Kept) (connection : Connection) → Stands kept old → IsConnection old.config kept.rules connection linked
       → Took (receives old.config time piece connection kept) (Some done) old new turns turns2
   received_shut new done turns2 some closed goes kept connection stands is =
-      took_shut (received (machine_of old.config connection) time piece connection.point) news time connection linked linked' out kept old stands is (said_so kept connection is)
-      turns turns1 asked (rises connection.point (received (machine_of old.config connection) time piece connection.point).point) done turns2 new some closed goes
+      took_shut (received (machine_of old.config connection) time piece connection.point) news time connection linked linked' out kept old stands is
+      (said_so kept connection is)
+      turns turns1 asked (rises connection.point (received (machine_of old.config connection) time piece connection.point).point) done turns2 new some
+      closed goes
 
   -- whether it was up, and is
-  pub received_open : (new : Keeping) (was now : Bool) → news ≡ None → was ≡ is_established (state_in linked.end.line) → now ≡ is_established (state_in linked'.end.line)
+  pub received_open : (new : Keeping) (was now : Bool) → news ≡ None → was ≡ is_established (state_in linked.end.line)
+      → now ≡ is_established (state_in linked'.end.line)
       → new ≡ going (now && not was) linked' old
       → (kept : Kept) (connection : Connection) → Stands kept old → IsConnection old.config kept.rules connection linked
       → Took (receives old.config time piece connection kept) (news_up (now && not was)) old new turns turns1
   received_open new was now none was_is now_is goes kept connection stands is =
       by (received (machine_of old.config connection) time piece connection.point).closing refl
     where
-      took : Took (settled (received (machine_of old.config connection) time piece connection.point) (now && not was) time connection kept) (news_up (now && not was)) old new turns turns1
+      took : Took (settled (received (machine_of old.config connection) time piece connection.point) (now && not was) time connection kept)
+          (news_up (now && not was)) old new turns turns1
       took =
-          took_open (received (machine_of old.config connection) time piece connection.point) news time connection linked linked' out kept old stands is (said_so kept connection is)
+          took_open (received (machine_of old.config connection) time piece connection.point) news time connection linked linked' out kept old stands
+          is (said_so kept connection is)
           turns turns1 asked (now && not was) new none goes
 
       by : (closing : Option Closed) → (received (machine_of old.config connection) time piece connection.point).closing ≡ closing
@@ -207,7 +239,8 @@ module _ (time : ℕ) (piece : List ℕ) (old : Keeping) (linked linked' : Linke
       by (Some why) e =
           subst (λ (o : Outcome). Took o (news_up (now && not was)) old new turns turns1)
           (settled_by (received (machine_of old.config connection) time piece connection.point) (now && not was) time connection kept (Some why) e
-          ∙ sym (settled_by (received (machine_of old.config connection) time piece connection.point) (rises connection.point (received (machine_of old.config connection) time
+          ∙ sym (settled_by (received (machine_of old.config connection) time piece connection.point)
+          (rises connection.point (received (machine_of old.config connection) time
           piece connection.point).point) time connection kept (Some why) e))
           took
       by None e =
@@ -215,7 +248,8 @@ module _ (time : ℕ) (piece : List ℕ) (old : Keeping) (linked linked' : Linke
           let was_up : was ≡ is_up connection.point = was_is ∙ up_is (machine_of old.config connection) linked.end.line connection.point is.stands is.alive in
           let now_up : now ≡ is_up (received (machine_of old.config connection) time piece connection.point).point =
           now_is ∙ up_is (machine_in linked.end) linked'.end.line (received (machine_of old.config connection) time piece connection.point).point on.0 on.1 in
-          subst (λ (b : Bool). Took (settled (received (machine_of old.config connection) time piece connection.point) b time connection kept) (news_up (now && not was)) old new turns turns1)
+          subst (λ (b : Bool). Took (settled (received (machine_of old.config connection) time piece connection.point) b time connection kept)
+          (news_up (now && not was)) old new turns turns1)
           (ap (λ b. b && not was) now_up ∙ ap (λ b. is_up (received (machine_of old.config connection) time piece connection.point).point && not b) was_up)
           took
 
@@ -229,7 +263,8 @@ gone_told time kept done = by kept.connection refl
     rests_so : GoneWhereTold done (rests kept)
     rests_so some = absurd (let no : None ≡ Some done = some in cc)
 
-    settled_so : (said : Said) (connection : Connection) (closing : Option Closed) → said.closing ≡ closing → GoneWhereTold done (settled said false time connection kept)
+    settled_so : (said : Said) (connection : Connection) (closing : Option Closed) → said.closing ≡ closing
+        → GoneWhereTold done (settled said false time connection kept)
     settled_so said connection (Some why) e = subst (GoneWhereTold done) (sym (settled_by said false time connection kept (Some why) e)) (λ some. refl)
     settled_so said connection None e =
         subst (GoneWhereTold done) (sym (settled_by said false time connection kept None e)) (λ some. absurd (let no : None ≡ Some done = some in cc))
@@ -255,7 +290,8 @@ pub hear_shut : (config : Config) (time : ℕ) (what : What) (done : News) (old 
 hear_shut config time what done old mid turns turns1 first = λ kept stands.
     let took = first kept stands in
     let e = follows_gone config time what (checks time kept).kept (gone_told time kept done (sym took.news_is)) in
-    subst (λ (o : Outcome). Took (outcome ((checks time kept).turns ++ o.turns) (option_or (checks time kept).news o.news) o.kept) (Some done) old mid turns turns1) (sym e)
+    subst (λ (o : Outcome). Took (outcome ((checks time kept).turns ++ o.turns) (option_or (checks time kept).news o.news) o.kept)
+    (Some done) old mid turns turns1) (sym e)
     (record {
       asked = subst (Grew turns turns1) (sym (append-nil (checks time kept).turns)) took.asked;
       news_is = ap (λ (n : Option News). option_or n None) took.news_is;

@@ -1,5 +1,18 @@
 -- What an announcing end says to the pieces that it hears.
-use Rattle.fs_peering.{proofs.{Words.{Announcing, CanSend, Closed, Config, Expires, Fault, Framing, Handed, HandsOver, IsAt, Keeps, Lined, Machine, Peer, Phase, Point, SaysText, Sending, Sent, StandsAt, StartsWith, Tick, TicksOver, announcing, at_moment, at_start, first_text, fresh, hand, is_established, machine_in, needs_of, next_text, one_sent, open_sent, pending, runs_by, state_in, text_sent, tick_at, ticked, ticks, with_line, ◌≡◌, ◌||◌, inl, inr, ℕ, suc, ◌+◌, ◌*◌, List, [], ◌∷◌, ◌++◌, drop, take, Bool, true, false, if◌then◌else◌, Option, Some, None, refl, ap, sym, ◌∙◌, subst, arith, append_assoc, append-nil, IfSome, flat_map, is_some, flat_map-append, none-some, same_Some, none_there, Comes, Going, GoesFrom, closed_hand, open_hand, Spans, Hears, Pieces, Says, Stance, moments_in, octets_in, course, opened_by, CountsBy, CountsOn, CountsTo, KeepsHand, KeepsSettled, SaysUpTo, ClosesSo, HasExpired, HasHeard, IsInTime, IsListening, SaysTo, ShutsBy, is_settled, opening_of, rules_of, stops_at}, Ahead.{next_of}, Courses.{but_last, course_more, last_one, moments_more, octets_more, woke_is}, Moments.{expires_late}, OpenSteps.{opened_waits}, Phases.{Quiet, quiet_by, unawaited}, Settled.{state_open, state_shut, stops_up}}, specs.Teller.{is_over}}
+use Rattle.fs_peering.proofs.Words.{Announcing, CanSend, Closed, Config, Expires, Fault, Framing, Handed, HandsOver, IsAt, Keeps, Lined, Machine}
+use Rattle.fs_peering.proofs.Words.{Peer, Phase, Point, SaysText, Sending, Sent, StandsAt, StartsWith, Tick, TicksOver, announcing, at_moment}
+use Rattle.fs_peering.proofs.Words.{at_start, first_text, fresh, hand, is_established, machine_in, needs_of, next_text, one_sent, open_sent, pending}
+use Rattle.fs_peering.proofs.Words.{runs_by, state_in, text_sent, tick_at, ticked, ticks, with_line, ◌≡◌, ◌||◌, inl, inr, ℕ, suc, ◌+◌, ◌*◌, List, []}
+use Rattle.fs_peering.proofs.Words.{◌∷◌, ◌++◌, drop, take, Bool, true, false, if◌then◌else◌, Option, Some, None, refl, ap, sym, ◌∙◌, subst, arith}
+use Rattle.fs_peering.proofs.Words.{append_assoc, append-nil, IfSome, flat_map, is_some, flat_map-append, none-some, same_Some, none_there, Comes}
+use Rattle.fs_peering.proofs.Words.{Going, GoesFrom, closed_hand, open_hand, Spans, Hears, Pieces, Says, Stance, moments_in, octets_in, course}
+use Rattle.fs_peering.proofs.Words.{opened_by, CountsBy, CountsOn, CountsTo, KeepsHand, KeepsSettled, SaysUpTo, ClosesSo, HasExpired, HasHeard}
+use Rattle.fs_peering.proofs.Words.{IsInTime, IsListening, SaysTo, ShutsBy, is_settled, opening_of, rules_of, stops_at}
+use Rattle.fs_peering.proofs.Ahead.{next_of}
+use Rattle.fs_peering.proofs.Courses.{but_last, course_more, last_one, moments_more, octets_more, woke_is}
+use Rattle.fs_peering.proofs.{Moments.{expires_late}, OpenSteps.{opened_waits}, Phases.{Quiet, quiet_by, unawaited}}
+use Rattle.fs_peering.proofs.Settled.{state_open, state_shut, stops_up}
+use Rattle.fs_peering.specs.Teller.{is_over}
 use Rattle.fs_session.specs.declared.times.Tick.TheVariants.{Quiet as IsQuiet}
 
 both : {b : Bool} → b ≡ true → b ≡ false → ⊥
@@ -9,7 +22,8 @@ both q r = cc
 pub unsettled : (line : Lined) → is_settled line ≡ false → (line.closed ≡ None) × (is_established (state_in line) ≡ false)
 unsettled line e = by (is_some line.closed) (is_established (state_in line)) refl refl e
   where
-    by : (a b : Bool) → is_some line.closed ≡ a → is_established (state_in line) ≡ b → (a || b) ≡ false → (line.closed ≡ None) × (is_established (state_in line) ≡ false)
+    by : (a b : Bool) → is_some line.closed ≡ a → is_established (state_in line) ≡ b → (a || b) ≡ false
+        → (line.closed ≡ None) × (is_established (state_in line) ≡ false)
     by true b p q h = absurd cc
     by false true p q h = absurd cc
     by false false p q h = (none_there line.closed p, q)
@@ -22,14 +36,16 @@ starts_open true config (Some peer) sending teller can made = ap (λ (n : Announ
 starts_open false config (Some peer) sending teller can made = ap (λ (n : Announcing). is_settled n.line) made
 
 -- all of the piece was taken, or what closes the end
-pub says_handed : (on : Bool) (machine : Machine) (moment : ℕ) (old new : Lined) (piece out out' : List ℕ) → HandsOver machine moment old new piece [] [] out out'
+pub says_handed : (on : Bool) (machine : Machine) (moment : ℕ) (old new : Lined) (piece out out' : List ℕ)
+    → HandsOver machine moment old new piece [] [] out out'
     → SaysTo on machine moment old new piece out out'
 says_handed on machine moment old new piece out out' hands now stands =
     let h = hands now stands in
     (h.1.1, λ early. h.0)
 
 -- it is established, and behind that nothing is said
-pub says_up : (on : Bool) (a : Announcing) (moment : ℕ) (old new : Lined) (piece rest out out' : List ℕ) → Going (machine_in a) moment old new piece rest [] [] out out'
+pub says_up : (on : Bool) (a : Announcing) (moment : ℕ) (old new : Lined) (piece rest out out' : List ℕ)
+    → Going (machine_in a) moment old new piece rest [] [] out out'
     → stops_at on new ≡ true → SaysTo on (machine_in a) moment old new piece out out'
 says_up on a moment old new piece rest out out' going stop now stands = (by now.closed refl (going now stands), λ early. absurd (both stop early))
   where
@@ -39,14 +55,16 @@ says_up on a moment old new piece rest out out' going stop now stands = (by now.
     machine : Machine
     machine = machine_in a
 
-    by : (c : Option Closed) → now.closed ≡ c → GoesFrom machine moment old new piece rest [] [] out out' now c → out' ≡ out ++ (hand machine moment now piece).text
+    by : (c : Option Closed) → now.closed ≡ c → GoesFrom machine moment old new piece rest [] [] out out' now c
+        → out' ≡ out ++ (hand machine moment now piece).text
     by None e g =
         let c : Comes machine moment (runs_by machine now.phase (at_moment moment now.times) (now.waiting ++ piece)) [] [] out out' new rest = g.1 in
         let on : is_established new.phase.state ≡ true = sym (state_open new g.0) ∙ up in
         let quiet : Quiet a.config (needs_of a.sending.rules) new.phase _ =
         quiet_by a.config (needs_of a.sending.rules) new.phase (at_moment moment new.times) (pending new.framing ++ rest) (unawaited new.phase.state on) in
         c.said ∙ ap (λ (z : List ℕ). out ++ z)
-        (sym (ap (λ (h : Handed). h.text) (open_hand machine moment now piece e) ∙ ap (λ (h : Handed). h.text) c.goes ∙ ap (λ (z : List ℕ). c.text ++ z) quiet.text_is ∙ append-nil c.text))
+        (sym (ap (λ (h : Handed). h.text) (open_hand machine moment now piece e) ∙ ap (λ (h : Handed). h.text) c.goes
+        ∙ ap (λ (z : List ℕ). c.text ++ z) quiet.text_is ∙ append-nil c.text))
     by (Some why) e g =
         g.2 ∙ sym (append-nil out) ∙ ap (λ (z : List ℕ). out ++ z) (sym (ap (λ (h : Handed). h.text) (closed_hand machine moment now piece why e)))
 
@@ -86,7 +104,8 @@ begins_early old new started out out' e starts heard said h =
     )
 
 -- the next rule
-pub next_early : (old new : Announcing) (started had : Bool) (out out' : List ℕ) → old.line.closed ≡ None → started ≡ true → SaysText (next_text old) had old new out out'
+pub next_early : (old new : Announcing) (started had : Bool) (out out' : List ℕ) → old.line.closed ≡ None → started ≡ true
+    → SaysText (next_text old) had old new out out'
     → Says (HasHeard old started) (HasHeard new started) out out'
 next_early old new started had out out' alive go says heard said h = by (is_established old.line.phase.state) refl
   where
@@ -100,7 +119,13 @@ next_early old new started had out out' alive go says heard said h = by (is_esta
     Answer = (more : List ℕ) × ((out' ≡ out ++ more) × HasHeard new started heard (said ++ more))
 
     same : (new ≡ old) → out' ≡ out → Answer
-    same e f = ([], (f ∙ sym (append-nil out), subst (HasHeard new started heard) (sym (append-nil said)) (subst (λ (n : Announcing). HasHeard n started heard said) (sym e) h)))
+    same e f = (
+      [],
+      (
+        f ∙ sym (append-nil out),
+        subst (HasHeard new started heard) (sym (append-nil said)) (subst (λ (n : Announcing). HasHeard n started heard said) (sym e) h),
+      ),
+    )
 
     sent : (text : List ℕ) → is_established old.line.phase.state ≡ true → texts ≡ Some text → new ≡ one_sent old → out' ≡ out ++ text → Answer
     sent text up t e f = (
@@ -112,7 +137,8 @@ next_early old new started had out out' alive go says heard said h = by (is_esta
           at = h.at;
           said_is = ap (λ (z : List ℕ). z ++ text) h.said_is ∙ append_assoc (opening_of old) ((course (machine_in old) heard).text ++ rules_of old) text
               ∙ ap (λ (z : List ℕ). opening_of old ++ z)
-              (append_assoc (course (machine_in old) heard).text (rules_of old) text ∙ ap (λ (z : List ℕ). (course (machine_in old) heard).text ++ z) (sym more));
+              (append_assoc (course (machine_in old) heard).text (rules_of old) text
+              ∙ ap (λ (z : List ℕ). (course (machine_in old) heard).text ++ z) (sym more));
           listened = h.listened;
           alive = h.alive;
           shut = h.shut;
@@ -146,10 +172,12 @@ ticked_shut : (machine : Machine) (event : ℕ × List ℕ) (now : Point) (why :
     → (tick_at now.phase.hold (at_moment event.0 now.times) ≡ Expires) × (why ≡ Fault 4 0)
 ticked_shut machine event now why alive shut = by (tick_at now.phase.hold (at_moment event.0 now.times)) refl
   where
-    closed_by : (tick : Tick) → tick_at now.phase.hold (at_moment event.0 now.times) ≡ tick → (ticks tick now.waiting now.phase (at_moment event.0 now.times)).point.closed ≡ Some why
+    closed_by : (tick : Tick) → tick_at now.phase.hold (at_moment event.0 now.times) ≡ tick
+        → (ticks tick now.waiting now.phase (at_moment event.0 now.times)).point.closed ≡ Some why
     closed_by tick e = sym (ap (λ (m : Handed). m.point.closed) (woke_is machine event now tick alive e)) ∙ shut
 
-    by : (tick : Tick) → tick_at now.phase.hold (at_moment event.0 now.times) ≡ tick → (tick_at now.phase.hold (at_moment event.0 now.times) ≡ Expires) × (why ≡ Fault 4 0)
+    by : (tick : Tick) → tick_at now.phase.hold (at_moment event.0 now.times) ≡ tick
+        → (tick_at now.phase.hold (at_moment event.0 now.times) ≡ Expires) × (why ≡ Fault 4 0)
     by IsQuiet e = absurd (none-some why (closed_by IsQuiet e))
     by Keeps e = absurd (none-some why (closed_by Keeps e))
     by Expires e = (e, sym (same_Some (Fault 4 0) why (closed_by Expires e)))
@@ -165,7 +193,8 @@ pub record HeardSo (on : Bool) (b w c : Announcing) (moment needed : ℕ) (piece
   pub shuts : on ≡ false → ShutsBy (machine_in w) w.line c.line piece
 
 -- an end that hears no more once it is established
-module _ (b w c : Announcing) (count count' moment needed : ℕ) (piece o1 o2 o3 : List ℕ) (call : HeardSo false b w c moment needed piece o1 o2 o3) (unsettled_b : is_settled b.line ≡ false) where
+module _ (b w c : Announcing) (count count' moment needed : ℕ) (piece o1 o2 o3 : List ℕ) (call : HeardSo false b w c moment needed piece o1 o2 o3)
+    (unsettled_b : is_settled b.line ≡ false) where
   machine_w : machine_in w ≡ machine_in b
   machine_w = ap machine_in call.woke.0
 
@@ -221,7 +250,8 @@ module _ (b w c : Announcing) (count count' moment needed : ℕ) (piece o1 o2 o3
     said_is : said ++ more ≡ opening_of b ++ ((course machine pieces).text ++ rules_of (with_line b c.line))
     said_is =
         ap (λ (z : List ℕ). z ++ more)
-        (h.said_is ∙ ap (λ (z : List ℕ). opening_of b ++ z) (ap (λ (z : List ℕ). (course machine heard).text ++ z) (no_rules b (h.none early)) ∙ append-nil (course machine heard).text))
+        (h.said_is ∙ ap (λ (z : List ℕ). opening_of b ++ z) (ap (λ (z : List ℕ). (course machine heard).text ++ z) (no_rules b (h.none early))
+        ∙ append-nil (course machine heard).text))
         ∙ append_assoc (opening_of b) (course machine heard).text more
         ∙ ap (λ (z : List ℕ). opening_of b ++ z)
         (sym text_is ∙ sym (append-nil (course machine pieces).text)
@@ -259,11 +289,13 @@ module _ (b w c : Announcing) (count count' moment needed : ℕ) (piece o1 o2 o3
             ∙ ap (opened_by machine at_start) (append_assoc (octets_in heard) piece later) ∙ goes (piece ++ later)
             ∙ ap (λ (p : Phase). opened_by machine p (pending b.line.framing ++ (piece ++ later))) (sym kept.0)
             ∙ ap (λ (f : Framing). opened_by machine w.line.phase (pending f ++ (piece ++ later))) (sym kept.1)
-            ∙ (subst (λ (m : Machine). ShutsBy m w.line c.line piece) machine_w (call.shuts refl)) why e open_w (ap (λ (p : Phase). is_established p.state) kept.0 ∙ down) later)
+            ∙ (subst (λ (m : Machine). ShutsBy m w.line c.line piece) machine_w (call.shuts refl)) why e open_w
+            (ap (λ (p : Phase). is_established p.state) kept.0 ∙ down) later)
         by (Some what) shut_w =
             let woke_so : woke.point.closed ≡ Some what = sym woken.0.closed_is ∙ shut_w in
             let due = ticked_shut machine (moment, piece) here what open_here woke_so in
-            let stays : made.point.closed ≡ Some what = ap (λ (m : Handed). m.point.closed) (closed_hand machine moment woke.point piece what woke_so) ∙ woke_so in
+            let stays : made.point.closed ≡ Some what = ap (λ (m : Handed). m.point.closed) (closed_hand machine moment woke.point piece what woke_so)
+            ∙ woke_so in
             let same : why ≡ what = same_Some why what (sym e ∙ (spoken.1 (state_shut c.line why e)).closed_is ∙ stays) in
             inr (same ∙ due.1, late due.0)
 

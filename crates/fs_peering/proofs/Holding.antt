@@ -7,7 +7,9 @@ use Rattle.fs_attrs.specs.declared.update.Terms.{Terms}
 use Rattle.fs_speaker.specs.Sending.{path_by, update_by}
 use Rattle.fs_desk.specs.Updates.{Given, flow_left, given_with, is_rule, last_such, rule_given, tells_of_rule}
 use Rattle.fs_peering.specs.{Keeper.{gone, is_same, of_family, withdrawal}, KeeperLaws.{are_single, given_by}}
-use Rattle.fs_peering.proofs.Words.{Bool, List, None, Option, ℕ, ◌==◌, Sending, Sent, Some, Update, [], ap, append-nil, append_assoc, cond, false, filter, find, flat_map, if◌then◌else◌, is_some, map, not, option_map, refl, same_Some, subst, sym, true, true≢false, ◌++◌, ◌||◌, ◌∙◌, ◌∷◌, ◌≡◌}
+use Rattle.fs_peering.proofs.Words.{Bool, List, None, Option, ℕ, ◌==◌, Sending, Sent, Some, Update, [], ap, append-nil, append_assoc, cond, false}
+use Rattle.fs_peering.proofs.Words.{filter, find, flat_map, if◌then◌else◌, is_some, map, not, option_map, refl, same_Some, subst, sym, true}
+use Rattle.fs_peering.proofs.Words.{true≢false, ◌++◌, ◌||◌, ◌∙◌, ◌∷◌, ◌≡◌}
 
 -- TESTS OF LISTS
 
@@ -230,7 +232,8 @@ module _ (rule : Ruled) where
       → flow_left rule (taken ++ withdrawal family pack ∷ []) ≡ (if list_any (is_rule rule) pack then None else flow_left rule taken)
   one_withdrawn family pack taken =
       left_more taken (withdrawal family pack ∷ [])
-      ∙ ap (λ (rules : List Ruled). told_last (flow_left rule taken) (if (list_any (is_rule rule) rules || false) then Some (withdrawal family pack) else None)) (append-nil pack)
+      ∙ ap (λ (rules : List Ruled). told_last (flow_left rule taken) (if (list_any (is_rule rule) rules || false) then Some (withdrawal family pack)
+      else None)) (append-nil pack)
       ∙ by (list_any (is_rule rule) pack)
     where
       by : (b : Bool) → told_last (flow_left rule taken) (if (b || false) then Some (withdrawal family pack) else None)
@@ -239,7 +242,8 @@ module _ (rule : Ruled) where
       by false = refl
 
   withdrawn_left : (family : Family) (packs : List (List Ruled)) (taken : List Update)
-      → flow_left rule (taken ++ map (withdrawal family) packs) ≡ (if list_any (is_rule rule) (flat_map (λ (pack : List Ruled). pack) packs) then None else flow_left rule taken)
+      → flow_left rule (taken ++ map (withdrawal family) packs) ≡ (if list_any (is_rule rule) (flat_map (λ (pack : List Ruled). pack) packs) then None
+      else flow_left rule taken)
   withdrawn_left family [] taken = ap (flow_left rule) (append-nil taken)
   withdrawn_left family (pack ∷ packs) taken =
       ap (flow_left rule) (sym (append_assoc taken (withdrawal family pack ∷ []) (map (withdrawal family) packs)))
@@ -284,8 +288,10 @@ module _ (rule : Ruled) where
           → (list_any (is_rule rule) (map (λ (s : Sent). s.rule) (cond (afi_of family == afi_of V4) (sent ∷ four) four))
           || list_any (is_rule rule) (map (λ (s : Sent). s.rule) (cond (afi_of family == afi_of V6) (sent ∷ six) six)))
           ≡ (fits rule sent || list_any (fits rule) rules)
-      by rest V4 = first (fits rule sent) (list_any (is_rule rule) (of_family V4 rules)) (list_any (is_rule rule) (of_family V6 rules)) (list_any (fits rule) rules) rest
-      by rest V6 = second (fits rule sent) (list_any (is_rule rule) (of_family V4 rules)) (list_any (is_rule rule) (of_family V6 rules)) (list_any (fits rule) rules) rest
+      by rest V4 = first (fits rule sent) (list_any (is_rule rule) (of_family V4 rules)) (list_any (is_rule rule) (of_family V6 rules))
+          (list_any (fits rule) rules) rest
+      by rest V6 = second (fits rule sent) (list_any (is_rule rule) (of_family V4 rules)) (list_any (is_rule rule) (of_family V6 rules))
+          (list_any (fits rule) rules) rest
 
   -- A CHANGE
   module _ (terms : Terms) (old new : Sending) (is_fresh : Sent → Bool) (four six : List (List Ruled))
@@ -321,13 +327,15 @@ module _ (rule : Ruled) where
     stays : (sent : Sent) → find (fits rule) new.rules ≡ Some sent → list_any (fits rule) left ≡ false
     stays sent f =
         none_kept (fits rule) is_gone
-        (λ other h. not_of_true (list_any (is_same other) new.rules) (sym (any_same rule other new.rules h) ∙ any_found (fits rule) new.rules ∙ ap is_some f)) old.rules
+        (λ other h. not_of_true (list_any (is_same other) new.rules) (sym (any_same rule other new.rules h) ∙ any_found (fits rule) new.rules
+        ∙ ap is_some f)) old.rules
 
     -- it isn't
     goes : find (fits rule) new.rules ≡ None → (if list_any (fits rule) left then None else given_by terms old rule) ≡ None
     goes f =
         ap (λ (b : Bool). if b then None else given_by terms old rule)
-        (all_kept (fits rule) is_gone (λ other h. ap not (sym (any_same rule other new.rules h) ∙ never_there (fits rule) new.rules f)) old.rules ∙ any_found (fits rule) old.rules)
+        (all_kept (fits rule) is_gone (λ other h. ap not (sym (any_same rule other new.rules h) ∙ never_there (fits rule) new.rules f)) old.rules
+        ∙ any_found (fits rule) old.rules)
         ∙ by (find (fits rule) old.rules)
       where
         by : (o : Option Sent) → (if is_some o then None else option_map (gives terms old.as_path) o) ≡ None
@@ -357,5 +365,6 @@ module _ (rule : Ruled) where
         by (Some sent) f =
             ap (given_last terms new.as_path before)
             (found_kept rule is_fresh new.rules sent single f)
-            ∙ ap (λ (b : Bool). given_last terms new.as_path (if b then None else given_by terms old rule) (if is_fresh sent then Some sent else None)) (stays sent f)
+            ∙ ap (λ (b : Bool). given_last terms new.as_path (if b then None else given_by terms old rule) (if is_fresh sent then Some sent
+            else None)) (stays sent f)
             ∙ found sent f (is_fresh sent) refl

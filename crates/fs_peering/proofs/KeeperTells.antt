@@ -1,21 +1,31 @@
 -- What a keeper says where the rules are told, and what it dials.
-use Rattle.fs_peering.proofs.{KeeperWords.{ℕ, ◌*◌, ◌-◌, min, most_wait, nat_lt, not, List, [], ◌∷◌, ◌++◌, ◌≡◌, ◌&&◌, Bool, true, false, Option, Some, None, IfSome, refl, ap, sym, subst, ◌∙◌, if◌then◌else◌, is_some, Turn, dialled, shut, Grew, Grew-refl, Grew-trans, Config, Peer, CanSend, announcing, fresh, is_established, needs_of, sender_of, state_in, notice_text, terms_of, Fault, Sending, Connection, Kept, Outcome, accepts, begins_one, change_text, dialling, dials, exceeds, is_due, is_up, machine_of, news_told, outcome, parts, rests, speaks, tells, tells_all, terms_at, with_connection, with_rules, IsConnection, IsLink, Keeping, LinkTellsBy, Linked, Stands, TellsAt, TellsBy, TellsSo, Took, TookSo, is_told, is_untold, let_go, terms_in, News}, Standing.{going, linked_none, linked_some, took_rests}, Following.{up_is}}
+use Rattle.fs_peering.proofs.KeeperWords.{ℕ, ◌*◌, ◌-◌, min, most_wait, nat_lt, not, List, [], ◌∷◌, ◌++◌, ◌≡◌, ◌&&◌, Bool, true, false, Option, Some}
+use Rattle.fs_peering.proofs.KeeperWords.{None, IfSome, refl, ap, sym, subst, ◌∙◌, if◌then◌else◌, is_some, Turn, dialled, shut, Grew, Grew-refl}
+use Rattle.fs_peering.proofs.KeeperWords.{Grew-trans, Config, Peer, CanSend, announcing, fresh, is_established, needs_of, sender_of, state_in}
+use Rattle.fs_peering.proofs.KeeperWords.{notice_text, terms_of, Fault, Sending, Connection, Kept, Outcome, accepts, begins_one, change_text}
+use Rattle.fs_peering.proofs.KeeperWords.{dialling, dials, exceeds, is_due, is_up, machine_of, news_told, outcome, parts, rests, speaks, tells}
+use Rattle.fs_peering.proofs.KeeperWords.{tells_all, terms_at, with_connection, with_rules, IsConnection, IsLink, Keeping, LinkTellsBy, Linked}
+use Rattle.fs_peering.proofs.KeeperWords.{Stands, TellsAt, TellsBy, TellsSo, Took, TookSo, is_told, is_untold, let_go, terms_in, News}
+use Rattle.fs_peering.proofs.{Standing.{going, linked_none, linked_some, took_rests}, Following.{up_is}}
 use Rattle.fs_session.specs.declared.{transition.Phase.{Phase}}
 
 -- A link closes for the rules, and so does its keeper's connection.
-pub tells_shut : (exceeding : Bool) (time : ℕ) (told : Option Sending) (rules : Sending) (done : News) (linked linked' : Linked) (out : List ℕ) (old new : Keeping)
+pub tells_shut : (exceeding : Bool) (time : ℕ) (told : Option Sending) (rules : Sending) (done : News) (linked linked' : Linked) (out : List ℕ)
+    (old new : Keeping)
     (turns turns1 turns2 : Option (List Turn)) → LinkTellsBy exceeding told rules (done, true) linked linked' [] out
     → Grew turns turns1 (speaks linked.line out) → Grew turns1 turns2 (shut linked.line ∷ []) → new ≡ let_go time old
     → TellsBy exceeding time told rules linked (Some done) old new turns turns2
 tells_shut true time told rules done linked linked' out old new turns turns1 turns2 by asked closed goes = (
-  Grew-trans turns turns1 turns2 (speaks linked.line (notice_text 6 6)) (shut linked.line ∷ []) (subst (λ text. Grew turns turns1 (speaks linked.line text)) by.1.0 asked) closed,
+  Grew-trans turns turns1 turns2 (speaks linked.line (notice_text 6 6)) (shut linked.line ∷ [])
+      (subst (λ text. Grew turns turns1 (speaks linked.line text)) by.1.0 asked) closed,
   (ap (λ (d : News × Bool). Some d.0) by.0, goes),
 )
 tells_shut false time told rules done linked linked' out old new turns turns1 turns2 by asked closed goes =
     absurd (let no : true ≡ false = ap (λ (d : News × Bool). d.1) by.0 in cc)
 
 -- or was told them
-pub tells_on : (exceeding : Bool) (time : ℕ) (told : Option Sending) (rules : Sending) (done : News) (linked linked' : Linked) (out : List ℕ) (old new : Keeping)
+pub tells_on : (exceeding : Bool) (time : ℕ) (told : Option Sending) (rules : Sending) (done : News) (linked linked' : Linked) (out : List ℕ)
+    (old new : Keeping)
     (turns turns1 : Option (List Turn)) → LinkTellsBy exceeding told rules (done, false) linked linked' [] out
     → Grew turns turns1 (speaks linked.line out) → new ≡ going false linked' old
     → TellsBy exceeding time told rules linked (Some done) old new turns turns1
@@ -27,7 +37,8 @@ tells_on false time told rules done linked linked' out old new turns turns1 by a
 )
 
 -- so from what it has
-pub tells_by : (time : ℕ) (told : Option Sending) (news : Option News) (old new : Keeping) (turns turns' : Option (List Turn)) (linked : Linked) (rules : Sending)
+pub tells_by : (time : ℕ) (told : Option Sending) (news : Option News) (old new : Keeping) (turns turns' : Option (List Turn)) (linked : Linked)
+    (rules : Sending)
     → old.link ≡ Some linked → old.rules ≡ Some rules
     → TellsBy (exceeds (needs_of linked.end.sending.rules) (needs_of rules.rules)) time told rules linked news old new turns turns'
     → TellsSo time told news old new turns turns'
@@ -56,15 +67,18 @@ record StandsBut (kept : Kept) (keeping : Keeping) : Type 0 where
   wait_is : keeping.wait ≡ kept.wait
   delay_is : keeping.delay ≡ kept.delay
 
-module _ (time : ℕ) (rules : Sending) (before : Option Sending) (connection : Connection) (linked : Linked) (kept : Kept) (mid new : Keeping) (told : Option Sending) (news : Option News)
-    (turns turns' : Option (List Turn)) (is : IsConnection mid.config before connection linked) (but : StandsBut kept mid) (rules_are : kept.rules ≡ Some rules) (told_is : told ≡ connection.told) where
+module _ (time : ℕ) (rules : Sending) (before : Option Sending) (connection : Connection) (linked : Linked) (kept : Kept) (mid new : Keeping)
+    (told : Option Sending) (news : Option News)
+    (turns turns' : Option (List Turn)) (is : IsConnection mid.config before connection linked) (but : StandsBut kept mid)
+    (rules_are : kept.rules ≡ Some rules) (told_is : told ≡ connection.told) where
   terms_so : terms_in linked.end ≡ terms_at mid.config connection
   terms_so =
       ap (λ (c : Config). terms_of c linked.end.peer linked.end.line.phase.four) is.config_is
       ∙ ap (λ (p : Peer). terms_of mid.config p linked.end.line.phase.four) is.peer_is
       ∙ ap (λ (p : Phase). terms_of mid.config connection.peer p.four) (is.stands.open_is is.alive).phase_is
 
-  told_connection : (text : List ℕ) → IsConnection mid.config kept.rules (record connection { spoken = text; told = Some rules }) (record linked { told = true })
+  told_connection : (text : List ℕ)
+      → IsConnection mid.config kept.rules (record connection { spoken = text; told = Some rules }) (record linked { told = true })
   told_connection text = record {
     line_is = is.line_is;
     made_is = is.made_is;
@@ -133,7 +147,11 @@ module _ (time : ℕ) (rules : Sending) (before : Option Sending) (connection : 
               since_is = but.since_is;
               wait_is = but.wait_is;
               delay_is = but.delay_is;
-              link = (record linked { told = true }, refl, told_connection (connection.spoken ++ change_text (terms_at mid.config connection) connection.told rules));
+              link = (
+                record linked { told = true },
+                refl,
+                told_connection (connection.spoken ++ change_text (terms_at mid.config connection) connection.told rules),
+              );
             });
         config_is = ap (λ (k : Keeping). k.config) by.1.1;
       })
@@ -148,7 +166,8 @@ module _ (time : ℕ) (rules : Sending) (before : Option Sending) (connection : 
 abbrev with_new : Sending → Keeping → Keeping
 with_new rules old = record old { rules = Some rules }
 
-accepts_none : (config : Config) (time : ℕ) (rules : Sending) (kept : Kept) → kept.connection ≡ None → accepts config time rules kept ≡ rests (with_rules rules kept)
+accepts_none : (config : Config) (time : ℕ) (rules : Sending) (kept : Kept) → kept.connection ≡ None
+    → accepts config time rules kept ≡ rests (with_rules rules kept)
 accepts_none config time rules kept e =
     ap (λ (o : Option Connection). elim o as (λ _. Outcome) [
       | None ↦ rests (with_rules rules kept)
@@ -156,7 +175,8 @@ accepts_none config time rules kept e =
           if is_some connection.told then tells config time rules connection (with_rules rules kept) else rests (with_rules rules kept)
     ]) e
 
-accepts_some : (config : Config) (time : ℕ) (rules : Sending) (kept : Kept) (connection : Connection) (told : Bool) → kept.connection ≡ Some connection → is_some connection.told ≡ told
+accepts_some : (config : Config) (time : ℕ) (rules : Sending) (kept : Kept) (connection : Connection) (told : Bool)
+    → kept.connection ≡ Some connection → is_some connection.told ≡ told
     → accepts config time rules kept ≡ (if told then tells config time rules connection (with_rules rules kept) else rests (with_rules rules kept))
 accepts_some config time rules kept connection told e m =
     ap (λ (o : Option Connection). elim o as (λ _. Outcome) [
@@ -204,12 +224,16 @@ module _ (time : ℕ) (rules : Sending) (old : Keeping) (can : CanSend old.confi
 
   pub accept_rests : (mid : Keeping) (turns : Option (List Turn)) → is_told old.link ≡ false → mid ≡ with_new rules old
       → TookSo (accepts old.config time rules) None old mid turns turns
-  accept_rests mid turns off mid_is = λ kept stands. subst (λ (m : Keeping). Took (accepts old.config time rules kept) None old m turns turns) (sym mid_is) (by kept stands old.link refl)
+  accept_rests mid turns off mid_is =
+      λ kept stands. subst (λ (m : Keeping). Took (accepts old.config time rules kept) None old m turns turns) (sym mid_is)
+      (by kept stands old.link refl)
     where
-      by : (kept : Kept) → Stands kept old → (link : Option Linked) → old.link ≡ link → Took (accepts old.config time rules kept) None old (with_new rules old) turns turns
+      by : (kept : Kept) → Stands kept old → (link : Option Linked) → old.link ≡ link
+          → Took (accepts old.config time rules kept) None old (with_new rules old) turns turns
       by kept stands None e =
           let none = linked_none kept old stands e in
-          rests_with turns kept stands (subst (λ (o : Option Connection). IsLink old.config (Some rules) o old.link) (sym none) e) (accepts_none old.config time rules kept none)
+          rests_with turns kept stands (subst (λ (o : Option Connection). IsLink old.config (Some rules) o old.link) (sym none) e)
+          (accepts_none old.config time rules kept none)
       by kept stands (Some linked) e =
           let f = linked_some kept old linked stands e in
           let off_so : is_some f.connection.told ≡ false = sym f.is.told_is ∙ sym (ap is_told e) ∙ off in
@@ -248,7 +272,8 @@ module _ (time : ℕ) (rules : Sending) (old : Keeping) (can : CanSend old.confi
           let on_so : is_some f.connection.told ≡ true = sym f.is.told_is ∙ sym (ap is_told e) ∙ on in
           let told : old.rules ≡ f.connection.told = stands.rules_are ∙ old_told kept.rules f.connection.told f.is.same on_so in
           let took =
-          took_tells time rules kept.rules f.connection linked (with_rules rules kept) (with_new rules old) new old.rules news turns turns' f.is (but_so kept stands) refl told
+          took_tells time rules kept.rules f.connection linked (with_rules rules kept) (with_new rules old) new old.rules news turns turns' f.is
+          (but_so kept stands) refl told
           (subst (λ (l : Option Linked). TellsAt l (Some rules) time old.rules news (with_new rules old) new turns turns') e so) in
           subst (λ (o : Outcome). Took o news old new turns turns') (sym (accepts_some old.config time rules kept f.connection true f.there on_so))
           (record { asked = took.asked; news_is = took.news_is; stands = took.stands; config_is = took.config_is })
@@ -286,7 +311,8 @@ module _ (time : ℕ) (old : Keeping) where
   idle kept None = refl
   idle kept (Some connection) = refl
 
-  rests_off : (kept : Kept) (connection : Connection) (rules : Option Sending) → (is_up connection.point && not (is_some connection.told)) ≡ false → all_of kept (Some connection) rules ≡ rests kept
+  rests_off : (kept : Kept) (connection : Connection) (rules : Option Sending) → (is_up connection.point && not (is_some connection.told)) ≡ false
+      → all_of kept (Some connection) rules ≡ rests kept
   rests_off kept connection None off = refl
   rests_off kept connection (Some new) off = ap (λ (b : Bool). if b then tells old.config time new connection kept else rests kept) off
 
@@ -294,7 +320,8 @@ module _ (time : ℕ) (old : Keeping) where
   all_rests turns off = λ kept stands. by kept stands old.link refl
     where
       by : (kept : Kept) → Stands kept old → (link : Option Linked) → old.link ≡ link → Took (tells_all old.config time kept) None old old turns turns
-      by kept stands None e = took_rests (tells_all old.config time kept) kept old turns stands (all_so kept None kept.rules (linked_none kept old stands e) refl)
+      by kept stands None e = took_rests (tells_all old.config time kept) kept old turns stands
+          (all_so kept None kept.rules (linked_none kept old stands e) refl)
       by kept stands (Some linked) e =
           let f = linked_some kept old linked stands e in
           took_rests (tells_all old.config time kept) kept old turns stands
@@ -318,17 +345,22 @@ module _ (time : ℕ) (old : Keeping) where
           → Took (tells_all old.config time kept) news old new turns turns'
       by kept stands None e rules r = absurd (let no : false ≡ true = sym (ap is_untold e) ∙ on in cc)
       by kept stands (Some linked) e None r =
-          let t = subst (λ (o : Option Sending). TellsAt (Some linked) o time None news old new turns turns') r (subst (λ (l : Option Linked). TellsAt l old.rules time None news old new turns turns') e so) in
+          let t = subst (λ (o : Option Sending). TellsAt (Some linked) o time None news old new turns turns') r
+          (subst (λ (l : Option Linked). TellsAt l old.rules time None news old new turns turns') e so) in
           subst (λ (n : Keeping). Took (tells_all old.config time kept) news old n turns turns') (sym t.1.1)
-          (subst (λ (o : Outcome). Took o news old old turns turns') (sym (all_so kept kept.connection None refl (sym stands.rules_are ∙ r) ∙ idle kept kept.connection))
+          (subst (λ (o : Outcome). Took o news old old turns turns')
+          (sym (all_so kept kept.connection None refl (sym stands.rules_are ∙ r) ∙ idle kept kept.connection))
           (record { asked = t.0; news_is = t.1.0; stands = stands; config_is = refl }))
       by kept stands (Some linked) e (Some rules) r =
-          let t = subst (λ (o : Option Sending). TellsAt (Some linked) o time None news old new turns turns') r (subst (λ (l : Option Linked). TellsAt l old.rules time None news old new turns turns') e so) in
+          let t = subst (λ (o : Option Sending). TellsAt (Some linked) o time None news old new turns turns') r
+          (subst (λ (l : Option Linked). TellsAt l old.rules time None news old new turns turns') e so) in
           let f = linked_some kept old linked stands e in
-          let up : (is_up f.connection.point && not (is_some f.connection.told)) ≡ true = sym (untold_so kept f.connection linked f.is) ∙ sym (ap is_untold e) ∙ on in
+          let up : (is_up f.connection.point && not (is_some f.connection.told)) ≡ true = sym (untold_so kept f.connection linked f.is)
+          ∙ sym (ap is_untold e) ∙ on in
           let rules_so : kept.rules ≡ Some rules = sym stands.rules_are ∙ r in
           subst (λ (o : Outcome). Took o news old new turns turns')
-          (sym (all_so kept (Some f.connection) (Some rules) f.there rules_so ∙ ap (λ (b : Bool). if b then tells old.config time rules f.connection kept else rests kept) up))
+          (sym (all_so kept (Some f.connection) (Some rules) f.there rules_so
+          ∙ ap (λ (b : Bool). if b then tells old.config time rules f.connection kept else rests kept) up))
           (took_tells time rules kept.rules f.connection linked kept old new None news turns turns' f.is
           (record {
             rules_are = stands.rules_are;
@@ -352,11 +384,13 @@ module _ (line time : ℕ) (address : List ℕ) (old : Keeping) where
     ]
   ]
 
-  there : (kept : Kept) (connection : Option Connection) (rules : Option Sending) (sender : Option Peer) (due : Bool) → is_some connection ≡ true → dials_of kept connection rules sender due ≡ rests kept
+  there : (kept : Kept) (connection : Option Connection) (rules : Option Sending) (sender : Option Peer) (due : Bool) → is_some connection ≡ true
+      → dials_of kept connection rules sender due ≡ rests kept
   there kept (Some connection) rules sender due on = refl
   there kept None rules sender due on = absurd (let no : false ≡ true = on in cc)
 
-  early : (kept : Kept) (connection : Option Connection) (rules : Option Sending) (sender : Option Peer) → dials_of kept connection rules sender false ≡ rests kept
+  early : (kept : Kept) (connection : Option Connection) (rules : Option Sending) (sender : Option Peer)
+      → dials_of kept connection rules sender false ≡ rests kept
   early kept (Some connection) rules sender = refl
   early kept None None sender = refl
   early kept None (Some sending) None = refl
@@ -381,10 +415,12 @@ module _ (line time : ℕ) (address : List ℕ) (old : Keeping) where
   due_so : (kept : Kept) → Stands kept old → is_due time kept ≡ not (nat_lt (time - old.since) old.wait)
   due_so kept stands = ap (λ n. not (nat_lt (time - n) kept.wait)) (sym stands.since_is) ∙ ap (λ n. not (nat_lt (time - old.since) n)) (sym stands.wait_is)
 
-  pub dial_early : (turns : Option (List Turn)) → nat_lt (time - old.since) old.wait ≡ true → TookSo (dials old.config line time address) None old old turns turns
+  pub dial_early : (turns : Option (List Turn)) → nat_lt (time - old.since) old.wait ≡ true
+      → TookSo (dials old.config line time address) None old old turns turns
   dial_early turns on = λ kept stands.
       took_rests (dials old.config line time address kept) kept old turns stands
-      (ap (dials_of kept kept.connection kept.rules (sender_of old.config.peers)) (due_so kept stands ∙ ap not on) ∙ early kept kept.connection kept.rules (sender_of old.config.peers))
+      (ap (dials_of kept kept.connection kept.rules (sender_of old.config.peers)) (due_so kept stands ∙ ap not on)
+      ∙ early kept kept.connection kept.rules (sender_of old.config.peers))
 
   pub dial_idle : (turns : Option (List Turn)) → old.rules ≡ None → TookSo (dials old.config line time address) None old old turns turns
   dial_idle turns none = λ kept stands.

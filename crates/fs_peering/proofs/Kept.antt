@@ -5,8 +5,19 @@ use Rattle.fs_base.{specs.Gate.{What, ended, gave, made, nothing, taken}, proofs
 use Rattle.fs_session.specs.declared.times.Times.{Times}
 use Rattle.fs_speaker.{specs.Numbers.{HasOwnNumbers, IsFourOctet}, proofs.{MessageRuns.{hand_each}, Waking.{open_not, tick_each}}}
 use Rattle.fs_desk.specs.Updates.{flow_left}
-use Rattle.fs_peering.specs.{Keeper.{Connection, Kept, Outcome, Said, accepts, at_first, at_line, begins, begins_one, checks, comes_up, dialling, dials, exceeds, follows, is_due, is_late, is_up, lets_go, machine_of, parting, parts, receives, rests, rises, news_up, outcome, speaks, news_told, ends, speaks_on, spoke, spoken_so, tells, tells_all, terms_at, wakes, with_connection, with_rules, change_text}, KeeperLaws.{Act, KeepsEqual, LeavesExactly, MayAct, MayKeep, accepted, acted, dialled, heard, kept_from, told_all}}
-use Rattle.fs_peering.proofs.{Words.{AreRead, Bool, Closed, Config, Expires, Fault, Handed, Keeps, List, Needs, None, Option, Peer, Phase, Point, Quiet as IsQuiet, Sending, Some, Tick, [], announcer, ap, append-nil, at_moment, at_start, false, hand, if◌then◌else◌, inl, inr, is_established, is_some, message_text, needs_of, not, notice_text, open_sent, receiver, refl, runs_by, same_Some, sender_of, subst, sym, terms_of, tick_at, ticked, ticks, true, true≢false, ℕ, ◌&&◌, ◌++◌, ◌==◌, ◌∙◌, ◌∷◌, ◌≡◌, ◌⊎◌}, Answering.{Opens, opens_by}, Changing.{Holds, IsFit, IsFitOr, tells_change}, Leading.{Leads, leads_alive, leads_first_alive, leads_open, leads_then, leads_whole, met, up}, Phases.{Quiet, awaits_open, quiet_by}, Sendable.{arrives}}
+use Rattle.fs_peering.specs.Keeper.{Connection, Kept, Outcome, Said, accepts, at_first, at_line, begins, begins_one, checks, comes_up, dialling}
+use Rattle.fs_peering.specs.Keeper.{dials, exceeds, follows, is_due, is_late, is_up, lets_go, machine_of, parting, parts, receives, rests, rises}
+use Rattle.fs_peering.specs.Keeper.{news_up, outcome, speaks, news_told, ends, speaks_on, spoke, spoken_so, tells, tells_all, terms_at, wakes}
+use Rattle.fs_peering.specs.Keeper.{with_connection, with_rules, change_text}
+use Rattle.fs_peering.specs.KeeperLaws.{Act, KeepsEqual, LeavesExactly, MayAct, MayKeep, accepted, acted, dialled, heard, kept_from, told_all}
+use Rattle.fs_peering.proofs.Words.{AreRead, Bool, Closed, Config, Expires, Fault, Handed, Keeps, List, Needs, None, Option, Peer, Phase, Point}
+use Rattle.fs_peering.proofs.Words.{Quiet as IsQuiet, Sending, Some, Tick, [], announcer, ap, append-nil, at_moment, at_start, false, hand}
+use Rattle.fs_peering.proofs.Words.{if◌then◌else◌, inl, inr, is_established, is_some, message_text, needs_of, not, notice_text, open_sent, receiver}
+use Rattle.fs_peering.proofs.Words.{refl, runs_by, same_Some, sender_of, subst, sym, terms_of, tick_at, ticked, ticks, true, true≢false, ℕ, ◌&&◌}
+use Rattle.fs_peering.proofs.Words.{◌++◌, ◌==◌, ◌∙◌, ◌∷◌, ◌≡◌, ◌⊎◌}
+use Rattle.fs_peering.proofs.{Answering.{Opens, opens_by}, Changing.{Holds, IsFit, IsFitOr, tells_change}}
+use Rattle.fs_peering.proofs.Leading.{Leads, leads_alive, leads_first_alive, leads_open, leads_then, leads_whole, met, up}
+use Rattle.fs_peering.proofs.{Phases.{Quiet, awaits_open, quiet_by}, Sendable.{arrives}}
 
 module _ (config : Config) (peer : Peer) (own : HasOwnNumbers config) (asn : IsFourOctet peer.asn) where
   fit : (sending : Sending) → MayKeep config peer sending → IsFit config peer sending
@@ -55,7 +66,8 @@ module _ (config : Config) (peer : Peer) (own : HasOwnNumbers config) (asn : IsF
     leaves = λ rule. ap (flow_left rule) (append-nil h.updates) ∙ h.leaves rule;
   }
 
-  leads_more : (octets text : List ℕ) → text ≡ [] → Leads (receiver config peer) at_start octets [] (met config peer) → Leads (receiver config peer) at_start (octets ++ text) [] (met config peer)
+  leads_more : (octets text : List ℕ) → text ≡ [] → Leads (receiver config peer) at_start octets [] (met config peer)
+      → Leads (receiver config peer) at_start (octets ++ text) [] (met config peer)
   leads_more octets text e l =
       subst (λ (z : List ℕ). Leads (receiver config peer) at_start z [] (met config peer)) (sym (ap (λ (z : List ℕ). octets ++ z) e ∙ append-nil octets)) l
 
@@ -117,7 +129,8 @@ module _ (config : Config) (peer : Peer) (own : HasOwnNumbers config) (asn : IsF
             (subst (λ (z : List ℕ). Holds config peer None (c.spoken ++ z)) (sym t.text_is)
             (record {
               updates = [];
-              leads = leads_then (receiver config peer) at_start (met config peer) (up config peer) c.spoken (message_text 4 []) [] [] (i.leads m) (leads_first_alive config peer);
+              leads = leads_then (receiver config peer) at_start (met config peer) (up config peer) c.spoken (message_text 4 []) [] [] (i.leads m)
+                  (leads_first_alive config peer);
               leaves = λ rule. refl;
             }));
       })
@@ -145,7 +158,8 @@ module _ (config : Config) (peer : Peer) (own : HasOwnNumbers config) (asn : IsF
   with_kept : (x : Connection) (kept : Kept) → AreFit kept.rules → IsConnection kept.rules x → IsKept (with_connection (Some x) kept)
   with_kept x kept r i = record { rules = r; connection = λ c e. subst (IsConnection kept.rules) (same_Some x c e) i }
 
-  spoke_is : (rules : Option Sending) (c : Connection) (text : List ℕ) (now : Point) → IsConnection rules c → Stands (spoke text now c) → IsConnection rules (spoke text now c)
+  spoke_is : (rules : Option Sending) (c : Connection) (text : List ℕ) (now : Point) → IsConnection rules c → Stands (spoke text now c)
+      → IsConnection rules (spoke text now c)
   spoke_is rules c text now i s = record { peer_is = i.peer_is; asked = i.asked; same = i.same; stands = s }
 
   wakes_kept : (time : ℕ) (c : Connection) (kept : Kept) → IsKept kept → IsConnection kept.rules c → IsKept (wakes time c kept).kept
@@ -169,9 +183,11 @@ module _ (config : Config) (peer : Peer) (own : HasOwnNumbers config) (asn : IsF
       result s = (comes s).kept
 
       late : made_so.point.closed ≡ None → (b : Bool)
-          → IsKept (result (if b then spoken_so (made_so.text ++ notice_text 4 0) made_so.point (Some (Fault 4 0)) else spoken_so made_so.text made_so.point None))
+          → IsKept (result (if b then spoken_so (made_so.text ++ notice_text 4 0) made_so.point (Some (Fault 4 0))
+          else spoken_so made_so.text made_so.point None))
       late e true = gone_kept time kept k.rules
-      late e false = with_kept (spoke made_so.text made_so.point c) kept k.rules (spoke_is kept.rules c made_so.text made_so.point i (tick_stands time c i.stands e))
+      late e false = with_kept (spoke made_so.text made_so.point c) kept k.rules
+          (spoke_is kept.rules c made_so.text made_so.point i (tick_stands time c i.stands e))
 
       by : (how : Option Closed) → made_so.point.closed ≡ how → IsKept (result (said how))
       by (Some why) e = gone_kept time kept k.rules
@@ -261,7 +277,8 @@ module _ (config : Config) (peer : Peer) (own : HasOwnNumbers config) (asn : IsF
   follows_kept time nothing kept k = k
 
   -- RULES ARE TOLD
-  tells_kept : (time : ℕ) (new : Sending) (c : Connection) (kept : Kept) → kept.rules ≡ Some new → MayKeep config peer new → c.peer ≡ peer → MayKeep config peer c.asked
+  tells_kept : (time : ℕ) (new : Sending) (c : Connection) (kept : Kept) → kept.rules ≡ Some new → MayKeep config peer new → c.peer ≡ peer
+      → MayKeep config peer c.asked
       → IsLate c → IsKept (tells config time new c kept).kept
   tells_kept time new c kept r may p asked l = by (exceeds (needs_of c.asked.rules) (needs_of new.rules))
     where
@@ -286,7 +303,8 @@ module _ (config : Config) (peer : Peer) (own : HasOwnNumbers config) (asn : IsF
       }
 
       by : (b : Bool) → IsKept (if b then parts (notice_text 6 6) (Fault 6 6) time c kept
-          else outcome (speaks c.line (change_text (terms_at config c) c.told new)) (Some (news_told (terms_at config c) c.told new)) (with_connection (Some told_so) kept)).kept
+          else outcome (speaks c.line (change_text (terms_at config c) c.told new)) (Some (news_told (terms_at config c) c.told new))
+          (with_connection (Some told_so) kept)).kept
       by true = gone_kept time kept are_fit
       by false = with_kept told_so kept are_fit is
 
@@ -317,7 +335,8 @@ module _ (config : Config) (peer : Peer) (own : HasOwnNumbers config) (asn : IsF
       none_told None e = refl
       none_told (Some told) e = absurd (true≢false e)
 
-      inner : (c : Connection) → kept.connection ≡ Some c → (b : Bool) → is_some c.told ≡ b → IsKept (if b then tells config time new c other else rests other).kept
+      inner : (c : Connection) → kept.connection ≡ Some c → (b : Bool) → is_some c.told ≡ b
+          → IsKept (if b then tells config time new c other else rests other).kept
       inner c e true f =
           let i = k.connection c e in
           tells_kept time new c other refl may i.peer_is i.asked (late_told c f i.stands)
@@ -337,7 +356,11 @@ module _ (config : Config) (peer : Peer) (own : HasOwnNumbers config) (asn : IsF
   tells_all_kept time kept k = by kept.connection refl
     where
       tells_by : Connection → Option Sending → Outcome
-      tells_by c rules = elim rules [ None ↦ rests kept | Some new ↦ if is_up c.point && not (is_some c.told) then tells config time new c kept else rests kept ]
+      tells_by c rules = elim rules [
+        | None ↦ rests kept
+        | Some new ↦ if is_up c.point && not (is_some c.told) then tells config time new c kept
+            else rests kept
+      ]
 
       inner : (c : Connection) → kept.connection ≡ Some c → (new : Sending) → kept.rules ≡ Some new → (b : Bool) → (is_up c.point && not (is_some c.told)) ≡ b
           → IsKept (if b then tells config time new c kept else rests kept).kept
@@ -362,7 +385,8 @@ module _ (config : Config) (peer : Peer) (own : HasOwnNumbers config) (asn : IsF
     dials_kept : (line time : ℕ) (address : List ℕ) (kept : Kept) → IsKept kept → IsKept (dials config line time address kept).kept
     dials_kept line time address kept k = by kept.connection
       where
-        begun : (sending : Sending) → kept.rules ≡ Some sending → (other : Peer) → sender_of config.peers ≡ Some other → IsConnection kept.rules (dialling line time other sending)
+        begun : (sending : Sending) → kept.rules ≡ Some sending → (other : Peer) → sender_of config.peers ≡ Some other
+            → IsConnection kept.rules (dialling line time other sending)
         begun sending r other s = record {
           peer_is = sym (same_Some peer other (sym sender ∙ s));
           asked = k.rules sending r;
@@ -376,9 +400,14 @@ module _ (config : Config) (peer : Peer) (own : HasOwnNumbers config) (asn : IsF
         due sending r other s false = k
 
         for_peer : Sending → Option Peer → Outcome
-        for_peer sending found = elim found [ None ↦ rests kept | Some other ↦ if is_due time kept then begins_one line time address other sending kept else rests kept ]
+        for_peer sending found = elim found [
+          | None ↦ rests kept
+          | Some other ↦ if is_due time kept
+              then begins_one line time address other sending kept else rests kept
+        ]
 
-        of_peer : (sending : Sending) → kept.rules ≡ Some sending → (found : Option Peer) → sender_of config.peers ≡ found → IsKept (for_peer sending found).kept
+        of_peer : (sending : Sending) → kept.rules ≡ Some sending → (found : Option Peer) → sender_of config.peers ≡ found
+            → IsKept (for_peer sending found).kept
         of_peer sending r None s = k
         of_peer sending r (Some other) s = due sending r other s (is_due time kept)
 
@@ -414,7 +443,8 @@ module _ (config : Config) (peer : Peer) (own : HasOwnNumbers config) (asn : IsF
       never c e = cc
 
   -- what a connection that was told rules leaves
-  pub leaves_told : (rules : Option Sending) (c : Connection) (told : Sending) → IsConnection rules c → c.told ≡ Some told → c.point.phase.four ≡ true → LeavesExactly config peer told c.spoken
+  pub leaves_told : (rules : Option Sending) (c : Connection) (told : Sending) → IsConnection rules c → c.told ≡ Some told → c.point.phase.four ≡ true
+      → LeavesExactly config peer told c.spoken
   leaves_told rules c told i t f =
       let l = late_told c (ap is_some t) i.stands in
       let h : Holds config peer (Some told) c.spoken = subst (λ (o : Option Sending). Holds config peer o c.spoken) t (l.holds f) in

@@ -2,7 +2,10 @@
 use Rattle.std.specs.List.{AllByRecursion}
 use Rattle.fs_attrs.specs.{Update.{update_of}, declared.update.{Terms.{Terms}, UpdateFault.{UpdateFault}}}
 use Rattle.fs_speaker.specs.Numbers.{HasOwnNumbers, IsFourOctet}
-use Rattle.fs_peering.proofs.Words.{Config, Established, Last, List, Machine, MessageFault, None, Ok, Open, Peer, Phase, Result, Sending, Some, Update, WaitKeep, [], ap, append-nil, append_assoc, arith, as_update, at_start, flat_map, length, machine_waits, map, message_text, min, one_message, open_body, open_fits, open_read, open_sent, opened, phase, receiver, refl, session_by, still, sym, terms_of, transition_by, true, update_fits, updates, ℕ, ◌++◌, ◌+◌, ◌∙◌, ◌∷◌, ◌≡◌, ◌≤◌}
+use Rattle.fs_peering.proofs.Words.{Config, Established, Last, List, Machine, MessageFault, None, Ok, Open, Peer, Phase, Result, Sending, Some}
+use Rattle.fs_peering.proofs.Words.{Update, WaitKeep, [], ap, append-nil, append_assoc, arith, as_update, at_start, flat_map, length, machine_waits}
+use Rattle.fs_peering.proofs.Words.{map, message_text, min, one_message, open_body, open_fits, open_read, open_sent, opened, phase, receiver, refl}
+use Rattle.fs_peering.proofs.Words.{session_by, still, sym, terms_of, transition_by, true, update_fits, updates, ℕ, ◌++◌, ◌+◌, ◌∙◌, ◌∷◌, ◌≡◌, ◌≤◌}
 
 abbrev pub behind : List Update → List Update × Last → List Update × Last
 behind taken later = (taken ++ later.0, later.1)
@@ -30,7 +33,8 @@ module _ (machine : Machine) where
   }
 
   -- nothing follows
-  pub leads_whole : (now next : Phase) (text : List ℕ) (taken : List Update) → Leads machine now text taken next → session_by machine now text ≡ (taken, still next)
+  pub leads_whole : (now next : Phase) (text : List ℕ) (taken : List Update) → Leads machine now text taken next
+      → session_by machine now text ≡ (taken, still next)
   leads_whole now next text taken l =
       ap (session_by machine now) (sym (append-nil text)) ∙ l.goes [] ∙ ap (behind taken) (machine_waits machine next [] refl)
       ∙ ap (λ (u : List Update). (u, still next)) (append-nil taken)
@@ -68,14 +72,16 @@ module _ (config : Config) (peer : Peer) where
   leads_alive = record { goes = λ more. one_message machine up up None 4 [] more (omega arith) (omega arith) refl (omega arith) refl }
 
   -- UPDATEs
-  leads_update : (body : List ℕ) (update : Update) → IsRead (terms_of config peer true) body update → Leads (receiver config peer) up (message_text 2 body) (update ∷ []) up
+  leads_update : (body : List ℕ) (update : Update) → IsRead (terms_of config peer true) body update
+      → Leads (receiver config peer) up (message_text 2 body) (update ∷ []) up
   leads_update body update is = record {
     goes = λ more.
         one_message machine up up (Some update) 2 body more (omega arith) (omega arith) (update_fits (length body) is.long) is.short
         (ap (λ (r : Result Update UpdateFault). updates up (as_update r)) is.read);
   }
 
-  pub leads_each : {A : Type 0} (body : A → List ℕ) (update : A → Update) (xs : List A) → AllByRecursion (λ x. IsRead (terms_of config peer true) (body x) (update x)) xs
+  pub leads_each : {A : Type 0} (body : A → List ℕ) (update : A → Update) (xs : List A)
+      → AllByRecursion (λ x. IsRead (terms_of config peer true) (body x) (update x)) xs
       → Leads (receiver config peer) up (flat_map (λ (x : A). message_text 2 (body x)) xs) (map update xs) up
   leads_each body update [] all = leads_none (receiver config peer) up
   leads_each {A} body update (x ∷ xs) all =

@@ -1,6 +1,9 @@
 -- The updates of rules pass no limit of as many routes.
-use Rattle.std.{proofs.{Common.{flat_map, is_some}, lemmas.{List.Sums.{count_by-le-length, length-filter}, Map.Made.{distinct_count-le}}}, specs.Set.{distinct_count}}
-use Rattle.fs_peering.proofs.Words.{Config, Peer, Sending, Sent, Update, first_over, fronts, is_over, routes_left, update_sent, ◌≡◌, ℕ, suc, ◌≤◌, nat_lt, List, [], ◌∷◌, length, map, filter, find, Bool, true, false, cond, Option, Some, None, refl, ap, arith, nat_tests, MayHold}
+use Rattle.std.proofs.{Common.{flat_map, is_some}, lemmas.{List.Sums.{count_by-le-length, length-filter}, Map.Made.{distinct_count-le}}}
+use Rattle.std.specs.Set.{distinct_count}
+use Rattle.fs_peering.proofs.Words.{Config, Peer, Sending, Sent, Update, first_over, fronts, is_over, routes_left, update_sent, ◌≡◌, ℕ, suc, ◌≤◌}
+use Rattle.fs_peering.proofs.Words.{nat_lt, List, [], ◌∷◌, length, map, filter, find, Bool, true, false, cond, Option, Some, None, refl, ap, arith}
+use Rattle.fs_peering.proofs.Words.{nat_tests, MayHold}
 use Rattle.fs_attrs.specs.Update.{gives_prefixes, gives_rules}
 use Rattle.fs_desk.specs.Updates.{flow_left, is_rule, path_left, same_prefix}
 

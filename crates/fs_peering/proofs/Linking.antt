@@ -1,6 +1,13 @@
 -- A connection's end of the session: what it says, and how it closes.
 use Rattle.std.specs.Prelude.{◌≢◌}
-use Rattle.fs_peering.{proofs.{Words.{Announcing, Closed, Expires, Fault, Keeps, Memory, Phase, Point, Quiet, Result, Err, Ok, StandsAt, Starts, StartsOpen, StartsWith, StaysEnded, Tick, TicksOver, at_moment, hand, has_started, IfOk, OnOk, is_established, machine_in, open_sent, state_in, tick_at, ticked, ticks, with_line, ◌≡◌, ◌&&◌, ℕ, ◌-◌, List, ◌++◌, Bool, true, false, not, nat_lt, if◌then◌else◌, Option, Some, None, refl, ap, sym, ◌∙◌, subst, append_assoc, none-some, notice_text, SaysTo}, Ahead.{stayed}, Settled.{state_open}}, specs.{Keeper.{Said, is_late, news_of, open_time, parting, received, spoken_so, woken}, Keeping.{LinkSaid, LinkSays, Linked}, declared.keeper.News.{News, TheVariants.{Closed as HasClosed}}}}
+use Rattle.fs_peering.proofs.Words.{Announcing, Closed, Expires, Fault, Keeps, Memory, Phase, Point, Quiet, Result, Err, Ok, StandsAt, Starts}
+use Rattle.fs_peering.proofs.Words.{StartsOpen, StartsWith, StaysEnded, Tick, TicksOver, at_moment, hand, has_started, IfOk, OnOk, is_established}
+use Rattle.fs_peering.proofs.Words.{machine_in, open_sent, state_in, tick_at, ticked, ticks, with_line, ◌≡◌, ◌&&◌, ℕ, ◌-◌, List, ◌++◌, Bool, true}
+use Rattle.fs_peering.proofs.Words.{false, not, nat_lt, if◌then◌else◌, Option, Some, None, refl, ap, sym, ◌∙◌, subst, append_assoc, none-some}
+use Rattle.fs_peering.proofs.Words.{notice_text, SaysTo}
+use Rattle.fs_peering.proofs.{Ahead.{stayed}, Settled.{state_open}}
+use Rattle.fs_peering.specs.Keeper.{Said, is_late, news_of, open_time, parting, received, spoken_so, woken}
+use Rattle.fs_peering.specs.{Keeping.{LinkSaid, LinkSays, Linked}, declared.keeper.News.{News, TheVariants.{Closed as HasClosed}}}
 use Rattle.fs_speaker.proofs.Waking.{tick_each}
 
 -- the connection with another end
@@ -168,7 +175,8 @@ abbrev Owned : (old new : Announcing) → Type 0
 Owned old new = (new.config ≡ old.config) × (new.peer ≡ old.peer)
 
 -- whose end it is stays where it says its OPEN
-pub starts_own : (old new : Announcing) (out out' : List ℕ) (result : Result (Unit {0}) Closed) → StaysEnded old new result out out' → StartsOpen old new out out' result
+pub starts_own : (old new : Announcing) (out out' : List ℕ) (result : Result (Unit {0}) Closed) → StaysEnded old new result out out'
+    → StartsOpen old new out out' result
     → (new.config ≡ old.config) × (new.peer ≡ old.peer)
 starts_own old new out out' result stays starts = by old.line.closed refl
   where
@@ -185,12 +193,14 @@ starts_own old new out out' result stays starts = by old.line.closed refl
     by (Some why) e = subst (Owned old) (sym (stayed old new out out' result stays why e).1) (refl, refl)
 
 -- it is made, and its OPEN is said
-pub begun_link : (inside old : Linked) → inside ≡ old → (end : Announcing) (time : ℕ) (out out' : List ℕ) → StartsWith inside.end.started inside.end end out out'
+pub begun_link : (inside old : Linked) → inside ≡ old → (end : Announcing) (time : ℕ) (out out' : List ℕ)
+    → StartsWith inside.end.started inside.end end out out'
     → old.end.started ≡ false
     → (record inside { made = true; since = time; end = end } ≡ record old { made = true; since = time; end = has_started old.end })
     × (out' ≡ out ++ open_sent old.end.config old.end.peer old.end.sending)
 begun_link inside old view end time out out' starts =
-    subst (λ (l : Linked). l.end.started ≡ false → (record inside { made = true; since = time; end = end } ≡ record l { made = true; since = time; end = has_started l.end })
+    subst (λ (l : Linked). l.end.started ≡ false
+    → (record inside { made = true; since = time; end = end } ≡ record l { made = true; since = time; end = has_started l.end })
     × (out' ≡ out ++ open_sent l.end.config l.end.peer l.end.sending)) view
     (λ off.
     let s : StartsWith false inside.end end out out' = subst (λ (b : Bool). StartsWith b inside.end end out out') off starts in

@@ -1,5 +1,11 @@
 -- The moments of an end, one more at a time, and when its hold time expires.
-use Rattle.fs_peering.proofs.{Words.{Expires, Keeps, Quiet, Times, tick_at, Closed, Established, Handed, Machine, Message, MessageFault, Phase, Point, State, Update, WaitKeep, WaitOpen, at_moment, at_start, faulted, first_message, handed, parts_of, point, runs, runs_by, shuts, taken_in, transition_by, wrong_at, ◌≡◌, ◌<◌, ◌≤◌, ℕ, ◌-◌, max, List, [], ◌∷◌, ◌++◌, length, ap, sym, ◌∙◌, arith, append_assoc, append-nil, ◌≢◌, ◌==◌, ◌*◌, suc, zero, Bool, true, false, if◌then◌else◌, nat_le, refl, subst, ◌⊎◌, inl, inr, ◌+◌, Option, Some, None, Result, Ok, Err, length-append, IsTakenAt, Spans, most, AreTimely, nat_tests, none-some, ran, runs_none, runs_step, Pieces, moments_in, after, hears, course, course_from}, Courses.{Steps, lived}}
+use Rattle.fs_peering.proofs.Words.{Expires, Keeps, Quiet, Times, tick_at, Closed, Established, Handed, Machine, Message, MessageFault, Phase, Point}
+use Rattle.fs_peering.proofs.Words.{State, Update, WaitKeep, WaitOpen, at_moment, at_start, faulted, first_message, handed, parts_of, point, runs}
+use Rattle.fs_peering.proofs.Words.{runs_by, shuts, taken_in, transition_by, wrong_at, ◌≡◌, ◌<◌, ◌≤◌, ℕ, ◌-◌, max, List, [], ◌∷◌, ◌++◌, length, ap}
+use Rattle.fs_peering.proofs.Words.{sym, ◌∙◌, arith, append_assoc, append-nil, ◌≢◌, ◌==◌, ◌*◌, suc, zero, Bool, true, false, if◌then◌else◌, nat_le}
+use Rattle.fs_peering.proofs.Words.{refl, subst, ◌⊎◌, inl, inr, ◌+◌, Option, Some, None, Result, Ok, Err, length-append, IsTakenAt, Spans, most}
+use Rattle.fs_peering.proofs.Words.{AreTimely, nat_tests, none-some, ran, runs_none, runs_step, Pieces, moments_in, after, hears, course, course_from}
+use Rattle.fs_peering.proofs.Courses.{Steps, lived}
 use Rattle.fs_speaker.specs.declared.State.TheVariants.{Closed as IsClosed}
 
 pub most_append : (xs ys : List ℕ) → most (xs ++ ys) ≡ max (most xs) (most ys)
@@ -44,7 +50,8 @@ expires_timed hold now h zero_is = quiet (subst (λ (n : ℕ). tick_at n now ≡
 
 pub expires_far : (hold : ℕ) (now : Times) → tick_at hold now ≡ Expires → 1000 * hold ≤ now.greatest - now.taken
 expires_far hold now h =
-    let far : nat_le (1000 * hold) (now.greatest - now.taken) ≡ true = by (hold == 0) (nat_le (1000 * hold) (now.greatest - now.taken)) (nat_le (1000 * hold) (3 * (now.greatest - now.written))) h in
+    let far : nat_le (1000 * hold) (now.greatest - now.taken) ≡ true =
+    by (hold == 0) (nat_le (1000 * hold) (now.greatest - now.taken)) (nat_le (1000 * hold) (3 * (now.greatest - now.written))) h in
     grind (arith, nat_tests, far)
   where
     by : (a b c : Bool) → (if a then Quiet else if b then Expires else if c then Keeps else Quiet) ≡ Expires → b ≡ true
@@ -105,10 +112,12 @@ runs_later machine (message ∷ messages) now times waiting wrong =
 abbrev Timely : List ℕ → Handed → Type 0
 Timely moments made = made.point.closed ≡ None → AreTimely moments made.point.phase.hold made.point.times
 
-timely_more : (machine : Machine) (moments : List ℕ) (now : Handed) (event : ℕ × List ℕ) → Timely moments now → Timely (moments ++ event.0 ∷ []) (after now (hears machine event now.point))
+timely_more : (machine : Machine) (moments : List ℕ) (now : Handed) (event : ℕ × List ℕ) → Timely moments now
+    → Timely (moments ++ event.0 ∷ []) (after now (hears machine event now.point))
 timely_more machine moments now event t end =
     subst (λ (p : Point). AreTimely all p.phase.hold p.times) (sym k.point_is)
-    (at (runs_later machine (parts_of first_message octets).0 now.point.phase k.times (parts_of first_message octets).1 (wrong_at (parts_of first_message octets).1)
+    (at (runs_later machine (parts_of first_message octets).0 now.point.phase k.times (parts_of first_message octets).1
+    (wrong_at (parts_of first_message octets).1)
     (sym (ap (λ (p : Point). p.closed) k.point_is) ∙ end)))
   where
     all : List ℕ
@@ -145,10 +154,12 @@ timely_more machine moments now event t end =
       taken_is = λ timed. taken_now all (runs_by machine now.point.phase k.times octets).point.times.taken some_moment (l.0 ∙ all_greatest);
     }
 
-timely_on : (machine : Machine) (moments : List ℕ) (now : Handed) → Timely moments now → (heard : Pieces) → Timely (moments ++ moments_in heard) (course_from machine now heard)
+timely_on : (machine : Machine) (moments : List ℕ) (now : Handed) → Timely moments now → (heard : Pieces)
+    → Timely (moments ++ moments_in heard) (course_from machine now heard)
 timely_on machine moments now t [] = subst (λ (ms : List ℕ). Timely ms now) (sym (append-nil moments)) t
 timely_on machine moments now t (event ∷ heard) =
-    subst (λ (ms : List ℕ). Timely ms (course_from machine (after now (hears machine event now.point)) heard)) (append_assoc moments (event.0 ∷ []) (moments_in heard))
+    subst (λ (ms : List ℕ). Timely ms (course_from machine (after now (hears machine event now.point)) heard))
+    (append_assoc moments (event.0 ∷ []) (moments_in heard))
     (timely_on machine (moments ++ event.0 ∷ []) (after now (hears machine event now.point)) (timely_more machine moments now event t) heard)
 
 pub timely_course : (machine : Machine) (heard : Pieces) → Timely (moments_in heard) (course machine heard)

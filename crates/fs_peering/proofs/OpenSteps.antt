@@ -1,6 +1,9 @@
 -- One step and all octets up to the message that establishes.
 use Rattle.std.proofs.Common.{option_map}
-use Rattle.fs_peering.proofs.Words.{Closed, Last, Machine, Message, MessageFault, Phase, Shrinks, Update, closed, first_message, is_established, parts_of, rest_closes, step_by, still, stops, takes, transition_by, waits, wrong_at, ◌≡◌, ◌<◌, ℕ, List, [], ◌∷◌, ◌++◌, length, if◌then◌else◌, Option, Some, None, Ok, Err, refl, ap, sym, ◌∙◌, subst, inl, inr, message_shrinks, message_stable, fault_stays, Shows, told, wrong_first, Transition, front_message, opened_by, opens}
+use Rattle.fs_peering.proofs.Words.{Closed, Last, Machine, Message, MessageFault, Phase, Shrinks, Update, closed, first_message, is_established}
+use Rattle.fs_peering.proofs.Words.{parts_of, rest_closes, step_by, still, stops, takes, transition_by, waits, wrong_at, ◌≡◌, ◌<◌, ℕ, List, [], ◌∷◌}
+use Rattle.fs_peering.proofs.Words.{◌++◌, length, if◌then◌else◌, Option, Some, None, Ok, Err, refl, ap, sym, ◌∙◌, subst, inl, inr, message_shrinks}
+use Rattle.fs_peering.proofs.Words.{message_stable, fault_stays, Shows, told, wrong_first, Transition, front_message, opened_by, opens}
 use Rattle.fs_base.proofs.Parts.{parts_end, parts_step}
 
 abbrev pub Opened : Type 0
@@ -37,7 +40,8 @@ front_none octets h = ap (option_map (λ (f : Message × List ℕ). (f, f.1))) h
 front_shrinks : Shrinks front_message
 front_shrinks octets found h = by (first_message octets) refl h
   where
-    by : (o : Option (Message × List ℕ)) → first_message octets ≡ o → option_map (λ (f : Message × List ℕ). (f, f.1)) o ≡ Some found → length found.1 < length octets
+    by : (o : Option (Message × List ℕ)) → first_message octets ≡ o → option_map (λ (f : Message × List ℕ). (f, f.1)) o ≡ Some found
+        → length found.1 < length octets
     by None f e = absurd cc
     by (Some first) f e =
         let same : first.1 ≡ found.1 = ap (λ (o : Option ((Message × List ℕ) × List ℕ)). elim o [ None ↦ first.1 | Some x ↦ x.1 ]) e in
@@ -46,7 +50,8 @@ front_shrinks octets found h = by (first_message octets) refl h
 pub opened_first : (machine : Machine) (now : Phase) (octets : List ℕ) (found : Message × List ℕ) → first_message octets ≡ Some found
     → opened_by machine now octets ≡ going (transition_by machine now found.0) found.1 (λ next. opened_by machine next found.1)
 opened_first machine now octets found h =
-    ap (λ (parts : List (Message × List ℕ) × List ℕ). opens machine now parts.0 (wrong_at parts.1)) (parts_step front_message front_shrinks octets (found, found.1) (front_some octets found h))
+    ap (λ (parts : List (Message × List ℕ) × List ℕ). opens machine now parts.0 (wrong_at parts.1))
+    (parts_step front_message front_shrinks octets (found, found.1) (front_some octets found h))
     ∙ opens_step machine now found (parts_of front_message found.1).0 (wrong_at (parts_of front_message found.1).1)
 
 pub opened_rest : (machine : Machine) (now : Phase) (octets : List ℕ) → first_message octets ≡ None
@@ -56,7 +61,8 @@ opened_rest machine now octets h =
     ∙ opens_none machine now (wrong_at octets)
 
 -- a message is taken at the front, whatever follows
-pub opened_takes : (machine : Machine) (now next : Phase) (update : Option Update) (octets behind more : List ℕ) → step_by machine now octets ≡ takes next update behind
+pub opened_takes : (machine : Machine) (now next : Phase) (update : Option Update) (octets behind more : List ℕ)
+    → step_by machine now octets ≡ takes next update behind
     → opened_by machine now (octets ++ more) ≡ (if is_established next.state then (still next, behind ++ more) else opened_by machine next (behind ++ more))
 opened_takes machine now next update octets behind more h =
     let shows : Shows machine now octets (takes next update behind) = subst (Shows machine now octets) h (told machine now octets) in

@@ -3,24 +3,31 @@ use Rattle.std.{specs.{Prelude.{bit_or}, List.{AllByRecursion}}, proofs.lemmas.L
 use Rattle.byteorder.specs.Endian.{big_bytes}
 use Rattle.fs_base.{specs.{Bits.{afi_of}, Parts.{parts_within}, declared.prefix.Family.{Family}}, proofs.Lists.{each_filtered, each_mapped}}
 use Rattle.fs_nlri.specs.{Parts.{Ruled}, Rule.{IsRule, canonical_frame}}
-use Rattle.fs_attrs.{specs.{Attributes.{attribute}, Lists.{IsPrefix}, Texts.{attribute_text, flags_of, long_text, rules_text}, Update.{update_of}, Writable.{are_rules_of, is_writable}, Write.{IsSound, path_in, reach_text, unreach_text, update_text}, declared.update.{Routes.TheVariants.{Flow}, Terms.{Terms}}}, proofs.UpdateReadBack.{read_back}}
+use Rattle.fs_attrs.specs.{Attributes.{attribute}, Lists.{IsPrefix}, Texts.{attribute_text, flags_of, long_text, rules_text}, Update.{update_of}}
+use Rattle.fs_attrs.specs.{Writable.{are_rules_of, is_writable}, Write.{IsSound, path_in, reach_text, unreach_text, update_text}}
+use Rattle.fs_attrs.specs.declared.update.{Routes.TheVariants.{Flow}, Terms.{Terms}}
+use Rattle.fs_attrs.proofs.UpdateReadBack.{read_back}
 use Rattle.fs_speaker.specs.Sending.{body_by, is_short, path_by, update_by}
 use Rattle.fs_peering.specs.Keeper.{first_pack, fitting, of_family, packs, withdrawal}
-use Rattle.fs_peering.proofs.Words.{Bool, List, Ok, Sent, Some, [], ap, arith, at_most, cond, drop, false, filter, flat_map, if◌then◌else◌, length, length-append, map, nat_lt, nat_tests, refl, subst, suc, sym, take, true, zero, ℕ, ◌++◌, ◌+◌, ◌-◌, ◌==◌, ◌∙◌, ◌∷◌, ◌≡◌, ◌≤◌}
+use Rattle.fs_peering.proofs.Words.{Bool, List, Ok, Sent, Some, [], ap, arith, at_most, cond, drop, false, filter, flat_map, if◌then◌else◌, length}
+use Rattle.fs_peering.proofs.Words.{length-append, map, nat_lt, nat_tests, refl, subst, suc, sym, take, true, zero, ℕ, ◌++◌, ◌+◌, ◌-◌, ◌==◌, ◌∙◌, ◌∷◌}
+use Rattle.fs_peering.proofs.Words.{◌≡◌, ◌≤◌}
 
 -- SIZES
 
 attribute_most : (kind : ℕ) (value : List ℕ) → length (attribute_text (attribute kind value)) ≤ 4 + length value
 attribute_most kind value = at (nat_lt 255 (length value))
   where
-    at : (wide : Bool) → length (if wide then bit_or (flags_of kind) 16 ∷ kind ∷ long_text value else flags_of kind ∷ kind ∷ length value ∷ value) ≤ 4 + length value
+    at : (wide : Bool) → length (if wide then bit_or (flags_of kind) 16 ∷ kind ∷ long_text value else flags_of kind ∷ kind ∷ length value ∷ value) ≤ 4
+        + length value
     at true = omega (arith, length-append (big_bytes 2 (length value)) value)
     at false = omega arith
 
 attribute_least : (kind : ℕ) (value : List ℕ) → 3 + length value ≤ length (attribute_text (attribute kind value))
 attribute_least kind value = at (nat_lt 255 (length value))
   where
-    at : (wide : Bool) → 3 + length value ≤ length (if wide then bit_or (flags_of kind) 16 ∷ kind ∷ long_text value else flags_of kind ∷ kind ∷ length value ∷ value)
+    at : (wide : Bool) → 3 + length value ≤ length (if wide then bit_or (flags_of kind) 16 ∷ kind ∷ long_text value
+        else flags_of kind ∷ kind ∷ length value ∷ value)
     at true = omega (arith, length-append (big_bytes 2 (length value)) value)
     at false = omega arith
 
@@ -38,11 +45,13 @@ unreach_size family rules = length-append (big_bytes 2 (afi_of family) ++ (133 �
 abbrev withdrawn : Family → List Ruled → List ℕ
 withdrawn family rules = attribute_text (attribute 15 (unreach_text (Flow family rules)))
 
-withdrawal_size : (terms : Terms) (family : Family) (rules : List Ruled) → length (update_text terms (withdrawal family rules)) ≡ 4 + length (withdrawn family rules)
+withdrawal_size : (terms : Terms) (family : Family) (rules : List Ruled)
+    → length (update_text terms (withdrawal family rules)) ≡ 4 + length (withdrawn family rules)
 withdrawal_size terms family rules =
     body_size (withdrawn family rules ++ []) ∙ ap (λ (n : ℕ). 4 + n) (omega (arith, length-append (withdrawn family rules) []))
 
-pub withdrawal_short : (terms : Terms) (family : Family) (rules : List Ruled) → length (rules_text rules) ≤ 4066 → 19 + length (update_text terms (withdrawal family rules)) ≤ 4096
+pub withdrawal_short : (terms : Terms) (family : Family) (rules : List Ruled) → length (rules_text rules) ≤ 4066
+    → 19 + length (update_text terms (withdrawal family rules)) ≤ 4096
 withdrawal_short terms family rules small =
     omega (arith, small, withdrawal_size terms family rules, attribute_most 15 (unreach_text (Flow family rules)), unreach_size family rules)
 
@@ -144,14 +153,16 @@ fitting_small room (rule ∷ rules) = by (fitting_small (room - size) rules) (na
         let n : ℕ = fitting (room - size) rules in
         let some : size ≤ room = grind (arith, nat_tests) in
         let one : 1 + n ≡ suc n = omega arith in
-        let both : length (canonical_frame rule ++ rules_text (take n rules)) ≡ size + length (rules_text (take n rules)) = length-append (canonical_frame rule) (rules_text (take n rules)) in
+        let both : length (canonical_frame rule ++ rules_text (take n rules)) ≡ size + length (rules_text (take n rules)) =
+        length-append (canonical_frame rule) (rules_text (take n rules)) in
         let whole : length (rules_text (take (suc n) (rule ∷ rules))) ≤ room = omega (arith, some, later, both) in
         subst (λ (k : ℕ). length (rules_text (take k (rule ∷ rules))) ≤ room) (sym one) whole
 
 module _ (family : Family) where
   -- Packs of rules are whole, one after the other.
   packs_within : (n : ℕ) (rules : List Ruled) → length rules ≤ n → AllByRecursion (IsOf family) rules → AllByRecursion HasRoom rules
-      → AllByRecursion (IsPack family) (parts_within first_pack n rules).0 × (flat_map (λ (pack : List Ruled). pack) (parts_within first_pack n rules).0 ≡ rules)
+      → AllByRecursion (IsPack family) (parts_within first_pack n rules).0
+      × (flat_map (λ (pack : List Ruled). pack) (parts_within first_pack n rules).0 ≡ rules)
   unfolding parts_within
   packs_within zero [] l o f = (tt, refl)
   packs_within (suc n) [] l o f = (tt, refl)
@@ -160,7 +171,8 @@ module _ (family : Family) where
       let size : ℕ = length (canonical_frame rule) in
       let k : ℕ = fitting (4066 - size) rules in
       let most : size ≤ 4066 = f.0.1 in
-      let both : length (canonical_frame rule ++ rules_text (take k rules)) ≡ size + length (rules_text (take k rules)) = length-append (canonical_frame rule) (rules_text (take k rules)) in
+      let both : length (canonical_frame rule ++ rules_text (take k rules)) ≡ size + length (rules_text (take k rules)) =
+      length-append (canonical_frame rule) (rules_text (take k rules)) in
       let shorter : length (drop k rules) ≤ n = omega (arith, l, length-drop k rules) in
       let later = packs_within n (drop k rules) shorter (each_dropped (IsOf family) k rules o.1) (each_dropped HasRoom k rules f.1) in
       let pack : IsPack family (rule ∷ take k rules) = record {
@@ -176,17 +188,21 @@ module _ (family : Family) where
   are_in (sent ∷ rules) = by (are_in rules) (afi_of sent.rule.family == afi_of family) refl
     where
       by : AllByRecursion (IsOf family) (of_family family rules) → (b : Bool) → (afi_of sent.rule.family == afi_of family) ≡ b
-          → AllByRecursion (IsOf family) (map (λ (s : Sent). s.rule) (cond b (sent ∷ filter (λ (s : Sent). afi_of s.rule.family == afi_of family) rules) (filter (λ (s : Sent). afi_of s.rule.family == afi_of family) rules)))
+          → AllByRecursion (IsOf family)
+          (map (λ (s : Sent). s.rule) (cond b (sent ∷ filter (λ (s : Sent). afi_of s.rule.family == afi_of family) rules)
+          (filter (λ (s : Sent). afi_of s.rule.family == afi_of family) rules)))
       by rest true h = (h, rest)
       by rest false h = rest
 
   pub packs_are : (rules : List Sent) → AllByRecursion (λ (sent : Sent). HasRoom sent.rule) rules
-      → AllByRecursion (IsPack family) (packs (of_family family rules)) × (flat_map (λ (pack : List Ruled). pack) (packs (of_family family rules)) ≡ of_family family rules)
+      → AllByRecursion (IsPack family) (packs (of_family family rules))
+      × (flat_map (λ (pack : List Ruled). pack) (packs (of_family family rules)) ≡ of_family family rules)
   packs_are rules all =
       packs_within (length (of_family family rules)) (of_family family rules) (omega arith) (are_in rules)
       (each_mapped (λ (s : Sent). s.rule) HasRoom (filter (λ (s : Sent). afi_of s.rule.family == afi_of family) rules)
       (each_filtered (λ (s : Sent). HasRoom s.rule) (λ (s : Sent). afi_of s.rule.family == afi_of family) rules all))
 
 -- the rules that may be sent have room
-pub has_room : (terms : Terms) (path : List ℕ) (sent : Sent) → IsRule sent.rule → is_short terms path sent ≡ true → IsRule sent.rule × (length (canonical_frame sent.rule) ≤ 4066)
+pub has_room : (terms : Terms) (path : List ℕ) (sent : Sent) → IsRule sent.rule → is_short terms path sent ≡ true
+    → IsRule sent.rule × (length (canonical_frame sent.rule) ≤ 4066)
 has_room terms path sent is short = (is, frame_small terms path sent short)

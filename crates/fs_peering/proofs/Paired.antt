@@ -1,5 +1,25 @@
 -- How what both ends come to over a wire follows from how they stand.
-use Rattle.fs_peering.{proofs.{Words.{Announcing, CanArrive, Closed, Config, Desked, Ended, Established, Fault, IsAt, Last, Machine, Peer, Phase, Sending, Sent, State, Update, WaitKeep, WaitOpen, WireEnds, announcer, at_start, bounded, bounded_from, bounded_session, closed, first_message, first_over, is_established, machine_in, needs_of, open_sent, peer_of, phase, receiver, reply_to, session_from, standing_at_desk, still, text_sent, too_many, update_sent, ◌≡◌, ◌⊎◌, inl, inr, ◌≤◌, ℕ, ◌+◌, ◌-◌, List, [], ◌∷◌, ◌++◌, length, take, map, Bool, true, false, if◌then◌else◌, Option, Some, None, refl, ap, sym, ◌∙◌, subst, arith, append-nil, length-append, ◌<◌, is_some, none-some, ahead_of, before_all, is_settled, opening_of, MetLimit, begins_with, Ending, Done, AtLimit, AreJoined, Exchanges, ExchangedOut, Heard, SaidAll, StopsSo, moments_of, of_first, of_second, Pieces, Stance, octets_in, Talk, FirstOver, SecondOver, Broken, HasClosed, Receives, bare, is_ended, course_of, IsReceiving, Arrives, ComesUp, EndsEarly, IsUnhindered, Pairs, PairsOver, PairsSo, RunsLate, SaysFront, told_by, EndsTalk, Began, SaysUpTo, Speaks, TookOpen, rules_in, text_in, without_rules, woven, course, take_all, some_there, none_there}, Courses.{keepalives}, WrittenInParts.{told_as}, Apart.{late_first, late_second}, Counting.{Opens, ends_by, met_by, opens_so}, Hearing.{unsettled}, Listened.{receiving}, BothEnds.{all_arrive, answers, meets, open_first, own_message}, Receiving.{closed_of, ended_there, hearing_of}, Sending.{Past, past_of}, Replying.{replies}, StaysOpen.{teller_stays, teller_up}, Timely.{timely_one}, Unhindered.{Fronts, never_first, unread}, Settled.{open_settled}, Phases.{unawaited}}, specs.{Teller.{is_over}, declared.{tell.Ending.TheVariants.{Closed as WasClosed, Ended as EndedEarly}, joined.Talk.TheVariants.{AtLimit as MetIt, Done as AllSaid}}, Joined.{Ended as EndedSo}}}
+use Rattle.fs_peering.proofs.Words.{Announcing, CanArrive, Closed, Config, Desked, Ended, Established, Fault, IsAt, Last, Machine, Peer, Phase}
+use Rattle.fs_peering.proofs.Words.{Sending, Sent, State, Update, WaitKeep, WaitOpen, WireEnds, announcer, at_start, bounded, bounded_from}
+use Rattle.fs_peering.proofs.Words.{bounded_session, closed, first_message, first_over, is_established, machine_in, needs_of, open_sent, peer_of}
+use Rattle.fs_peering.proofs.Words.{phase, receiver, reply_to, session_from, standing_at_desk, still, text_sent, too_many, update_sent, ◌≡◌, ◌⊎◌, inl}
+use Rattle.fs_peering.proofs.Words.{inr, ◌≤◌, ℕ, ◌+◌, ◌-◌, List, [], ◌∷◌, ◌++◌, length, take, map, Bool, true, false, if◌then◌else◌, Option, Some}
+use Rattle.fs_peering.proofs.Words.{None, refl, ap, sym, ◌∙◌, subst, arith, append-nil, length-append, ◌<◌, is_some, none-some, ahead_of, before_all}
+use Rattle.fs_peering.proofs.Words.{is_settled, opening_of, MetLimit, begins_with, Ending, Done, AtLimit, AreJoined, Exchanges, ExchangedOut, Heard}
+use Rattle.fs_peering.proofs.Words.{SaidAll, StopsSo, moments_of, of_first, of_second, Pieces, Stance, octets_in, Talk, FirstOver, SecondOver, Broken}
+use Rattle.fs_peering.proofs.Words.{HasClosed, Receives, bare, is_ended, course_of, IsReceiving, Arrives, ComesUp, EndsEarly, IsUnhindered, Pairs}
+use Rattle.fs_peering.proofs.Words.{PairsOver, PairsSo, RunsLate, SaysFront, told_by, EndsTalk, Began, SaysUpTo, Speaks, TookOpen, rules_in, text_in}
+use Rattle.fs_peering.proofs.Words.{without_rules, woven, course, take_all, some_there, none_there}
+use Rattle.fs_peering.proofs.{Courses.{keepalives}, WrittenInParts.{told_as}, Apart.{late_first, late_second}}
+use Rattle.fs_peering.proofs.{Counting.{Opens, ends_by, met_by, opens_so}, Hearing.{unsettled}, Listened.{receiving}}
+use Rattle.fs_peering.proofs.BothEnds.{all_arrive, answers, meets, open_first, own_message}
+use Rattle.fs_peering.proofs.{Receiving.{closed_of, ended_there, hearing_of}, Sending.{Past, past_of}, Replying.{replies}}
+use Rattle.fs_peering.proofs.{StaysOpen.{teller_stays, teller_up}, Timely.{timely_one}, Unhindered.{Fronts, never_first, unread}}
+use Rattle.fs_peering.proofs.{Settled.{open_settled}, Phases.{unawaited}}
+use Rattle.fs_peering.specs.Teller.{is_over}
+use Rattle.fs_peering.specs.declared.tell.Ending.TheVariants.{Closed as WasClosed, Ended as EndedEarly}
+use Rattle.fs_peering.specs.declared.joined.Talk.TheVariants.{AtLimit as MetIt, Done as AllSaid}
+use Rattle.fs_peering.specs.Joined.{Ended as EndedSo}
 use Rattle.std.proofs.lemmas.Bool.{true≢false as never}
 use Rattle.fs_speaker.specs.declared.State.TheVariants.{Closed as IsClosed}
 
@@ -51,7 +71,8 @@ reaches_never heard left said limit e l m =
     let all : length said ≡ length heard + length left = ap length e ∙ length-append heard left in
     omega (arith, all, l, m)
 
-module _ (first last : Desked) (peer peer' first_count count limit : ℕ) (same : peer' ≡ peer) (own : bare last ≡ bare first) (start : Receives first peer first_count [] [])
+module _ (first last : Desked) (peer peer' first_count count limit : ℕ) (same : peer' ≡ peer) (own : bare last ≡ bare first)
+    (start : Receives first peer first_count [] [])
     (a b : Announcing) (begun started : Bool) (heard_before heard_up : ℕ) (keeps : before_all b ≡ before_all a)
     (config : Config) (whose : Peer) (sending : Sending) (config_first : first.config ≡ config) (whose_is : peer_of peer config.peers ≡ Some whose)
     (begins : SaysUpTo true a begun heard_before [] []) (a_is : a ≡ begins_with config whose sending)
@@ -199,7 +220,8 @@ module _ (first last : Desked) (peer peer' first_count count limit : ℕ) (same 
     closes_first : (why : Closed) → standing_at_desk last peer ≡ Ended why → HasClosed config peer whose (of_first events) replied why
     closes_first why e =
         subst (λ (p : Peer). HasClosed config peer p (of_first events) replied why) whose_same
-        (subst (λ (c : Config). HasClosed c peer r.whose (of_first events) replied why) config_is (closed_of last peer r.whose (of_first events) replied why e r.stands))
+        (subst (λ (c : Config). HasClosed c peer r.whose (of_first events) replied why) config_is
+        (closed_of last peer r.whose (of_first events) replied why e r.stands))
 
     closes_second : (why : Closed) → b.line.closed ≡ Some why → (told_by config sending (of_second events)).point.closed ≡ Some why
     closes_second why e = sym (ap (λ (m : Machine). (course m (of_second events)).point.closed) machine_is) ∙ sym s.at.closed_is ∙ e
@@ -218,7 +240,8 @@ module _ (first last : Desked) (peer peer' first_count count limit : ℕ) (same 
       at_second = s.at.open_is (sym s.at.closed_is ∙ open_b)
 
       opens_b : Opens true (machine_in b) b.line heard_up (octets_in (of_second events))
-      opens_b = opens_so true (machine_in b) b.line (course (machine_in b) (of_second events)).point heard_up (octets_in (of_second events)) open_b (λ down. at_second) k.speaks.1
+      opens_b = opens_so true (machine_in b) b.line (course (machine_in b) (of_second events)).point heard_up (octets_in (of_second events)) open_b
+          (λ down. at_second) k.speaks.1
 
       opens : Opens true (announcer config (needs_of sending.rules)) b.line heard_up (octets_in (of_second events))
       opens = subst (λ (m : Machine). Opens true m b.line heard_up (octets_in (of_second events))) machine_is opens_b
@@ -242,7 +265,8 @@ module _ (first last : Desked) (peer peer' first_count count limit : ℕ) (same 
         ∙ sym (ap (λ (p : Phase). is_established p.state) (at_second open_b).phase_is)
         ∙ sym (open_settled b.line open_b) ∙ e
 
-    ends_early : is_ended (standing_at_desk last peer) ≡ false → is_settled b.line ≡ false → length (octets_in (of_first events)) < limit → heard_up < limit → now.first.left ≡ [] → now.second.left ≡ []
+    ends_early : is_ended (standing_at_desk last peer) ≡ false → is_settled b.line ≡ false → length (octets_in (of_first events)) < limit
+        → heard_up < limit → now.first.left ≡ [] → now.second.left ≡ []
         → EndsEarly config whose sending last peer limit (of_first events) (of_second events) replied now
     ends_early alive e few few_up none other =
         let open_b : b.line.closed ≡ None = (unsettled b.line e).0 in
@@ -294,12 +318,14 @@ module _ (first last : Desked) (peer peer' first_count count limit : ℕ) (same 
         unanswered : s.parts ≡ [] → (g : Bool) → b.started ≡ g → Fronts config whose sending announced (octets_in (of_second events))
         unanswered none true g = begun_so answer (ap (λ (z : List ℕ). z ++ answer) (only none ∙ open_is g))
         unanswered none false g =
-            begun_so (opening ++ answer) (ap (λ (z : List ℕ). z ++ (opening ++ answer)) (only none ∙ opening_is ∙ ap (λ (x : Bool). if x then opening else []) g))
+            begun_so (opening ++ answer) (ap (λ (z : List ℕ). z ++ (opening ++ answer)) (only none ∙ opening_is
+            ∙ ap (λ (x : Bool). if x then opening else []) g))
 
         no_parts : (more : List (Option Sent)) → None ∷ more ≡ [] → ⊥
         no_parts more e = cc
 
-        went : (p : Past b s.four (of_second events) s.parts) → (g : Bool) → b.started ≡ g → Fronts config whose sending announced (octets_in (of_second events))
+        went : (p : Past b s.four (of_second events) s.parts) → (g : Bool) → b.started ≡ g
+            → Fronts config whose sending announced (octets_in (of_second events))
         went p true g = record {
           behind = [];
           four = s.four;
@@ -319,13 +345,16 @@ module _ (first last : Desked) (peer peer' first_count count limit : ℕ) (same 
 
     -- what nothing hinders
     module _ (u : IsUnhindered config whose sending limit (moments_of events) announced replied) where
-      limit_never : (limit ≤ length (octets_in (of_first events))) ⊎ MetLimit (announcer config (needs_of sending.rules)) limit (octets_in (of_second events)) → ⊥
+      limit_never : (limit ≤ length (octets_in (of_first events)))
+          ⊎ MetLimit (announcer config (needs_of sending.rules)) limit (octets_in (of_second events)) → ⊥
       limit_never (inl l) = reaches_never (octets_in (of_first events)) now.first.left announced limit k.read_first u.announced_within l
-      limit_never (inr l) = let m = l.met in reaches_never (octets_in (of_second events)) now.second.left replied limit k.read_second u.replied_within (omega (arith, m))
+      limit_never (inr l) = let m = l.met in
+          reaches_never (octets_in (of_second events)) now.second.left replied limit k.read_second u.replied_within (omega (arith, m))
 
       first_never : b.line.closed ≡ None → (why : Closed) → standing_at_desk last peer ≡ Ended why → ⊥
       first_never open_b why e =
-          never_first config whose sending u.can peer whose_is (of_first events) replied why (closes_first why e) now.first.left announced (octets_in (of_second events)) k.read_first
+          never_first config whose sending u.can peer whose_is (of_first events) replied why (closes_first why e) now.first.left announced
+          (octets_in (of_second events)) k.read_first
           (fronts open_b) (timely_one config true events u.timely) now.second.left k.read_second u.may_hold
 
     -- the receiving end is open
@@ -345,15 +374,18 @@ module _ (first last : Desked) (peer peer' first_count count limit : ℕ) (same 
 
       replies_form : (replied ≡ []) ⊎ ((n : ℕ) × (replied ≡ reply_to config WaitOpen ++ keepalives n))
       replies_form =
-          subst (λ (z : List ℕ). (z ≡ []) ⊎ ((n : ℕ) × (z ≡ reply_to config WaitOpen ++ keepalives n))) (sym reply_is) (replies config whose (of_first events) open_course)
+          subst (λ (z : List ℕ). (z ≡ []) ⊎ ((n : ℕ) × (z ≡ reply_to config WaitOpen ++ keepalives n))) (sym reply_is)
+          (replies config whose (of_first events) open_course)
 
       second_never : IsUnhindered config whose sending limit (moments_of events) announced replied → (why : Closed) → b.line.closed ≡ Some why → ⊥
       second_never u why e =
           none-some why
-          (sym (teller_stays config whose sending (of_second events) now.second.left replied u.can (sym k.read_second) replies_form (timely_one config false events u.timely)) ∙ closes_second why e)
+          (sym (teller_stays config whose sending (of_second events) now.second.left replied u.can (sym k.read_second) replies_form
+          (timely_one config false events u.timely)) ∙ closes_second why e)
 
       -- the announcing end has said its OPEN, and nothing is in flight
-      unsettled_never : IsUnhindered config whose sending limit (moments_of events) announced replied → is_settled b.line ≡ false → started ≡ true → now.first.left ≡ [] → now.second.left ≡ [] → ⊥
+      unsettled_never : IsUnhindered config whose sending limit (moments_of events) announced replied → is_settled b.line ≡ false → started ≡ true
+          → now.first.left ≡ [] → now.second.left ≡ [] → ⊥
       unsettled_never u down go none_first none_second =
           by replies_form (down_second down)
         where
@@ -369,15 +401,18 @@ module _ (first last : Desked) (peer peer' first_count count limit : ℕ) (same 
           has_replied : replied ≡ [] → ⊥
           has_replied none =
               none-some (own_message config whose sending, rest)
-              (sym (unread config whose sending u.can (of_first events) [] rest open_course (sym reply_is ∙ none) (append-nil (octets_in (of_first events)) ∙ announced_is)).0
+              (sym (unread config whose sending u.can (of_first events) [] rest open_course (sym reply_is
+              ∙ none) (append-nil (octets_in (of_first events)) ∙ announced_is)).0
               ∙ ap first_message announced_is ∙ open_first config whose sending rest)
 
-          by : (replied ≡ []) ⊎ ((n : ℕ) × (replied ≡ reply_to config WaitOpen ++ keepalives n)) → is_established (told_by config sending (of_second events)).point.phase.state ≡ false → ⊥
+          by : (replied ≡ []) ⊎ ((n : ℕ) × (replied ≡ reply_to config WaitOpen ++ keepalives n))
+              → is_established (told_by config sending (of_second events)).point.phase.state ≡ false → ⊥
           by (inl silent) is_down = has_replied silent
           by (inr m) is_down =
               never
               (sym (teller_up config whose sending (of_second events) m.0 u.can (sym heard_all ∙ m.1)
-              (teller_stays config whose sending (of_second events) now.second.left replied u.can (sym k.read_second) replies_form (timely_one config false events u.timely))) ∙ is_down)
+              (teller_stays config whose sending (of_second events) now.second.left replied u.can (sym k.read_second) replies_form
+              (timely_one config false events u.timely))) ∙ is_down)
 
       module _ (open_b : b.line.closed ≡ None) (up : is_settled b.line ≡ true) (none : now.first.left ≡ []) (all : ahead_of b started ≡ 0) where
         left : unsaid started + (length b.sending.rules - b.appended) ≡ 0
@@ -394,7 +429,8 @@ module _ (first last : Desked) (peer peer' first_count count limit : ℕ) (same 
             by false h = absurd cc
 
         past : Past b s.four (of_second events) s.parts
-        past = past_of b.line.phase.state b s.four (of_second events) s.parts (unawaited b.line.phase.state (sym (open_settled b.line open_b) ∙ up)) (s.began open_b)
+        past = past_of b.line.phase.state b s.four (of_second events) s.parts (unawaited b.line.phase.state (sym (open_settled b.line open_b) ∙ up))
+            (s.began open_b)
 
         said_so : announced ≡ open_sent config whose sending ++ woven (text_sent config whose s.four sending) (None ∷ past.0.0)
         said_so = said_past open_b has_begun past
@@ -404,8 +440,10 @@ module _ (first last : Desked) (peer peer' first_count count limit : ℕ) (same 
 
         four_so : CanArrive config whose sending → s.four ≡ true
         four_so can =
-            meets config whose sending s.four (octets_in (of_second events)) now.second.left replied can (subst (λ (c : Config). TookOpen c s.four (octets_in (of_second events))) b_config past.1.1) k.read_second
-            (subst (λ (z : List ℕ). (z ≡ []) ⊎ ((more : List ℕ) × (z ≡ reply_to config WaitOpen ++ more))) (sym reply_is) (answers config whose (of_first events) open_course))
+            meets config whose sending s.four (octets_in (of_second events)) now.second.left replied can
+            (subst (λ (c : Config). TookOpen c s.four (octets_in (of_second events))) b_config past.1.1) k.read_second
+            (subst (λ (z : List ℕ). (z ≡ []) ⊎ ((more : List ℕ) × (z ≡ reply_to config WaitOpen ++ more))) (sym reply_is)
+            (answers config whose (of_first events) open_course))
 
         updates_so : CanArrive config whose sending
             → bounded_session config peer announced ≡ (map (update_sent config whose sending) sending.rules, still (phase Established true config.hold_time))
@@ -417,7 +455,8 @@ module _ (first last : Desked) (peer peer' first_count count limit : ℕ) (same 
             ∙ sym (ap (λ (c : Config). (bounded_session c peer (octets_in (of_first events))).1) config_is) ∙ got.found in
             whole
             ∙ bounded_still whose.max_routes (session_from config whose at_start announced) got.phase found
-            ∙ ap (session_from config whose at_start) (said_so ∙ ap (λ (f : Bool). open_sent config whose sending ++ woven (text_sent config whose f sending) (None ∷ past.0.0)) (four_so can))
+            ∙ ap (session_from config whose at_start) (said_so
+            ∙ ap (λ (f : Bool). open_sent config whose sending ++ woven (text_sent config whose f sending) (None ∷ past.0.0)) (four_so can))
             ∙ all_arrive config whose sending past.0.0 can rules_so
 
         arrives : length (octets_in (of_first events)) < limit → heard_up < limit
@@ -432,7 +471,8 @@ module _ (first last : Desked) (peer peer' first_count count limit : ℕ) (same 
           rules_are = rules_so;
           said_is = said_so;
           kept =
-              sym (ap without_rules past.0.1) ∙ sym (append-nil (without_rules s.parts)) ∙ ap (λ (z : List ℕ). without_rules s.parts ++ z) (sym (s.unended open_b)) ∙ s.kept
+              sym (ap without_rules past.0.1) ∙ sym (append-nil (without_rules s.parts))
+              ∙ ap (λ (z : List ℕ). without_rules s.parts ++ z) (sym (s.unended open_b)) ∙ s.kept
               ∙ ap (λ (m : Machine). (course m (of_second events)).text) machine_is;
           four_is = four_so;
           updates = updates_so;
@@ -449,17 +489,20 @@ module _ (first last : Desked) (peer peer' first_count count limit : ℕ) (same 
       by events announced replied now k st true up =
           let is : ending ≡ Done = e ∙ ap (λ (z : Bool). if z then Done else EndedEarly) up in (
             subst (λ (x : Ending). PairsSo x config whose sending last peer limit events announced replied now) (sym is)
-                (arrives events announced replied now k (at_peer ∙ st.open_first) (none_there b.line.closed st.open_second) up st.heard_first (st.all up) st.within_first st.within_second),
+                (arrives events announced replied now k (at_peer ∙ st.open_first) (none_there b.line.closed st.open_second) up st.heard_first
+                (st.all up) st.within_first st.within_second),
             λ u. is,
           )
       by events announced replied now k st false down = (
-        subst (λ (x : Ending). PairsSo x config whose sending last peer limit events announced replied now) (sym (e ∙ ap (λ (z : Bool). if z then Done else EndedEarly) down))
+        subst (λ (x : Ending). PairsSo x config whose sending last peer limit events announced replied now)
+            (sym (e ∙ ap (λ (z : Bool). if z then Done else EndedEarly) down))
             (ends_early events announced replied now k (at_peer ∙ st.open_first) down st.within_first st.within_second st.heard_first (st.heard_second down)),
         λ u. absurd (unsettled_never events announced replied now k (at_peer ∙ st.open_first) u down st.begun st.heard_first (st.heard_second down)),
       )
 
   first_so : (ending : Ending) → Exchanges FirstOver s0 s1 a0 a1 end limit t0 t1 moments moments'
-      → ((why : Closed) → standing_at_desk last peer ≡ Ended why → ending ≡ WasClosed why) → PairsOver ending config whose sending last peer limit t0 t1 moments moments'
+      → ((why : Closed) → standing_at_desk last peer ≡ Ended why → ending ≡ WasClosed why)
+      → PairsOver ending config whose sending last peer limit t0 t1 moments moments'
   first_so ending x is =
       pairs_so ending FirstOver x
       (λ events announced replied now k st.
@@ -484,7 +527,11 @@ module _ (first last : Desked) (peer peer' first_count count limit : ℕ) (same 
   limit_so x = pairs_so AtLimit MetIt x (λ events announced replied now k st.
       let open_b : b.line.closed ≡ None = none_there b.line.closed st.1.0 in
       let met = by events announced replied now k open_b st.1.1 in (
-        record { receives = receives_so events announced replied now k (at_peer ∙ st.0); alive = alive_second events announced replied now k open_b; met = met },
+        record {
+          receives = receives_so events announced replied now k (at_peer ∙ st.0);
+          alive = alive_second events announced replied now k open_b;
+          met = met;
+        },
         λ u. absurd (limit_never events announced replied now k u met),
       ))
     where
@@ -494,7 +541,8 @@ module _ (first last : Desked) (peer peer' first_count count limit : ℕ) (same 
       by events announced replied now k open_b (inl l) = inl l
       by events announced replied now k open_b (inr l) = inr (met_by (opens events announced replied now k open_b) limit l)
 
-  pub pairs_as : (talk : Talk) (ending : Ending) → Exchanges talk s0 s1 a0 a1 end limit t0 t1 moments moments' → EndsTalk talk (standing_at_desk last peer) b.line ending
+  pub pairs_as : (talk : Talk) (ending : Ending) → Exchanges talk s0 s1 a0 a1 end limit t0 t1 moments moments'
+      → EndsTalk talk (standing_at_desk last peer) b.line ending
       → PairsOver ending config whose sending last peer limit t0 t1 moments moments'
   pairs_as AllSaid ending x e = done_so ending x e
   pairs_as FirstOver ending x is = first_so ending x is

@@ -1,6 +1,12 @@
 -- What messages leave of a phase: past its OPEN the machine of an announcing end answers nothing, and the hold time that an
 -- end agreed on stays as long as the session does; before the OPEN there is none.
-use Rattle.fs_peering.proofs.Words.{Closed, Config, Established, Fault, Handed, Machine, Memory, Message, MessageFault, Needs, NoFamily, Notified, Open, Phase, State, Times, Update, UpdateFault, WaitKeep, WaitOpen, announcer, at_fault, faulted, first_message, is_established, keepalive_to, no_farewell, not_taken, notice_of, notified, open_of, opened, parts_of, phase, runs, runs_by, shuts, step_by, taken, taken_in, takes, transition_at, transition_by, updates, wrong_at, Last, closed, plays, session_by, still, ◌≡◌, ◌==◌, ℕ, List, [], ◌∷◌, ◌++◌, Bool, true, false, if◌then◌else◌, min, Option, Some, None, Result, Ok, Err, refl, ap, sym, ◌∙◌, subst, ◌⊎◌, inl, inr, ran, runs_none, runs_step, Shows, told, going, plays_none, plays_step, last_update}
+use Rattle.fs_peering.proofs.Words.{Closed, Config, Established, Fault, Handed, Machine, Memory, Message, MessageFault, Needs, NoFamily, Notified}
+use Rattle.fs_peering.proofs.Words.{Open, Phase, State, Times, Update, UpdateFault, WaitKeep, WaitOpen, announcer, at_fault, faulted, first_message}
+use Rattle.fs_peering.proofs.Words.{is_established, keepalive_to, no_farewell, not_taken, notice_of, notified, open_of, opened, parts_of, phase, runs}
+use Rattle.fs_peering.proofs.Words.{runs_by, shuts, step_by, taken, taken_in, takes, transition_at, transition_by, updates, wrong_at, Last, closed}
+use Rattle.fs_peering.proofs.Words.{plays, session_by, still, ◌≡◌, ◌==◌, ℕ, List, [], ◌∷◌, ◌++◌, Bool, true, false, if◌then◌else◌, min, Option, Some}
+use Rattle.fs_peering.proofs.Words.{None, Result, Ok, Err, refl, ap, sym, ◌∙◌, subst, ◌⊎◌, inl, inr, ran, runs_none, runs_step, Shows, told, going}
+use Rattle.fs_peering.proofs.Words.{plays_none, plays_step, last_update}
 use Rattle.std.proofs.lemmas.Bool.{true≢false as never}
 use Rattle.fs_speaker.specs.declared.State.TheVariants.{Closed as IsClosed}
 
@@ -39,10 +45,14 @@ either now false x y p q = q
 module _ (machine : Machine) where
   goes_opened : (now : Phase) (r : Result Open MessageFault) → awaits_open now.state ≡ true → GoesTo now (opened machine r)
   goes_opened now (Ok found) e =
-      either now (machine.lacks found) (Err NoFamily) (taken (phase WaitKeep found.four (min machine.offer found.hold_time)) None) tt (refl, λ h. absurd (never (sym e ∙ h)))
+      either now (machine.lacks found) (Err NoFamily) (taken (phase WaitKeep found.four (min machine.offer found.hold_time)) None) tt (
+        refl,
+        λ h. absurd (never (sym e ∙ h)),
+      )
   goes_opened now (Err fault) e = tt
 
-  goes_updates : (four : Bool) (hold : ℕ) (r : Result (Option Update) UpdateFault) → GoesTo (phase Established four hold) (updates (phase Established four hold) r)
+  goes_updates : (four : Bool) (hold : ℕ) (r : Result (Option Update) UpdateFault)
+      → GoesTo (phase Established four hold) (updates (phase Established four hold) r)
   goes_updates four hold (Ok update) = (refl, λ e. record { four_is = refl; hold_is = refl; past = refl; up = λ h. refl })
   goes_updates four hold (Err fault) = tt
 
@@ -65,7 +75,8 @@ module _ (machine : Machine) where
 
   pub goes_on : (now : Phase) (message : Message) → GoesTo now (transition_by machine now message)
   goes_on now message =
-      either now (message.kind == 3) (Err (notified (notice_of message.body))) (transition_at machine now.state now.four now.hold message) tt (goes_at now.state now.four now.hold message)
+      either now (message.kind == 3) (Err (notified (notice_of message.body))) (transition_at machine now.state now.four now.hold message) tt
+      (goes_at now.state now.four now.hold message)
 
 pub silent : (why : Closed) → at_fault no_farewell why ≡ []
 silent (Fault code subcode) = refl
@@ -84,7 +95,8 @@ module _ (config : Config) (needs : Needs) where
   machine = announcer config needs
 
   -- so by one step
-  pub step_goes : (now next : Phase) (octets behind : List ℕ) (update : Option Update) → awaits_open now.state ≡ false → step_by machine now octets ≡ takes next update behind → Goes now next
+  pub step_goes : (now next : Phase) (octets behind : List ℕ) (update : Option Update) → awaits_open now.state ≡ false
+      → step_by machine now octets ≡ takes next update behind → Goes now next
   step_goes now next octets behind update e h =
       let shows : Shows machine now octets (takes next update behind) = subst (Shows machine now octets) h (told machine now octets) in
       (subst (GoesTo now) shows.2 (goes_on machine now shows.0)).1 e
@@ -103,25 +115,29 @@ module _ (config : Config) (needs : Needs) where
   runs_quiet : (messages : List Message) (now : Phase) (times : Times) (waiting : List ℕ) (wrong : Option MessageFault) → awaits_open now.state ≡ false
       → Quiet now (runs machine now times messages waiting wrong)
   runs_quiet [] now times waiting None e =
-      subst (Quiet now) (sym (runs_none machine now times waiting None)) (record { text_is = refl; goes = λ h. record { four_is = refl; hold_is = refl; past = e; up = λ u. u } })
+      subst (Quiet now) (sym (runs_none machine now times waiting None))
+      (record { text_is = refl; goes = λ h. record { four_is = refl; hold_is = refl; past = e; up = λ u. u } })
   runs_quiet [] now times waiting (Some fault) e =
       subst (Quiet now) (sym (runs_none machine now times waiting (Some fault))) (shut_quiet now now times (faulted fault))
   runs_quiet (message ∷ messages) now times waiting wrong e =
       subst (Quiet now) (sym (runs_step machine now times message messages waiting wrong))
       (by (λ next f. runs_quiet messages next (taken_in now.state times) waiting wrong f) (transition_by machine now message) (goes_on machine now message))
     where
-      by : ((next : Phase) → awaits_open next.state ≡ false → Quiet next (runs machine next (taken_in now.state times) messages waiting wrong)) → (made : Made) → GoesTo now made
+      by : ((next : Phase) → awaits_open next.state ≡ false → Quiet next (runs machine next (taken_in now.state times) messages waiting wrong))
+          → (made : Made) → GoesTo now made
           → Quiet now (ran machine now times made (λ next. runs machine next (taken_in now.state times) messages waiting wrong))
       by rest (Ok next) g =
           let later = rest next.0 g.0 in
           record {
-            text_is = ap (λ (z : List ℕ). z ++ (runs machine next.0 (taken_in now.state times) messages waiting wrong).text) (answers_none now.state e) ∙ later.text_is;
+            text_is = ap (λ (z : List ℕ). z ++ (runs machine next.0 (taken_in now.state times) messages waiting wrong).text)
+                (answers_none now.state e) ∙ later.text_is;
             goes = λ h. goes_then now next.0 _ (g.1 e) (later.goes h);
           }
       by rest (Err why) g = shut_quiet now now times why
 
   pub quiet_by : (now : Phase) (times : Times) (octets : List ℕ) → awaits_open now.state ≡ false → Quiet now (runs_by machine now times octets)
-  quiet_by now times octets e = runs_quiet (parts_of first_message octets).0 now times (parts_of first_message octets).1 (wrong_at (parts_of first_message octets).1) e
+  quiet_by now times octets e = runs_quiet (parts_of first_message octets).0 now times (parts_of first_message octets).1
+      (wrong_at (parts_of first_message octets).1) e
 
 pub same_still : (a b : Phase) → still a ≡ still b → a ≡ b
 same_still a b e = cc
@@ -131,7 +147,8 @@ closed_still why last e = cc
 
 module _ (machine : Machine) where
   -- an end past its OPEN stays past it, as it was agreed
-  plays_on : (messages : List Message) (now last : Phase) (wrong : Option MessageFault) → awaits_open now.state ≡ false → (plays machine now messages wrong).1 ≡ still last
+  plays_on : (messages : List Message) (now last : Phase) (wrong : Option MessageFault) → awaits_open now.state ≡ false
+      → (plays machine now messages wrong).1 ≡ still last
       → Goes now last
   plays_on [] now last None e h =
       subst (Goes now) (same_still now last (sym (ap (λ (z : List Update × Last). z.1) (plays_none machine now None)) ∙ h))
@@ -142,7 +159,8 @@ module _ (machine : Machine) where
       by (λ next f k. plays_on messages next last wrong f k) (transition_by machine now message) (goes_on machine now message)
       (sym (ap (λ (z : List Update × Last). z.1) (plays_step machine now message messages wrong)) ∙ h)
     where
-      by : ((next : Phase) → awaits_open next.state ≡ false → (plays machine next messages wrong).1 ≡ still last → Goes next last) → (made : Made) → GoesTo now made
+      by : ((next : Phase) → awaits_open next.state ≡ false → (plays machine next messages wrong).1 ≡ still last → Goes next last) → (made : Made)
+          → GoesTo now made
           → (going made (λ next. plays machine next messages wrong)).1 ≡ still last → Goes now last
       by rest (Ok next) k g = goes_then now next.0 last (k.1 e) (rest next.0 k.0 (sym (last_update next.1 (plays machine next.0 messages wrong)) ∙ g))
       by rest (Err why) k g = absurd (closed_still why last g)
@@ -156,14 +174,16 @@ module _ (machine : Machine) where
 
   pub runs_unheld : (messages : List Message) (now : Phase) (times : Times) (waiting : List ℕ) (wrong : Option MessageFault) → Unheld now
       → Unheld (runs machine now times messages waiting wrong).point.phase
-  runs_unheld [] now times waiting None u = subst (λ (p : Phase). Unheld p) (sym (ap (λ (m : Handed). m.point.phase) (runs_none machine now times waiting None))) u
+  runs_unheld [] now times waiting None u =
+      subst (λ (p : Phase). Unheld p) (sym (ap (λ (m : Handed). m.point.phase) (runs_none machine now times waiting None))) u
   runs_unheld [] now times waiting (Some fault) u =
       subst (λ (p : Phase). Unheld p) (sym (ap (λ (m : Handed). m.point.phase) (runs_none machine now times waiting (Some fault)))) u
   runs_unheld (message ∷ messages) now times waiting wrong u =
       subst (λ (p : Phase). Unheld p) (sym (ap (λ (m : Handed). m.point.phase) (runs_step machine now times message messages waiting wrong)))
       (by (λ next v. runs_unheld messages next (taken_in now.state times) waiting wrong v) (transition_by machine now message) (goes_on machine now message))
     where
-      by : ((next : Phase) → Unheld next → Unheld (runs machine next (taken_in now.state times) messages waiting wrong).point.phase) → (made : Made) → GoesTo now made
+      by : ((next : Phase) → Unheld next → Unheld (runs machine next (taken_in now.state times) messages waiting wrong).point.phase) → (made : Made)
+          → GoesTo now made
           → Unheld (ran machine now times made (λ next. runs machine next (taken_in now.state times) messages waiting wrong)).point.phase
       by rest (Ok next) k = rest next.0 (λ w. absurd (never (sym w ∙ k.0)))
       by rest (Err why) k = u

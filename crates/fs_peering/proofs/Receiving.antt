@@ -1,5 +1,12 @@
 -- A receiving end that hears a piece at a moment.
-use Rattle.fs_peering.proofs.{Words.{Closed, Config, Desked, Down, Ended, Expires, Fault, Handed, HandsPeer, Keeps, Machine, Peer, PeerIs, Played, Plays, Point, Quiet, Replied, RepliesBehind, StaysPlayed, Tick, TicksPeer, Times, at_moment, begins, fresh, hand, handed, live, notice_text, peer_of, pending, point, receiver, runs_by, session_at, standing_at_desk, tick_at, ticked, ticks, times, written_now, ◌≡◌, ◌==◌, ◌⊎◌, inl, inr, ℕ, ◌+◌, max, List, [], ◌∷◌, ◌++◌, length, Bool, true, false, if◌then◌else◌, Option, Some, None, Result, Ok, Err, OnOk, refl, ap, sym, ◌∙◌, subst, arith, append_assoc, append-nil, length-append, IsSome, option_map, moment_stays, nobody, ticked_by, standing_by, Standing, Hears, Pieces, octets_in, HasClosed, IsHearing, Receives, StandsBy, is_ended, tape_of, course_of, after, hears}, Courses.{course_more, octets_more}}
+use Rattle.fs_peering.proofs.Words.{Closed, Config, Desked, Down, Ended, Expires, Fault, Handed, HandsPeer, Keeps, Machine, Peer, PeerIs, Played}
+use Rattle.fs_peering.proofs.Words.{Plays, Point, Quiet, Replied, RepliesBehind, StaysPlayed, Tick, TicksPeer, Times, at_moment, begins, fresh, hand}
+use Rattle.fs_peering.proofs.Words.{handed, live, notice_text, peer_of, pending, point, receiver, runs_by, session_at, standing_at_desk, tick_at}
+use Rattle.fs_peering.proofs.Words.{ticked, ticks, times, written_now, ◌≡◌, ◌==◌, ◌⊎◌, inl, inr, ℕ, ◌+◌, max, List, [], ◌∷◌, ◌++◌, length, Bool, true}
+use Rattle.fs_peering.proofs.Words.{false, if◌then◌else◌, Option, Some, None, Result, Ok, Err, OnOk, refl, ap, sym, ◌∙◌, subst, arith, append_assoc}
+use Rattle.fs_peering.proofs.Words.{append-nil, length-append, IsSome, option_map, moment_stays, nobody, ticked_by, standing_by, Standing, Hears}
+use Rattle.fs_peering.proofs.Words.{Pieces, octets_in, HasClosed, IsHearing, Receives, StandsBy, is_ended, tape_of, course_of, after, hears}
+use Rattle.fs_peering.proofs.Courses.{course_more, octets_more}
 use Rattle.std.proofs.lemmas.Bool.{true≢false as never}
 use Rattle.fs_base.proofs.NumberTests.{eq_itself}
 use Rattle.fs_speaker.specs.{Session.{Live}, declared.Standing.TheVariants.{Live as LiveIn}}
@@ -20,20 +27,24 @@ life_tape peer octets = by (peer == peer) (eq_itself peer)
     by false e = absurd cc
 
 -- the same life at each number: the same desk
-same_lives : (config : Config) (items others : List Item) (desk : Desked) → ((number : ℕ) → life number items ≡ life number others) → Played config items desk → Played config others desk
+same_lives : (config : Config) (items others : List Item) (desk : Desked) → ((number : ℕ) → life number items ≡ life number others)
+    → Played config items desk → Played config others desk
 same_lives config items others desk same p = record {
   config_is = p.config_is;
   held_is = p.held_is;
   listed = p.listed;
   sessions = p.sessions;
-  each = λ number. subst (λ (l : Option (List ℕ)). PeerIs config (peer_of number config.peers) l (session_at number desk.sessions) number desk.held) (same number) (p.each number);
+  each = λ number. subst (λ (l : Option (List ℕ)). PeerIs config (peer_of number config.peers) l (session_at number desk.sessions) number desk.held)
+      (same number) (p.each number);
 }
 
-one_tape : (peer : ℕ) (octets piece : List ℕ) (number : ℕ) → life number (tape_of peer octets ++ received peer piece ∷ []) ≡ life number (tape_of peer (octets ++ piece))
+one_tape : (peer : ℕ) (octets piece : List ℕ) (number : ℕ)
+    → life number (tape_of peer octets ++ received peer piece ∷ []) ≡ life number (tape_of peer (octets ++ piece))
 one_tape peer octets piece number = by (peer == number)
   where
     by : (b : Bool)
-        → (if b then Some ((if b then octets else []) ++ ((if b then piece else []) ++ [])) else None) ≡ (if b then Some ((if b then octets ++ piece else []) ++ []) else None)
+        → (if b then Some ((if b then octets else []) ++ ((if b then piece else []) ++ [])) else None)
+        ≡ (if b then Some ((if b then octets ++ piece else []) ++ []) else None)
     by true = ap Some (sym (append_assoc octets piece []))
     by false = refl
 
@@ -47,8 +58,10 @@ no_octets_yet peer number = by (peer == number)
     by true = refl
     by false = refl
 
-retaped : (config : Config) (peer : ℕ) (octets piece : List ℕ) (desk : Desked) → Played config (tape_of peer octets ++ received peer piece ∷ []) desk → Played config (tape_of peer (octets ++ piece)) desk
-retaped config peer octets piece desk p = same_lives config (tape_of peer octets ++ received peer piece ∷ []) (tape_of peer (octets ++ piece)) desk (one_tape peer octets piece) p
+retaped : (config : Config) (peer : ℕ) (octets piece : List ℕ) (desk : Desked) → Played config (tape_of peer octets ++ received peer piece ∷ []) desk
+    → Played config (tape_of peer (octets ++ piece)) desk
+retaped config peer octets piece desk p =
+    same_lives config (tape_of peer octets ++ received peer piece ∷ []) (tape_of peer (octets ++ piece)) desk (one_tape peer octets piece) p
 
 -- the session of a peer that has come up
 pub record Upright (config : Config) (peer : ℕ) (whose : Peer) (octets : List ℕ) (desk : Desked) : Type 0 where
@@ -56,23 +69,28 @@ pub record Upright (config : Config) (peer : ℕ) (whose : Peer) (octets : List 
   pub session_is : session_at peer desk.sessions ≡ Some session
   pub up : IsUp config whose peer octets session desk.held
 
-pub upright : (config : Config) (peer : ℕ) (whose : Peer) (octets : List ℕ) (desk : Desked) → peer_of peer config.peers ≡ Some whose → Played config (tape_of peer octets) desk
+pub upright : (config : Config) (peer : ℕ) (whose : Peer) (octets : List ℕ) (desk : Desked) → peer_of peer config.peers ≡ Some whose
+    → Played config (tape_of peer octets) desk
     → Upright config peer whose octets desk
 upright config peer whose octets desk q p =
     by (session_at peer desk.sessions) refl
     (subst (λ (o : Option Peer). PeerIs config o (Some octets) (session_at peer desk.sessions) peer desk.held) q
-    (subst (λ (l : Option (List ℕ)). PeerIs config (peer_of peer config.peers) l (session_at peer desk.sessions) peer desk.held) (life_tape peer octets) (p.each peer)))
+    (subst (λ (l : Option (List ℕ)). PeerIs config (peer_of peer config.peers) l (session_at peer desk.sessions) peer desk.held)
+    (life_tape peer octets) (p.each peer)))
   where
-    by : (o : Option Live) → session_at peer desk.sessions ≡ o → PeerIs config (Some whose) (Some octets) o peer desk.held → Upright config peer whose octets desk
+    by : (o : Option Live) → session_at peer desk.sessions ≡ o → PeerIs config (Some whose) (Some octets) o peer desk.held
+        → Upright config peer whose octets desk
     by None e k = absurd k
     by (Some session) e k = record { session = session; session_is = e; up = k }
 
 -- how it stands with it
-pub stands_open : (desk : Desked) (peer : ℕ) (session : Live) → session_at peer desk.sessions ≡ Some session → session.closed ≡ None → standing_at_desk desk peer ≡ LiveIn session.phase.state
+pub stands_open : (desk : Desked) (peer : ℕ) (session : Live) → session_at peer desk.sessions ≡ Some session → session.closed ≡ None
+    → standing_at_desk desk peer ≡ LiveIn session.phase.state
 stands_open desk peer session there alive =
     ap standing_by there ∙ ap (λ (c : Option Closed). elim c [ Some why ↦ Ended why | None ↦ LiveIn session.phase.state ]) alive
 
-stands_ended : (desk : Desked) (peer : ℕ) (session : Live) (why : Closed) → session_at peer desk.sessions ≡ Some session → session.closed ≡ Some why → standing_at_desk desk peer ≡ Ended why
+stands_ended : (desk : Desked) (peer : ℕ) (session : Live) (why : Closed) → session_at peer desk.sessions ≡ Some session → session.closed ≡ Some why
+    → standing_at_desk desk peer ≡ Ended why
 stands_ended desk peer session why there shut =
     ap standing_by there ∙ ap (λ (c : Option Closed). elim c [ Some w ↦ Ended w | None ↦ LiveIn session.phase.state ]) shut
 
@@ -146,8 +164,10 @@ module _ (old new : Desked) (peer moment : ℕ) (whose : Peer) (heard : Pieces) 
     still_played e =
         stays (e ∙ sym (stands_open old peer h.session h.session_is h.alive)) nobody old.config (tape_of peer (octets_in heard)) h.played
 
-    woke : (later : Times) (tick : Tick) → now ≡ with_times later h.session → at_moment moment later ≡ later → tick_at h.session.phase.hold (at_moment moment h.session.times) ≡ tick
-        → point (pending h.session.framing) h.session.phase later None ≡ (ticks tick (pending h.session.framing) h.session.phase (at_moment moment h.session.times)).point
+    woke : (later : Times) (tick : Tick) → now ≡ with_times later h.session → at_moment moment later ≡ later
+        → tick_at h.session.phase.hold (at_moment moment h.session.times) ≡ tick
+        → point (pending h.session.framing) h.session.phase later None
+        ≡ (ticks tick (pending h.session.framing) h.session.phase (at_moment moment h.session.times)).point
         → out' ≡ out ++ (ticks tick (pending h.session.framing) h.session.phase (at_moment moment h.session.times)).text
         → Woke old new peer moment whose heard out out'
     woke later tick e m t p s =
@@ -157,7 +177,8 @@ module _ (old new : Desked) (peer moment : ℕ) (whose : Peer) (heard : Pieces) 
           session_is = there;
           alive = alive;
           played = still_played (stands_open new peer now there alive ∙ ap (λ (l : Live). LiveIn l.phase.state) e);
-          point_is = ap point_of e ∙ ap (λ (c : Option Closed). point (pending h.session.framing) h.session.phase later c) h.alive ∙ p ∙ sym (ap (λ (made : Handed). made.point) (ticked_here tick t));
+          point_is = ap point_of e ∙ ap (λ (c : Option Closed). point (pending h.session.framing) h.session.phase later c) h.alive ∙ p
+              ∙ sym (ap (λ (made : Handed). made.point) (ticked_here tick t));
           moved_is = ap (λ (l : Live). at_moment moment l.times) e ∙ m ∙ ap (λ (l : Live). l.times) (sym e);
           said_is = s ∙ ap (λ (made : Handed). out ++ made.text) (sym (ticked_here tick t));
         }
@@ -183,12 +204,14 @@ module _ (old new : Desked) (peer moment : ℕ) (whose : Peer) (heard : Pieces) 
       → Woke old new peer moment whose heard out out' ⊎ Slept old new peer moment whose heard out out'
   wakes ticked stays =
       let t = subst TicksOf h.session_is ticked in
-      let there : session_at peer new.sessions ≡ Some t.0 = t.1.1 peer ∙ ap (λ (b : Bool). if b then Some t.0 else session_at peer old.sessions) (eq_itself peer) in
+      let there : session_at peer new.sessions ≡ Some t.0 = t.1.1 peer
+      ∙ ap (λ (b : Bool). if b then Some t.0 else session_at peer old.sessions) (eq_itself peer) in
       made t.0 there stays (tick_at h.session.phase.hold (at_moment moment h.session.times)) refl
       (subst (λ (c : Option Closed). TicksIn c peer moment h.session t.0 old.held new.held out out') h.alive t.1.0)
 
 -- the hold time has expired: nothing more is heard
-pub hears_slept : (old new : Desked) (peer moment : ℕ) (whose : Peer) (heard : Pieces) (said piece out out' : List ℕ) (config_is : new.config ≡ old.config) (count' : ℕ)
+pub hears_slept : (old new : Desked) (peer moment : ℕ) (whose : Peer) (heard : Pieces) (said piece out out' : List ℕ)
+    (config_is : new.config ≡ old.config) (count' : ℕ)
     → IsHearing old peer whose heard said → peer_of peer old.config.peers ≡ Some whose → count' ≡ length (octets_in (heard ++ (moment, piece) ∷ []))
     → Slept old new peer moment whose heard out out'
     → (more : List ℕ) × ((out' ≡ out ++ more) × Receives new peer count' (heard ++ (moment, piece) ∷ []) (said ++ more))
@@ -215,7 +238,8 @@ hears_slept old new peer moment whose heard said piece out out' config_is count'
 
 -- The octets of the piece.
 module _ (old mid new : Desked) (peer moment : ℕ) (whose : Peer) (heard : Pieces) (said piece a b c : List ℕ) (count' : ℕ)
-    (config_mid : mid.config ≡ old.config) (config_new : new.config ≡ mid.config) (h : IsHearing old peer whose heard said) (q : peer_of peer old.config.peers ≡ Some whose)
+    (config_mid : mid.config ≡ old.config) (config_new : new.config ≡ mid.config) (h : IsHearing old peer whose heard said)
+    (q : peer_of peer old.config.peers ≡ Some whose)
     (k : count' ≡ length (octets_in (heard ++ (moment, piece) ∷ []))) (w : Woke old mid peer moment whose heard a b)
     (plays : Plays (received peer piece) mid new) (replies : RepliesBehind peer mid piece b c) (hands : HandsPeer peer mid new piece b c) where
   abbrev config : Config
@@ -250,7 +274,8 @@ module _ (old mid new : Desked) (peer moment : ℕ) (whose : Peer) (heard : Piec
   same_session : before_is.session ≡ w.session
   same_session = ap (λ (x : Option Live). elim x [ None ↦ before_is.session | Some l ↦ l ]) (sym before_is.session_is ∙ w.session_is)
 
-  fed_before : IsFed config whose (octets_in heard) w.session None (subst (λ (l : Live). IsUp config whose peer (octets_in heard) l mid.held) same_session before_is.up).updates
+  fed_before : IsFed config whose (octets_in heard) w.session None
+      (subst (λ (l : Live). IsUp config whose peer (octets_in heard) l mid.held) same_session before_is.up).updates
   fed_before =
       let up = subst (λ (l : Live). IsUp config whose peer (octets_in heard) l mid.held) same_session before_is.up in
       subst (λ (x : Option Closed). IsFed config whose (octets_in heard) w.session x up.updates) w.alive up.fed
@@ -286,27 +311,34 @@ module _ (old mid new : Desked) (peer moment : ℕ) (whose : Peer) (heard : Piec
       let made = hands nobody config (tape_of peer (octets_in heard)) w.session now_is.session w.played w.session_is now_is.session_is alive in
       let later : Handed = hand machine moment woken.point piece in
       let text : c ≡ b ++ later.text = made.grows ∙ ap (λ (m : Handed). b ++ m.text) handed_then in
-      let step : course_of config whose all ≡ after (course_of config whose heard) (hears machine (moment, piece) (course_of config whose heard).point) = course_more machine heard (moment, piece) in
+      let step : course_of config whose all
+      ≡ after (course_of config whose heard) (hears machine (moment, piece) (course_of config whose heard).point) =
+      course_more machine heard (moment, piece) in
       answer (woken.text ++ later.text)
       (text ∙ ap (λ (z : List ℕ). z ++ later.text) w.said_is ∙ append_assoc a woken.text later.text)
-      (subst (λ (at : Standing). StandsBy at new peer whose all (said ++ (woken.text ++ later.text))) (sym (stands_open new peer now_is.session now_is.session_is alive))
+      (subst (λ (at : Standing). StandsBy at new peer whose all (said ++ (woken.text ++ later.text)))
+      (sym (stands_open new peer now_is.session now_is.session_is alive))
       (record {
         session = now_is.session;
         session_is = now_is.session_is;
         alive = alive;
         played = played_now;
-        point_is = made.point_is ∙ ap (λ (m : Handed). m.point) handed_then ∙ sym (ap (λ (m : Handed). m.point) step) ∙ ap (λ (d : Config). (course_of d whose all).point) (sym config_is);
-        said_is = ap (λ (z : List ℕ). z ++ (woken.text ++ later.text)) h.said_is ∙ sym (ap (λ (m : Handed). m.text) step) ∙ ap (λ (d : Config). (course_of d whose all).text) (sym config_is);
+        point_is = made.point_is ∙ ap (λ (m : Handed). m.point) handed_then ∙ sym (ap (λ (m : Handed). m.point) step)
+            ∙ ap (λ (d : Config). (course_of d whose all).point) (sym config_is);
+        said_is = ap (λ (z : List ℕ). z ++ (woken.text ++ later.text)) h.said_is ∙ sym (ap (λ (m : Handed). m.text) step)
+            ∙ ap (λ (d : Config). (course_of d whose all).text) (sym config_is);
       }))
 
   -- or its octets close it
   closes_there : (why : Closed) → now_is.session.closed ≡ Some why → Answer
   closes_there why shut =
       let fed = subst (λ (x : Option Closed). IsFed config whose (octets_in heard ++ piece) now_is.session x now_is.up.updates) shut now_is.up.fed in
-      let replied = subst (λ (l : Option (List ℕ)). Replied config peer l piece b c) (life_tape peer (octets_in heard)) (replies nobody config (tape_of peer (octets_in heard)) w.played) in
+      let replied = subst (λ (l : Option (List ℕ)). Replied config peer l piece b c) (life_tape peer (octets_in heard))
+      (replies nobody config (tape_of peer (octets_in heard)) w.played) in
       answer (woken.text ++ replied.0)
       (replied.1 ∙ ap (λ (z : List ℕ). z ++ replied.0) w.said_is ∙ append_assoc a woken.text replied.0)
-      (subst (λ (at : Standing). StandsBy at new peer whose all (said ++ (woken.text ++ replied.0))) (sym (stands_ended new peer now_is.session why now_is.session_is shut))
+      (subst (λ (at : Standing). StandsBy at new peer whose all (said ++ (woken.text ++ replied.0)))
+      (sym (stands_ended new peer now_is.session why now_is.session_is shut))
       (subst (λ (d : Config). HasClosed d peer whose all (said ++ (woken.text ++ replied.0)) why) (sym config_is) (record {
         earlier = heard;
         moment = moment;
@@ -330,7 +362,8 @@ module _ (old mid new : Desked) (peer moment : ℕ) (whose : Peer) (heard : Piec
       by (Some why) e = closes_there why e
 
 -- the clock at a moment, and a piece
-module _ (old mid : Desked) (peer count count' moment : ℕ) (piece a b : List ℕ) (config_mid : mid.config ≡ old.config) (alive : is_ended (standing_at_desk old peer) ≡ false)
+module _ (old mid : Desked) (peer count count' moment : ℕ) (piece a b : List ℕ) (config_mid : mid.config ≡ old.config)
+    (alive : is_ended (standing_at_desk old peer) ≡ false)
     (k : count' ≡ count + length piece) (ticked : TicksPeer peer moment old mid a b) (stays : StaysPlayed peer old mid) where
   module _ (heard : Pieces) (said : List ℕ) (r : Receives old peer count heard said) where
     abbrev Woken : Type 0
@@ -354,17 +387,20 @@ module _ (old mid : Desked) (peer count count' moment : ℕ) (piece a b : List �
       by (inr s) = hears_slept old mid peer moment r.whose heard said piece a b config_mid count' (h heard said r) r.whose_is (counted heard said r) s
 
   -- it goes on
-  pub hears_piece : (new : Desked) (c : List ℕ) → new.config ≡ mid.config → is_ended (standing_at_desk mid peer) ≡ false → Plays (received peer piece) mid new → RepliesBehind peer mid piece b c
+  pub hears_piece : (new : Desked) (c : List ℕ) → new.config ≡ mid.config → is_ended (standing_at_desk mid peer) ≡ false
+      → Plays (received peer piece) mid new → RepliesBehind peer mid piece b c
       → HandsPeer peer mid new piece b c → Hears (Receives old peer count) (Receives new peer count') moment piece a c
   hears_piece new c config_new open_ plays replies hands heard said r = by (either_way heard said r)
     where
       by : Woken heard said r → (more : List ℕ) × ((c ≡ a ++ more) × Receives new peer count' (heard ++ (moment, piece) ∷ []) (said ++ more))
       by (inl w) =
-          hears_woke old mid new peer moment r.whose heard said piece a b c count' config_mid config_new (h heard said r) r.whose_is (counted heard said r) w plays replies hands
+          hears_woke old mid new peer moment r.whose heard said piece a b c count' config_mid config_new (h heard said r) r.whose_is
+          (counted heard said r) w plays replies hands
       by (inr s) = absurd (never (sym (ap is_ended s.ended) ∙ open_))
 
 -- before the first octet
-pub receives_none : (own_config : Config) (peer : ℕ) (desk : Desked) (number : ℕ) (count : ℕ) → IsSome (peer_of peer own_config.peers) → desk.config ≡ own_config → Played own_config (came_up peer ∷ []) desk
+pub receives_none : (own_config : Config) (peer : ℕ) (desk : Desked) (number : ℕ) (count : ℕ) → IsSome (peer_of peer own_config.peers)
+    → desk.config ≡ own_config → Played own_config (came_up peer ∷ []) desk
     → session_at peer desk.sessions ≡ begins own_config peer → number ≡ peer → count ≡ 0 → Receives desk number count [] []
 receives_none own_config peer desk number count some same_config played begun same none =
     subst (λ (n : ℕ). Receives desk n count [] []) (sym same)
@@ -373,7 +409,8 @@ receives_none own_config peer desk number count some same_config played begun sa
     by : (o : Option Peer) → peer_of peer own_config.peers ≡ o → IsSome o → Receives desk peer 0 [] []
     by None e h = absurd (never (sym h))
     by (Some whose) e h =
-        let fresh_there : session_at peer desk.sessions ≡ Some (live own_config whose fresh) = begun ∙ ap (option_map (λ (p : Peer). live own_config p fresh)) e in
+        let fresh_there : session_at peer desk.sessions ≡ Some (live own_config whose fresh) = begun
+        ∙ ap (option_map (λ (p : Peer). live own_config p fresh)) e in
         record {
           whose = whose;
           whose_is = ap (λ (c : Config). peer_of peer c.peers) same_config ∙ e;
@@ -381,7 +418,8 @@ receives_none own_config peer desk number count some same_config played begun sa
             session = live own_config whose fresh;
             session_is = fresh_there;
             alive = refl;
-            played = subst (λ (c : Config). Played c (tape_of peer []) desk) (sym same_config) (same_lives own_config (came_up peer ∷ []) (tape_of peer []) desk (no_octets_yet peer) played);
+            played = subst (λ (c : Config). Played c (tape_of peer []) desk) (sym same_config)
+                (same_lives own_config (came_up peer ∷ []) (tape_of peer []) desk (no_octets_yet peer) played);
             point_is = refl;
             said_is = refl;
           });
@@ -393,7 +431,8 @@ on_octets (Ok t) a b c f = f a b c
 on_octets (Err e) a b c f = tt
 
 -- and it is open
-pub open_new : (own_config : Config) (peer : ℕ) (desk : Desked) → IsSome (peer_of peer own_config.peers) → session_at peer desk.sessions ≡ begins own_config peer
+pub open_new : (own_config : Config) (peer : ℕ) (desk : Desked) → IsSome (peer_of peer own_config.peers)
+    → session_at peer desk.sessions ≡ begins own_config peer
     → is_ended (standing_at_desk desk peer) ≡ false
 open_new own_config peer desk some begun = by (peer_of peer own_config.peers) refl some
   where

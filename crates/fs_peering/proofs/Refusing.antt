@@ -1,5 +1,13 @@
 -- Two joined ends of which the announcing one has the identifier 0.0.0.0: its OPEN is refused, and nothing else closes them.
-use Rattle.fs_peering.proofs.Words.{Closed, Config, Fault, Handed, IsUnnamed, Last, Machine, Message, MessageFault, Notified, Open, Peer, Phase, Point, Sending, Step, Times, Update, at_fault, at_moment, at_start, closed, first_message, hand, handed, notice_text, open_body, open_sent, opened, point, runs_by, session_by, shuts, step_by, stops, takes, tick_at, ticked, ticks, transition_by, waits, ◌≡◌, ◌⊎◌, inl, inr, ◌<◌, ◌^◌, ◌==◌, ℕ, Bool, true, false, if◌then◌else◌, List, [], ◌∷◌, ◌++◌, length, take, drop, Option, Some, None, Result, Err, Ok, refl, ap, sym, ◌∙◌, subst, append_assoc, append-nil, arith, take-append-drop, none-some, same_Some, open_unnamed, message_stable, text_first, World, at_first, happens, next_said, run, runs_on, says, sent, taker_comes, taker_of, teller_comes, teller_of, open_fits, runs_stops, runs_waits, closed_hand, open_hand, ticked_by, Shows, told, machine_stops, step_found, ClosesUnnamed}
+use Rattle.fs_peering.proofs.Words.{Closed, Config, Fault, Handed, IsUnnamed, Last, Machine, Message, MessageFault, Notified, Open, Peer, Phase}
+use Rattle.fs_peering.proofs.Words.{Point, Sending, Step, Times, Update, at_fault, at_moment, at_start, closed, first_message, hand, handed}
+use Rattle.fs_peering.proofs.Words.{notice_text, open_body, open_sent, opened, point, runs_by, session_by, shuts, step_by, stops, takes, tick_at}
+use Rattle.fs_peering.proofs.Words.{ticked, ticks, transition_by, waits, ◌≡◌, ◌⊎◌, inl, inr, ◌<◌, ◌^◌, ◌==◌, ℕ, Bool, true, false, if◌then◌else◌}
+use Rattle.fs_peering.proofs.Words.{List, [], ◌∷◌, ◌++◌, length, take, drop, Option, Some, None, Result, Err, Ok, refl, ap, sym, ◌∙◌, subst}
+use Rattle.fs_peering.proofs.Words.{append_assoc, append-nil, arith, take-append-drop, none-some, same_Some, open_unnamed, message_stable, text_first}
+use Rattle.fs_peering.proofs.Words.{World, at_first, happens, next_said, run, runs_on, says, sent, taker_comes, taker_of, teller_comes, teller_of}
+use Rattle.fs_peering.proofs.Words.{open_fits, runs_stops, runs_waits, closed_hand, open_hand, ticked_by, Shows, told, machine_stops, step_found}
+use Rattle.fs_peering.proofs.Words.{ClosesUnnamed}
 use Rattle.std.proofs.lemmas.Bool.{true≢false as never}
 use Rattle.fs_speaker.{specs.declared.event.Event.{Event, TheVariants.{Send, Deliver, Tick as TickEvent, Cut}}, proofs.Unnamed.{same_why}}
 
@@ -64,7 +72,13 @@ module _ (machine : Machine) (why : Closed) (text : List ℕ) (message : Message
       by : Comes times (heard ++ piece) (runs_by machine at_start times (heard ++ piece)) → Made (heard ++ piece) now (hand machine moment now piece)
       by (inl w) =
           let at : hand machine moment now piece ≡ handed (point (heard ++ piece) at_start times None) [] [] = made_is ∙ w in
-          inl (i.0, (ap (λ (h : Handed). h.point.closed) at, (ap (λ (h : Handed). h.point.phase) at, (ap (λ (h : Handed). h.point.waiting) at, ap (λ (h : Handed). h.text) at))))
+          inl (
+            i.0,
+            (
+              ap (λ (h : Handed). h.point.closed) at,
+              (ap (λ (h : Handed). h.point.phase) at, (ap (λ (h : Handed). h.point.waiting) at, ap (λ (h : Handed). h.text) at)),
+            ),
+          )
       by (inr s) =
           let at : hand machine moment now piece ≡ shuts machine at_start times why = made_is ∙ s in
           inr (inl (i.0, (ap (λ (h : Handed). h.point.closed) at, ap (λ (h : Handed). h.text) at)))
@@ -77,7 +91,8 @@ module _ (machine : Machine) (why : Closed) (text : List ℕ) (message : Message
       (inr (ap (λ (h : Handed). h.point.closed) at ∙ shut), (ap (λ (h : Handed). h.text) at, ap (λ (h : Handed). h.point.closed) at))
   end_tick heard now moment (inl i) =
       let at : ticked moment now ≡ handed (point now.waiting at_start (at_moment moment now.times) None) [] [] =
-      ap (ticked_by moment now) i.0 ∙ ap (λ (p : Phase). ticks (tick_at p.hold (at_moment moment now.times)) now.waiting p (at_moment moment now.times)) i.1.0 in (
+      ap (ticked_by moment now) i.0 ∙ ap
+      (λ (p : Phase). ticks (tick_at p.hold (at_moment moment now.times)) now.waiting p (at_moment moment now.times)) i.1.0 in (
         inl (ap (λ (h : Handed). h.point.closed) at, (ap (λ (h : Handed). h.point.phase) at, ap (λ (h : Handed). h.point.waiting) at ∙ i.1.1)),
         (ap (λ (h : Handed). h.text) at, ap (λ (h : Handed). h.point.closed) at ∙ sym i.0),
       )
@@ -146,7 +161,8 @@ module _ (config : Config) (peer : Peer) (sending : Sending) (un : IsUnnamed con
 
   refuses : transition_by taker at_start (record { kind = 1; body = body }) ≡ Err (Fault 2 3)
   refuses = ap (λ (r : Result Open MessageFault). opened taker r)
-      (open_unnamed peer.asn config.hold_time sending.id un.asn.small un.hold_time.small (zero_small sending.id un.unnamed) un.asn.some un.hold_time.not_one un.hold_time.not_two un.unnamed)
+      (open_unnamed peer.asn config.hold_time sending.id un.asn.small un.hold_time.small
+      (zero_small sending.id un.unnamed) un.asn.some un.hold_time.not_one un.hold_time.not_two un.unnamed)
 
   is_told : transition_by teller at_start (record { kind = 3; body = 2 ∷ 3 ∷ [] }) ≡ Err (Notified 2 3)
   is_told = refl
@@ -172,13 +188,24 @@ module _ (config : Config) (peer : Peer) (sending : Sending) (un : IsUnnamed con
     flies : w.taker.closed ≡ None → Flies octets w.to_taker (opening ++ more) w.cut
     goes : w.teller.closed ≡ None → Flies heard w.to_teller said w.cut
 
-  more_said : (octets flying more text : List ℕ) (cut : Bool) → Flies octets flying (opening ++ more) cut → Flies octets (sent cut flying text) (opening ++ (more ++ text)) cut
+  more_said : (octets flying more text : List ℕ) (cut : Bool) → Flies octets flying (opening ++ more) cut
+      → Flies octets (sent cut flying text) (opening ++ (more ++ text)) cut
   more_said octets flying more text cut f =
       subst (λ (z : List ℕ). Flies octets (sent cut flying text) z cut) (append_assoc opening more text) (flies_said octets flying (opening ++ more) text cut f)
 
   -- the announcing end said something
-  teller_said : (w : World) (r : Refused w) (now : Point) (flying heard : List ℕ) (text : List ℕ) → IsTeller heard now → (now.closed ≡ None → Flies heard flying r.said w.cut)
-      → (n : ℕ) → Refused (record { taker = w.taker; teller = now; to_taker = sent w.cut w.to_taker text; to_teller = flying; appended = n; cut = w.cut; taken = w.taken })
+  teller_said : (w : World) (r : Refused w) (now : Point) (flying heard : List ℕ) (text : List ℕ) → IsTeller heard now
+      → (now.closed ≡ None → Flies heard flying r.said w.cut)
+      → (n : ℕ) → Refused (record {
+        taker = w.taker;
+        teller = now;
+        to_taker = sent w.cut w.to_taker text;
+        to_teller = flying;
+        appended = n;
+        cut =
+            w.cut;
+        taken = w.taken;
+      })
   teller_said w r now flying heard text is goes n = record {
     octets = r.octets;
     heard = heard;
@@ -212,7 +239,8 @@ module _ (config : Config) (peer : Peer) (sending : Sending) (un : IsUnnamed con
       goes_on o = flies_said r.heard w.to_teller r.said made.text w.cut (r.goes o)
 
       -- so it stands, with this said
-      so : IsTaker (r.octets ++ piece) made.point → Said made.point.closed (r.said ++ made.text) → (made.point.closed ≡ None → w.taker.closed ≡ None) → Refused (taker_given w moment count)
+      so : IsTaker (r.octets ++ piece) made.point → Said made.point.closed (r.said ++ made.text) → (made.point.closed ≡ None → w.taker.closed ≡ None)
+          → Refused (taker_given w moment count)
       so is said opens = record {
         octets = r.octets ++ piece;
         heard = r.heard;
@@ -239,18 +267,21 @@ module _ (config : Config) (peer : Peer) (sending : Sending) (un : IsUnnamed con
           at (inl s) = absurd (none-some (Fault 2 3) (sym s.0 ∙ c))
           at (inr s) = s.1
 
-      from : Made taker (Fault 2 3) opening (record { kind = 1; body = body }) first_open refuses (r.octets ++ piece) w.taker made → Refused (taker_given w moment count)
+      from : Made taker (Fault 2 3) opening (record { kind = 1; body = body }) first_open refuses (r.octets ++ piece) w.taker made
+          → Refused (taker_given w moment count)
       from (inl m) =
           so (inl (m.1.0, (m.1.1.0, m.1.1.1.0))) (inl (m.1.0, ap (λ (z : List ℕ). r.said ++ z) m.1.1.1.1 ∙ append-nil r.said ∙ was_open m.0)) (λ o. m.0)
       from (inr (inl m)) =
           so (inr m.1.0) (inr (m.1.0, ap (λ (z : List ℕ). r.said ++ z) m.1.1 ∙ ap (λ (z : List ℕ). z ++ notice) (was_open m.0))) (λ o. m.0)
       from (inr (inr m)) =
-          so (inr m.1.0) (inr (m.1.0, ap (λ (z : List ℕ). r.said ++ z) m.1.1 ∙ append-nil r.said ∙ was_shut m.0)) (λ o. absurd (none-some (Fault 2 3) (sym o ∙ m.1.0)))
+          so (inr m.1.0) (inr (m.1.0, ap (λ (z : List ℕ). r.said ++ z) m.1.1 ∙ append-nil r.said ∙ was_shut m.0))
+          (λ o. absurd (none-some (Fault 2 3) (sym o ∙ m.1.0)))
 
       by : IsTaker r.octets w.taker → Refused (taker_given w moment count)
       by (inl i) =
           let f = r.flies i.0 in
-          from (end_hand taker (Fault 2 3) opening (record { kind = 1; body = body }) first_open refuses r.octets piece (drop count w.to_taker ++ f.0) r.more w.taker moment (inl i)
+          from (end_hand taker (Fault 2 3) opening (record { kind = 1; body = body }) first_open refuses r.octets piece
+          (drop count w.to_taker ++ f.0) r.more w.taker moment (inl i)
           (λ o. taken_front r.octets w.to_taker f.0 count ∙ f.1.0))
       by (inr c) =
           from (end_hand taker (Fault 2 3) opening (record { kind = 1; body = body }) first_open refuses r.octets piece [] [] w.taker moment (inr c)
@@ -263,17 +294,21 @@ module _ (config : Config) (peer : Peer) (sending : Sending) (un : IsUnnamed con
       piece : List ℕ
       piece = take count w.to_teller
 
-      so : IsTeller (r.heard ++ piece) (hand teller moment w.teller piece).point → ((hand teller moment w.teller piece).point.closed ≡ None → w.teller.closed ≡ None) → Refused (teller_given w moment count)
+      so : IsTeller (r.heard ++ piece) (hand teller moment w.teller piece).point
+          → ((hand teller moment w.teller piece).point.closed ≡ None → w.teller.closed ≡ None) → Refused (teller_given w moment count)
       so is opens =
-          teller_said w r (hand teller moment w.teller piece).point (drop count w.to_teller) (r.heard ++ piece) (hand teller moment w.teller piece).text is (λ o. flies_taken r.heard w.to_teller r.said w.cut count (r.goes (opens o))) w.appended
+          teller_said w r (hand teller moment w.teller piece).point (drop count w.to_teller) (r.heard ++ piece)
+          (hand teller moment w.teller piece).text is (λ o. flies_taken r.heard w.to_teller r.said w.cut count (r.goes (opens o))) w.appended
 
-      from : Made teller (Notified 2 3) notice (record { kind = 3; body = 2 ∷ 3 ∷ [] }) first_notice is_told (r.heard ++ piece) w.teller (hand teller moment w.teller piece) → Refused (teller_given w moment count)
+      from : Made teller (Notified 2 3) notice (record { kind = 3; body = 2 ∷ 3 ∷ [] }) first_notice is_told (r.heard ++ piece) w.teller
+          (hand teller moment w.teller piece) → Refused (teller_given w moment count)
       from (inl m) = so (inl (m.1.0, (m.1.1.0, m.1.1.1.0))) (λ o. m.0)
       from (inr (inl m)) = so (inr m.1.0) (λ o. m.0)
       from (inr (inr m)) = so (inr m.1.0) (λ o. absurd (none-some (Notified 2 3) (sym o ∙ m.1.0)))
 
       -- what it was handed is a front of the NOTIFICATION
-      fronts : (rest : List ℕ) → (r.heard ++ piece) ++ rest ≡ r.said → Said w.taker.closed r.said → (rest : List ℕ) × ((r.heard ++ piece) ++ rest ≡ notice ++ [])
+      fronts : (rest : List ℕ) → (r.heard ++ piece) ++ rest ≡ r.said → Said w.taker.closed r.said
+          → (rest : List ℕ) × ((r.heard ++ piece) ++ rest ≡ notice ++ [])
       fronts rest e (inl s) = (notice, ap (λ (z : List ℕ). z ++ notice) (nothing (r.heard ++ piece) rest (e ∙ s.1)))
       fronts rest e (inr s) = (rest, e ∙ s.1)
 
@@ -281,7 +316,8 @@ module _ (config : Config) (peer : Peer) (sending : Sending) (un : IsUnnamed con
       by (inl i) =
           let f = r.goes i.0 in
           let front = fronts (drop count w.to_teller ++ f.0) (taken_front r.heard w.to_teller f.0 count ∙ f.1.0) r.said_is in
-          from (end_hand teller (Notified 2 3) notice (record { kind = 3; body = 2 ∷ 3 ∷ [] }) first_notice is_told r.heard piece front.0 [] w.teller moment (inl i) (λ o. front.1))
+          from (end_hand teller (Notified 2 3) notice (record { kind = 3; body = 2 ∷ 3 ∷ [] }) first_notice is_told r.heard piece front.0 [] w.teller
+          moment (inl i) (λ o. front.1))
       by (inr c) =
           from (end_hand teller (Notified 2 3) notice (record { kind = 3; body = 2 ∷ 3 ∷ [] }) first_notice is_told r.heard piece [] [] w.teller moment (inr c)
           (λ o. absurd (none-some (Notified 2 3) (sym o ∙ c))))
@@ -364,5 +400,7 @@ module _ (config : Config) (peer : Peer) (sending : Sending) (un : IsUnnamed con
 
 pub closes_unnamed : ClosesUnnamed
 closes_unnamed config peer sending events un =
-    let r = refused_all config peer sending un events (at_first config peer sending) (refused_first config peer sending un) in
-    (taker_so config peer sending un (run config peer sending events).taker r.octets r.taker_is, teller_so config peer sending un (run config peer sending events).teller r.heard r.teller_is)
+    let r = refused_all config peer sending un events (at_first config peer sending) (refused_first config peer sending un) in (
+      taker_so config peer sending un (run config peer sending events).taker r.octets r.taker_is,
+      teller_so config peer sending un (run config peer sending events).teller r.heard r.teller_is,
+    )

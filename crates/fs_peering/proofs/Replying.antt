@@ -1,5 +1,10 @@
 -- What an open receiving end has said: nothing, or the answer to the OPEN and then KEEPALIVEs.
-use Rattle.fs_peering.proofs.{Words.{Closed, Config, Established, Handed, Machine, Message, MessageFault, Peer, Phase, Point, State, Times, Update, WaitKeep, WaitOpen, faulted, first_message, message_text, parts_of, receiver, reply_to, runs, runs_by, shuts, taken_in, transition_by, wrong_at, ◌≡◌, ◌⊎◌, inl, inr, ℕ, zero, suc, ◌+◌, arith, List, [], ◌∷◌, ◌++◌, drop, true, false, Option, Some, None, Result, Ok, Err, refl, ap, sym, ◌∙◌, subst, append_assoc, append-nil, none-some, ran, runs_none, runs_step, Pieces, course_of, after, hears, course}, Courses.{keepalives, Steps, by_pieces, lived, course_more}, Phases.{GoesTo, awaits_open, goes_on}}
+use Rattle.fs_peering.proofs.Words.{Closed, Config, Established, Handed, Machine, Message, MessageFault, Peer, Phase, Point, State, Times, Update}
+use Rattle.fs_peering.proofs.Words.{WaitKeep, WaitOpen, faulted, first_message, message_text, parts_of, receiver, reply_to, runs, runs_by, shuts}
+use Rattle.fs_peering.proofs.Words.{taken_in, transition_by, wrong_at, ◌≡◌, ◌⊎◌, inl, inr, ℕ, zero, suc, ◌+◌, arith, List, [], ◌∷◌, ◌++◌, drop, true}
+use Rattle.fs_peering.proofs.Words.{false, Option, Some, None, Result, Ok, Err, refl, ap, sym, ◌∙◌, subst, append_assoc, append-nil, none-some, ran}
+use Rattle.fs_peering.proofs.Words.{runs_none, runs_step, Pieces, course_of, after, hears, course}
+use Rattle.fs_peering.proofs.{Courses.{keepalives, Steps, by_pieces, lived, course_more}, Phases.{GoesTo, awaits_open, goes_on}}
 use Rattle.fs_speaker.specs.declared.State.TheVariants.{Closed as IsClosed}
 
 abbrev Made : Type 0
@@ -57,7 +62,8 @@ module _ (config : Config) (whose : Peer) where
           silent : later.text ≡ [] → reply_to config now.state ++ later.text ≡ reply_to config now.state
           silent t = ap (λ (z : List ℕ). reply_to config now.state ++ z) t ∙ append-nil (reply_to config now.state)
 
-          at : ((later.text ≡ []) × (later.point.phase ≡ next.0)) ⊎ ((later.text ≡ reply_to config next.0.state) × (awaits_open later.point.phase.state ≡ false))
+          at : ((later.text ≡ []) × (later.point.phase ≡ next.0))
+              ⊎ ((later.text ≡ reply_to config next.0.state) × (awaits_open later.point.phase.state ≡ false))
               → ((reply_to config now.state ++ later.text ≡ []) × (later.point.phase ≡ now))
               ⊎ ((reply_to config now.state ++ later.text ≡ reply_to config now.state) × (awaits_open later.point.phase.state ≡ false))
           at (inl w) = inr (silent w.0, ap (λ (p : Phase). awaits_open p.state) w.1 ∙ k.0)
@@ -65,7 +71,8 @@ module _ (config : Config) (whose : Peer) where
       by rest (Err why) k e = shut_answered now now times why e
 
   answered : (now : Phase) (times : Times) (octets : List ℕ) → Answered now (runs_by machine now times octets)
-  answered now times octets = runs_answered (parts_of first_message octets).0 now times (parts_of first_message octets).1 (wrong_at (parts_of first_message octets).1)
+  answered now times octets = runs_answered (parts_of first_message octets).0 now times (parts_of first_message octets).1
+      (wrong_at (parts_of first_message octets).1)
 
   -- it waits for the OPEN and has said nothing
   record Silent (made : Handed) : Type 0 where
@@ -93,7 +100,8 @@ module _ (config : Config) (whose : Peer) where
     said front back e f = ap (λ (z : List ℕ). z ++ (hears machine event now.point).text) e ∙ ap (λ (z : List ℕ). front ++ z) (s.text_is ∙ f)
 
     from_silent : Silent now
-        → ((later.text ≡ []) × (later.point.phase ≡ now.point.phase)) ⊎ ((later.text ≡ reply_to config now.point.phase.state) × (awaits_open later.point.phase.state ≡ false))
+        → ((later.text ≡ []) × (later.point.phase ≡ now.point.phase))
+        ⊎ ((later.text ≡ reply_to config now.point.phase.state) × (awaits_open later.point.phase.state ≡ false))
         → Silent both ⊎ Replied both
     from_silent n (inl w) = inl (record {
       text_is = said [] [] n.text_is (ap (λ (k : ℕ). keepalives k ++ later.text) (s.untimed n.hold_is) ∙ w.0);
@@ -110,7 +118,8 @@ module _ (config : Config) (whose : Peer) where
     })
 
     from_replied : Replied now
-        → ((later.text ≡ []) × (later.point.phase ≡ now.point.phase)) ⊎ ((later.text ≡ reply_to config now.point.phase.state) × (awaits_open later.point.phase.state ≡ false))
+        → ((later.text ≡ []) × (later.point.phase ≡ now.point.phase))
+        ⊎ ((later.text ≡ reply_to config now.point.phase.state) × (awaits_open later.point.phase.state ≡ false))
         → Replied both
     from_replied r a = by a
       where
@@ -125,7 +134,8 @@ module _ (config : Config) (whose : Peer) where
           past = ap (λ (p : Point). awaits_open p.phase.state) s.point_is ∙ e;
         }
 
-        by : ((later.text ≡ []) × (later.point.phase ≡ now.point.phase)) ⊎ ((later.text ≡ reply_to config now.point.phase.state) × (awaits_open later.point.phase.state ≡ false))
+        by : ((later.text ≡ []) × (later.point.phase ≡ now.point.phase))
+            ⊎ ((later.text ≡ reply_to config now.point.phase.state) × (awaits_open later.point.phase.state ≡ false))
             → Replied both
         by (inl w) = more w.0 (ap (λ (p : Phase). awaits_open p.state) w.1 ∙ r.past)
         by (inr m) = more (m.0 ∙ past_none now.point.phase.state r.past) m.1

@@ -1,5 +1,7 @@
 -- What may be announced can arrive.
-use Rattle.fs_peering.proofs.Words.{AreSendable, CanArrive, ComesBack, Config, IsSent, Peer, Sending, Sent, TakesFront, TakesNone, is_short, terms_of, update_sent, ◌≡◌, ◌<◌, ◌≤◌, ◌&&◌, ℕ, zero, suc, List, [], ◌∷◌, length, map, take, nat_le, nat_lt, Bool, true, refl, arith, nat_tests, AllByRecursion, list_all, run, AreRead, SendsFront}
+use Rattle.fs_peering.proofs.Words.{AreSendable, CanArrive, ComesBack, Config, IsSent, Peer, Sending, Sent, TakesFront, TakesNone, is_short, terms_of}
+use Rattle.fs_peering.proofs.Words.{update_sent, ◌≡◌, ◌<◌, ◌≤◌, ◌&&◌, ℕ, zero, suc, List, [], ◌∷◌, length, map, take, nat_le, nat_lt, Bool, true}
+use Rattle.fs_peering.proofs.Words.{refl, arith, nat_tests, AllByRecursion, list_all, run, AreRead, SendsFront}
 use Rattle.fs_base.proofs.{Lists.{each_both}, Bools.{and_parts}}
 use Rattle.fs_speaker.proofs.Returning.{comes_back}
 
@@ -11,7 +13,8 @@ few : (n : ℕ) → nat_le n 255 ≡ true → n ≤ 255
 few n e = grind (arith, nat_tests, e)
 
 module _ (config : Config) (peer : Peer) (sending : Sending) (read : AreRead config peer sending)
-    (can : ((nat_le (length sending.as_path) 255 && list_all (λ (asn : ℕ). nat_lt 0 asn) sending.as_path) && list_all (is_short (terms_of config peer true) sending.as_path) sending.rules) ≡ true) where
+    (can : ((nat_le (length sending.as_path) 255 && list_all (λ (asn : ℕ). nat_lt 0 asn) sending.as_path)
+    && list_all (is_short (terms_of config peer true) sending.as_path) sending.rules) ≡ true) where
   abbrev test : Sent → Bool
   test = is_short (terms_of config peer true) sending.as_path
 

@@ -1,5 +1,18 @@
 -- An announcing end that hears a piece at a moment.
-use Rattle.fs_peering.{proofs.{Words.{Announcing, Closed, Config, Established, Expires, Fault, Handed, IsAt, Lined, Machine, Peer, Phase, Point, SaysText, Sending, Sent, StandsAt, StartsWith, State, WaitKeep, WaitOpen, at_moment, first_text, hand, has_started, is_established, machine_in, message_text, needs_of, next_text, notice_text, one_sent, open_sent, runs_by, text_sent, tick_at, ticked, with_line, ◌≡◌, ◌⊎◌, inl, inr, ℕ, suc, zero, ◌+◌, List, [], ◌∷◌, ◌++◌, drop, arith, take, Bool, true, false, if◌then◌else◌, Option, Some, None, refl, ap, sym, ◌∙◌, subst, append_assoc, append-nil, flat_map-append, none-some, none_there, message_stable, closed_hand, HasHeard, SaysTo, before_all, is_settled, opening_of, stops_at, Hears, Pieces, Says, Stance, octets_in, Began, CountsTo, SaysOn, SaysUpTo, Speaks, TookOpen, part_text, rule_in, rules_in, text_in, without_rules, woven, course, begins_with}, Ahead.{next_of}, Counting.{counts_piece, counts_same, counts_text}, Hearing.{HeardSo, begins_early, hears_early, next_early, says_same}, Answering.{Opens, opens_by}, Phases.{Goes, awaits_open, quiet_by, unawaited, Quiet as IsQuiet}, Courses.{Steps, but_last, course_more, keepalives, octets_more, steps, woke_is}}, specs.Teller.{is_over}}
+use Rattle.fs_peering.proofs.Words.{Announcing, Closed, Config, Established, Expires, Fault, Handed, IsAt, Lined, Machine, Peer, Phase, Point}
+use Rattle.fs_peering.proofs.Words.{SaysText, Sending, Sent, StandsAt, StartsWith, State, WaitKeep, WaitOpen, at_moment, first_text, hand}
+use Rattle.fs_peering.proofs.Words.{has_started, is_established, machine_in, message_text, needs_of, next_text, notice_text, one_sent, open_sent}
+use Rattle.fs_peering.proofs.Words.{runs_by, text_sent, tick_at, ticked, with_line, ◌≡◌, ◌⊎◌, inl, inr, ℕ, suc, zero, ◌+◌, List, [], ◌∷◌, ◌++◌, drop}
+use Rattle.fs_peering.proofs.Words.{arith, take, Bool, true, false, if◌then◌else◌, Option, Some, None, refl, ap, sym, ◌∙◌, subst, append_assoc}
+use Rattle.fs_peering.proofs.Words.{append-nil, flat_map-append, none-some, none_there, message_stable, closed_hand, HasHeard, SaysTo, before_all}
+use Rattle.fs_peering.proofs.Words.{is_settled, opening_of, stops_at, Hears, Pieces, Says, Stance, octets_in, Began, CountsTo, SaysOn, SaysUpTo}
+use Rattle.fs_peering.proofs.Words.{Speaks, TookOpen, part_text, rule_in, rules_in, text_in, without_rules, woven, course, begins_with}
+use Rattle.fs_peering.proofs.{Ahead.{next_of}, Counting.{counts_piece, counts_same, counts_text}}
+use Rattle.fs_peering.proofs.Hearing.{HeardSo, begins_early, hears_early, next_early, says_same}
+use Rattle.fs_peering.proofs.Answering.{Opens, opens_by}
+use Rattle.fs_peering.proofs.Phases.{Goes, awaits_open, quiet_by, unawaited, Quiet as IsQuiet}
+use Rattle.fs_peering.proofs.Courses.{Steps, but_last, course_more, keepalives, octets_more, steps, woke_is}
+use Rattle.fs_peering.specs.Teller.{is_over}
 use Rattle.std.proofs.lemmas.Bool.{true≢false as never}
 use Rattle.fs_speaker.specs.declared.State.TheVariants.{Closed as IsClosed}
 
@@ -15,13 +28,15 @@ abbrev pub Past : Announcing → Bool → Pieces → List (Option Sent) → Type
 Past end four heard parts =
     ((more : List (Option Sent)) × (parts ≡ None ∷ more)) × ((four ≡ end.line.phase.four) × TookOpen end.config four (octets_in heard))
 
-pub past_of : (state : State) (end : Announcing) (four : Bool) (heard : Pieces) (parts : List (Option Sent)) → awaits_open state ≡ false → Began state end four heard parts → Past end four heard parts
+pub past_of : (state : State) (end : Announcing) (four : Bool) (heard : Pieces) (parts : List (Option Sent)) → awaits_open state ≡ false
+    → Began state end four heard parts → Past end four heard parts
 past_of WaitOpen end four heard parts e b = absurd (never e)
 past_of WaitKeep end four heard parts e b = b
 past_of Established end four heard parts e b = b
 past_of IsClosed end four heard parts e b = b
 
-of_past : (state : State) (end : Announcing) (four : Bool) (heard : Pieces) (parts : List (Option Sent)) → awaits_open state ≡ false → Past end four heard parts → Began state end four heard parts
+of_past : (state : State) (end : Announcing) (four : Bool) (heard : Pieces) (parts : List (Option Sent)) → awaits_open state ≡ false
+    → Past end four heard parts → Began state end four heard parts
 of_past WaitOpen end four heard parts e b = absurd (never e)
 of_past WaitKeep end four heard parts e b = b
 of_past Established end four heard parts e b = b
@@ -101,7 +116,8 @@ module _ (a : Announcing) (line : Lined) (heard : Pieces) (said : List ℕ) (mom
     lived_all earlier last e = subst (λ (z : Pieces). (course machine z).point.closed ≡ None) (but_last heard earlier (moment, piece) last e) alive
 
     -- the end closes: nothing is told of it but what it said
-    shut : (why : Closed) (more ending : List ℕ) (keeps : List (Option Sent)) → made.point.closed ≡ Some why → woke.text ++ made.text ≡ more → rules_in keeps ≡ []
+    shut : (why : Closed) (more ending : List ℕ) (keeps : List (Option Sent)) → made.point.closed ≡ Some why → woke.text ++ made.text ≡ more
+        → rules_in keeps ≡ []
         → more ≡ without_rules keeps ++ ending → said ++ more ≡ opening_of a ++ (woven (text_in a s.four) (s.parts ++ keeps) ++ ending) → Answer
     shut why more ending keeps c t n k text = (
       more,
@@ -125,10 +141,12 @@ module _ (a : Announcing) (line : Lined) (heard : Pieces) (said : List ℕ) (mom
     )
 
     -- what was said, with so much more
-    said_more : (keeps : List (Option Sent)) (ending : List ℕ) → s.ending ≡ [] → said ++ (woven (text_in a s.four) keeps ++ ending) ≡ opening_of a ++ (woven (text_in a s.four) (s.parts ++ keeps) ++ ending)
+    said_more : (keeps : List (Option Sent)) (ending : List ℕ) → s.ending ≡ []
+        → said ++ (woven (text_in a s.four) keeps ++ ending) ≡ opening_of a ++ (woven (text_in a s.four) (s.parts ++ keeps) ++ ending)
     said_more keeps ending none =
         ap (λ (z : List ℕ). z ++ (woven (text_in a s.four) keeps ++ ending))
-        (s.said_is ∙ ap (λ (z : List ℕ). opening_of a ++ (woven (text_in a s.four) s.parts ++ z)) none ∙ ap (λ (z : List ℕ). opening_of a ++ z) (append-nil (woven (text_in a s.four) s.parts)))
+        (s.said_is ∙ ap (λ (z : List ℕ). opening_of a ++ (woven (text_in a s.four) s.parts ++ z)) none
+        ∙ ap (λ (z : List ℕ). opening_of a ++ z) (append-nil (woven (text_in a s.four) s.parts)))
         ∙ append_assoc (opening_of a) (woven (text_in a s.four) s.parts) (woven (text_in a s.four) keeps ++ ending)
         ∙ ap (λ (z : List ℕ). opening_of a ++ z)
         (sym (append_assoc (woven (text_in a s.four) s.parts) (woven (text_in a s.four) keeps) ending)
@@ -163,7 +181,8 @@ module _ (a : Announcing) (line : Lined) (heard : Pieces) (said : List ℕ) (mom
               (s.said_is ∙ ap (λ (z : List ℕ). opening_of a ++ (woven (text_in a s.four) s.parts ++ z)) (s.unended open_a)
               ∙ ap (λ (z : List ℕ). opening_of a ++ z) (append-nil (woven (text_in a s.four) s.parts) ∙ same))
               ∙ append_assoc (opening_of a) (woven (text_in a four) s.parts) (woven (text_in a four) keeps)
-              ∙ ap (λ (z : List ℕ). opening_of a ++ z) (sym (woven_more (text_in a four) s.parts keeps) ∙ sym (append-nil (woven (text_in a four) (s.parts ++ keeps))));
+              ∙ ap (λ (z : List ℕ). opening_of a ++ z) (sym (woven_more (text_in a four) s.parts keeps)
+              ∙ sym (append-nil (woven (text_in a four) (s.parts ++ keeps))));
           kept = kept_all keeps (without_rules keeps) [] (t (λ sent. [])) (sym (append-nil (without_rules keeps)));
           lived = lived_all;
           unended = λ e. refl;
@@ -186,7 +205,8 @@ module _ (a : Announcing) (line : Lined) (heard : Pieces) (said : List ℕ) (mom
       -- past its OPEN
       past : awaits_open here.phase.state ≡ false → Answer
       past e =
-          let quiet : IsQuiet a.config (needs_of a.sending.rules) here.phase later = quiet_by a.config (needs_of a.sending.rules) here.phase k.times (here.waiting ++ piece) e in
+          let quiet : IsQuiet a.config (needs_of a.sending.rules) here.phase later =
+          quiet_by a.config (needs_of a.sending.rules) here.phase k.times (here.waiting ++ piece) e in
           let before : Past a s.four heard s.parts =
           past_of a.line.phase.state a s.four heard s.parts (ap (λ (p : Phase). awaits_open p.state) at_here.phase_is ∙ e) (s.began open_a) in
           goes_on s.four (keeps_of k.kept)
@@ -222,13 +242,16 @@ module _ (a : Announcing) (line : Lined) (heard : Pieces) (said : List ℕ) (mom
           by (inl w) =
               goes_on s.four [] (λ text. text_so ∙ w.text_is) refl refl
               (λ f.
-              subst (λ (state : State). Began state end s.four all (s.parts ++ [])) (sym (ap (λ (p : Phase). p.state) (line_phase f) ∙ ap (λ (p : Phase). p.state) w.phase_is ∙ e)) (
+              subst (λ (state : State). Began state end s.four all (s.parts ++ []))
+              (sym (ap (λ (p : Phase). p.state) (line_phase f) ∙ ap (λ (p : Phase). p.state) w.phase_is ∙ e)) (
                 append-nil s.parts ∙ before.0,
                 (
                   before.1.0,
                   (
-                    ap (λ (p : Phase). p.hold) (line_phase f) ∙ ap (λ (p : Phase). p.hold) w.phase_is ∙ sym (ap (λ (p : Phase). p.hold) at_here.phase_is) ∙ before.1.1.0,
-                    ap (λ (h : Handed). h.point.waiting) (course_more machine heard (moment, piece)) ∙ ap (λ (p : Point). p.waiting) k.point_is ∙ w.waiting_is ∙ octets_are,
+                    ap (λ (p : Phase). p.hold) (line_phase f) ∙ ap (λ (p : Phase). p.hold) w.phase_is
+                        ∙ sym (ap (λ (p : Phase). p.hold) at_here.phase_is) ∙ before.1.1.0,
+                    ap (λ (h : Handed). h.point.waiting) (course_more machine heard (moment, piece)) ∙ ap (λ (p : Point). p.waiting) k.point_is
+                        ∙ w.waiting_is ∙ octets_are,
                   ),
                 ),
               ))
@@ -236,7 +259,8 @@ module _ (a : Announcing) (line : Lined) (heard : Pieces) (said : List ℕ) (mom
               goes_on later.point.phase.four (None ∷ [])
               (λ text. text_so ∙ t.text_is ∙ sym (append-nil (message_text 4 []))) refl (no_parts later.point.phase.four)
               (λ f.
-              of_past line.phase.state end later.point.phase.four all (s.parts ++ None ∷ []) (ap (λ (p : Phase). awaits_open p.state) (line_phase f) ∙ t.past (later_open f)) (
+              of_past line.phase.state end later.point.phase.four all (s.parts ++ None ∷ []) (ap (λ (p : Phase). awaits_open p.state) (line_phase f)
+              ∙ t.past (later_open f)) (
                 ([], ap (λ (z : List (Option Sent)). z ++ None ∷ []) before.0),
                 (sym (ap (λ (p : Phase). p.four) (line_phase f)), subst (TookOpen a.config later.point.phase.four) octets_are (t.took (later_open f))),
               ))
@@ -301,7 +325,8 @@ begins_from a new started out out' e starts heard said s =
     began_same IsClosed b = b
 
 -- the UPDATE of the next rule
-pub says_next : (a new : Announcing) (started had : Bool) (out out' : List ℕ) → started ≡ true → a.line.closed ≡ None → SaysText (next_text a) had a new out out'
+pub says_next : (a new : Announcing) (started had : Bool) (out out' : List ℕ) → started ≡ true → a.line.closed ≡ None
+    → SaysText (next_text a) had a new out out'
     → Says (Speaks a started) (Speaks new started) out out'
 says_next a new started had out out' go alive says heard said s = by (is_established a.line.phase.state) refl
   where
@@ -310,11 +335,17 @@ says_next a new started had out out' go alive says heard said s = by (is_establi
 
     next_is : (b : Bool) → is_established a.line.phase.state ≡ b → next_text a ≡ (if b then texts else None)
     next_is b e =
-        ap (λ (c : Option Closed). if is_established (elim c [ Some why ↦ IsClosed | None ↦ a.line.phase.state ]) then texts else None) alive ∙ ap (λ (x : Bool). if x then texts else None) e
+        ap (λ (c : Option Closed). if is_established (elim c [ Some why ↦ IsClosed | None ↦ a.line.phase.state ]) then texts else None) alive
+        ∙ ap (λ (x : Bool). if x then texts else None) e
 
     same : new ≡ a → out' ≡ out → (more : List ℕ) × ((out' ≡ out ++ more) × Speaks new started heard (said ++ more))
-    same e f =
-        ([], (f ∙ sym (append-nil out), subst (Speaks new started heard) (sym (append-nil said)) (subst (λ (n : Announcing). Speaks n started heard said) (sym e) s)))
+    same e f = (
+      [],
+      (
+        f ∙ sym (append-nil out),
+        subst (Speaks new started heard) (sym (append-nil said)) (subst (λ (n : Announcing). Speaks n started heard said) (sym e) s),
+      ),
+    )
 
     sent_one : (text : List ℕ) → is_established a.line.phase.state ≡ true → texts ≡ Some text → new ≡ one_sent a → out' ≡ out ++ text
         → (more : List ℕ) × ((out' ≡ out ++ more) × Speaks new started heard (said ++ more))
@@ -336,7 +367,8 @@ says_next a new started had out out' go alive says heard said s = by (is_establi
               ∙ append_assoc (opening_of a) (woven (text_in a s.four) s.parts) text
               ∙ ap (λ (z : List ℕ). opening_of a ++ (woven (text_in a s.four) s.parts ++ z))
               (found.1.0 ∙ ap (λ (b : Bool). text_in a b sent) (sym past.1.0) ∙ sym (append-nil (text_in a s.four sent)))
-              ∙ ap (λ (z : List ℕ). opening_of a ++ z) (sym (woven_more (text_in a s.four) s.parts (Some sent ∷ [])) ∙ sym (append-nil (woven (text_in a s.four) (s.parts ++ Some sent ∷ []))));
+              ∙ ap (λ (z : List ℕ). opening_of a ++ z) (sym (woven_more (text_in a s.four) s.parts (Some sent ∷ []))
+              ∙ sym (append-nil (woven (text_in a s.four) (s.parts ++ Some sent ∷ []))));
           kept =
               append-nil (without_rules (s.parts ++ Some sent ∷ [])) ∙ woven_more (λ sent. []) s.parts (Some sent ∷ [])
               ∙ ap (λ (z : List ℕ). without_rules s.parts ++ z) (sym (s.unended alive)) ∙ s.kept;
@@ -350,10 +382,12 @@ says_next a new started had out out' go alive says heard said s = by (is_establi
       ),
     )
       where
-        found : (sent : Sent) × ((text ≡ text_sent a.config a.peer a.line.phase.four a.sending sent) × (take (a.appended + 1) a.sending.rules ≡ take a.appended a.sending.rules ++ sent ∷ []))
+        found : (sent : Sent) × ((text ≡ text_sent a.config a.peer a.line.phase.four a.sending sent)
+            × (take (a.appended + 1) a.sending.rules ≡ take a.appended a.sending.rules ++ sent ∷ []))
         found =
             let one : a.appended + 1 ≡ suc a.appended = omega arith in
-            let said : (sent : Sent) × ((text ≡ text_sent a.config a.peer a.line.phase.four a.sending sent) × (take (suc a.appended) a.sending.rules ≡ take a.appended a.sending.rules ++ sent ∷ [])) =
+            let said : (sent : Sent) × ((text ≡ text_sent a.config a.peer a.line.phase.four a.sending sent)
+            × (take (suc a.appended) a.sending.rules ≡ take a.appended a.sending.rules ++ sent ∷ [])) =
             next_of (text_sent a.config a.peer a.line.phase.four a.sending) a.appended a.sending.rules text t in
             (said.0, (said.1.0, ap (λ (n : ℕ). take n a.sending.rules) one ∙ said.1.1))
 
@@ -382,7 +416,8 @@ hears_piece b w c moment needed piece o1 o2 o3 alive call heard said s =
     subst (λ (n : Announcing). (more : List ℕ) × ((o3 ≡ o1 ++ more) × Speaks n true (heard ++ (moment, piece) ∷ []) (said ++ more)))
     (sym (call.took.0 ∙ ap (λ (n : Announcing). with_line n c.line) call.woke.0))
     (spoke b c.line heard said moment piece o1 o3 s (sym s.at.closed_is ∙ alive) (made.1 refl)
-    (made.0 ∙ ap (λ (z : List ℕ). z ++ (hand (machine_in b) moment woke.point piece).text) ticked_so.1 ∙ append_assoc o1 woke.text (hand (machine_in b) moment woke.point piece).text))
+    (made.0 ∙ ap (λ (z : List ℕ). z ++ (hand (machine_in b) moment woke.point piece).text) ticked_so.1
+    ∙ append_assoc o1 woke.text (hand (machine_in b) moment woke.point piece).text))
   where
     woke : Handed
     woke = ticked moment (course (machine_in b) heard).point
@@ -422,28 +457,33 @@ begins_on false a new started out out' e starts = begins_early a new started out
 pub begun_on : (on : Bool) (a : Announcing) (started : Bool) (out : List ℕ) → started ≡ true → Says (SaysOn on a started) (SaysOn on a true) out out
 begun_on on a started out e = subst (λ (b : Bool). Says (SaysOn on a started) (SaysOn on a b) out out) e (says_same (SaysOn on a started) out)
 
-next_by : (on : Bool) (a new : Announcing) (started had : Bool) (out out' : List ℕ) → started ≡ true → a.line.closed ≡ None → SaysText (next_text a) had a new out out'
+next_by : (on : Bool) (a new : Announcing) (started had : Bool) (out out' : List ℕ) → started ≡ true → a.line.closed ≡ None
+    → SaysText (next_text a) had a new out out'
     → Says (SaysOn on a started) (SaysOn on new started) out out'
 next_by true a new started had out out' go alive says = says_next a new started had out out' go alive says
 next_by false a new started had out out' go alive says = next_early a new started had out out' alive go says
 
-pub next_on : (on : Bool) (a new : Announcing) (started had : Bool) (count : ℕ) (out out' : List ℕ) → started ≡ true → a.line.closed ≡ None → SaysText (next_text a) had a new out out'
+pub next_on : (on : Bool) (a new : Announcing) (started had : Bool) (count : ℕ) (out out' : List ℕ) → started ≡ true → a.line.closed ≡ None
+    → SaysText (next_text a) had a new out out'
     → Says (SaysUpTo on a started count) (SaysUpTo on new started count) out out'
 next_on on a new started had count out out' go alive says =
-    counts_says on a new started started count out out' (counts_text on (next_text a) had a new count out out' says) (next_by on a new started had out out' go alive says)
+    counts_says on a new started started count out out' (counts_text on (next_text a) had a new count out out' says)
+    (next_by on a new started had out out' go alive says)
 
 pub opens_on : (on : Bool) (a new : Announcing) (started : Bool) (count : ℕ) (out out' : List ℕ) → before_all new ≡ before_all a → new.line ≡ a.line
     → Says (SaysOn on a started) (SaysOn on new true) out out' → Says (SaysUpTo on a started count) (SaysUpTo on new true count) out out'
 opens_on on a new started count out out' own same begins =
     counts_says on a new started true count out out' (counts_same on a new count count (ap machine_in own) same refl) begins
 
-hears_by : (on : Bool) (b w c : Announcing) (count count' moment needed : ℕ) (piece o1 o2 o3 : List ℕ) → is_over on b.line ≡ false → HeardSo on b w c moment needed piece o1 o2 o3
+hears_by : (on : Bool) (b w c : Announcing) (count count' moment needed : ℕ) (piece o1 o2 o3 : List ℕ) → is_over on b.line ≡ false
+    → HeardSo on b w c moment needed piece o1 o2 o3
     → ((octets : List ℕ) → CountsTo on (machine_in b) b.line count octets → CountsTo on (machine_in c) c.line count' (octets ++ piece))
     → Hears (SaysUpTo on b true count) (SaysUpTo on c true count') moment piece o1 o3
 hears_by true b w c count count' moment needed piece o1 o2 o3 over call counts heard said s =
     let h = hears_piece b w c moment needed piece o1 o2 o3 (none_there b.line.closed over) call heard said s.0 in
     (h.0, (h.1.0, (h.1.1, subst (CountsTo true (machine_in c) c.line count') (sym (octets_more heard moment piece)) (counts (octets_in heard) s.1))))
-hears_by false b w c count count' moment needed piece o1 o2 o3 over call counts heard said s = hears_early b w c count count' moment needed piece o1 o2 o3 call over counts heard said s
+hears_by false b w c count count' moment needed piece o1 o2 o3 over call counts heard said s =
+    hears_early b w c count count' moment needed piece o1 o2 o3 call over counts heard said s
 
 -- what it is when it isn't over
 early_on : (on : Bool) (line : Lined) → is_over on line ≡ false → on ≡ false → is_settled line ≡ false
@@ -459,7 +499,8 @@ hears_on on a b w c started was count count' moment needed piece o0 o1 o2 o3 ove
     begins_hears (SaysUpTo on a started count) (SaysUpTo on b true count) (SaysUpTo on c true count') moment piece o0 o1 o3
     (opens_on on a b started count o0 o1 own same begins)
     (hears_by on b w c count count' moment needed piece o1 o2 o3 over_b call
-    (counts_piece on b w c was piece needed count count' call.woke call.took call.hand call.counts (is ∙ ap is_settled (sym same)) added kept (early_on on b.line over_b)))
+    (counts_piece on b w c was piece needed count count' call.woke call.took call.hand call.counts (is
+    ∙ ap is_settled (sym same)) added kept (early_on on b.line over_b)))
 
 -- before its first octet
 none_last : (earlier : Pieces) (last : ℕ × List ℕ) → [] ≡ earlier ++ last ∷ [] → ⊥
@@ -501,7 +542,8 @@ says_none : (on : Bool) (config : Config) (peer : Peer) (sending : Sending) → 
 says_none true config peer sending = speaks_none config peer sending
 says_none false config peer sending = heard_none config peer sending
 
-pub says_start : (on : Bool) (teller : Announcing) (started : Bool) (count : ℕ) (config : Config) (peer : Peer) (sending : Sending) → teller ≡ begins_with config peer sending → started ≡ false
+pub says_start : (on : Bool) (teller : Announcing) (started : Bool) (count : ℕ) (config : Config) (peer : Peer) (sending : Sending)
+    → teller ≡ begins_with config peer sending → started ≡ false
     → count ≡ 0 → SaysUpTo on teller started count [] []
 says_start on teller started count config peer sending e s k =
     subst (λ (n : Announcing). SaysUpTo on n started count [] []) (sym e)

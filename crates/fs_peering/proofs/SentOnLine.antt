@@ -1,7 +1,16 @@
 -- What counts as said through a kept connection was sent on its line, where no line was dialled twice.
-use Rattle.fs_base.{specs.Gate.{Turn, What, came, dialled as begun, ended, gave, made, nothing, read, said, shut, taken}, proofs.Bools.{and_parts, false_of_not, or_false}}
-use Rattle.fs_peering.specs.{Keeper.{Connection, Kept, Outcome, Said, accepts, at_first, at_line, begins, begins_one, change_text, checks, comes_up, dialling, dials, ends, exceeds, follows, hears, is_due, is_late, is_up, lets_go, machine_of, news_told, news_up, outcome, parting, parts, receives, rests, rises, speaks, speaks_on, spoke, spoken_so, tells, tells_all, terms_at, wakes, with_connection, with_rules}, KeeperLaws.{Act, SendsAll, accepted, acted, are_new, asked, asked_from, dialled, heard, is_among, kept_from, sent_on, told_all}, declared.keeper.News.{News}}
-use Rattle.fs_peering.proofs.Words.{Bool, Closed, Config, Fault, Handed, List, None, Option, Peer, Sending, Some, [], ap, append-nil, append_assoc, arith, false, hand, if◌then◌else◌, is_some, nat_tests, needs_of, not, notice_text, open_sent, refl, same_Some, sender_of, subst, sym, ticked, true, true≢false, ℕ, ◌&&◌, ◌++◌, ◌==◌, ◌||◌, ◌∙◌, ◌∷◌, ◌≡◌}
+use Rattle.fs_base.specs.Gate.{Turn, What, came, dialled as begun, ended, gave, made, nothing, read, said, shut, taken}
+use Rattle.fs_base.proofs.Bools.{and_parts, false_of_not, or_false}
+use Rattle.fs_peering.specs.Keeper.{Connection, Kept, Outcome, Said, accepts, at_first, at_line, begins, begins_one, change_text, checks, comes_up}
+use Rattle.fs_peering.specs.Keeper.{dialling, dials, ends, exceeds, follows, hears, is_due, is_late, is_up, lets_go, machine_of, news_told, news_up}
+use Rattle.fs_peering.specs.Keeper.{outcome, parting, parts, receives, rests, rises, speaks, speaks_on, spoke, spoken_so, tells, tells_all, terms_at}
+use Rattle.fs_peering.specs.Keeper.{wakes, with_connection, with_rules}
+use Rattle.fs_peering.specs.KeeperLaws.{Act, SendsAll, accepted, acted, are_new, asked, asked_from, dialled, heard, is_among, kept_from, sent_on}
+use Rattle.fs_peering.specs.KeeperLaws.{told_all}
+use Rattle.fs_peering.specs.declared.keeper.News.{News}
+use Rattle.fs_peering.proofs.Words.{Bool, Closed, Config, Fault, Handed, List, None, Option, Peer, Sending, Some, [], ap, append-nil, append_assoc}
+use Rattle.fs_peering.proofs.Words.{arith, false, hand, if◌then◌else◌, is_some, nat_tests, needs_of, not, notice_text, open_sent, refl, same_Some}
+use Rattle.fs_peering.proofs.Words.{sender_of, subst, sym, ticked, true, true≢false, ℕ, ◌&&◌, ◌++◌, ◌==◌, ◌||◌, ◌∙◌, ◌∷◌, ◌≡◌}
 
 -- LINES
 
@@ -32,7 +41,8 @@ seen_joined seen (shut line ∷ turns) more = seen_joined seen turns more
 seen_joined seen (came moment time what ∷ turns) more = seen_joined seen turns more
 seen_joined seen (read moment time name content ∷ turns) more = seen_joined seen turns more
 
-new_joined : (seen : List ℕ) (turns more : List Turn) → are_new seen (turns ++ more) ≡ true → (are_new seen turns ≡ true) × (are_new (seen_after seen turns) more ≡ true)
+new_joined : (seen : List ℕ) (turns more : List Turn) → are_new seen (turns ++ more) ≡ true
+    → (are_new seen turns ≡ true) × (are_new (seen_after seen turns) more ≡ true)
 new_joined seen [] more e = (refl, e)
 new_joined seen (begun line address ∷ turns) more e =
     let parts = and_parts (not (is_among line seen)) (are_new (line ∷ seen) (turns ++ more)) e in
@@ -132,7 +142,8 @@ module _ (seen : List ℕ) (turns : List Turn) where
   closes : (c : Connection) (text : List ℕ) (why : Closed) (time : ℕ) (kept : Kept) → ((line : ℕ) → is_among line seen ≡ false → sent_on line turns ≡ [])
       → is_among c.line seen ≡ true → Does seen turns (parts text why time c kept)
   closes c text why time kept others among n =
-      subst (λ (s : List ℕ). Sends s (turns ++ (speaks c.line text ++ shut c.line ∷ [])) (lets_go time kept)) (sym (speaks_seen seen c.line text (shut c.line ∷ []))) (record {
+      subst (λ (s : List ℕ). Sends s (turns ++ (speaks c.line text ++ shut c.line ∷ [])) (lets_go time kept))
+      (sym (speaks_seen seen c.line text (shut c.line ∷ []))) (record {
         others = λ line h.
             ap (sent_on line) (sym (append_assoc turns (speaks c.line text) (shut c.line ∷ [])))
             ∙ sent_joined line (turns ++ speaks c.line text) (shut c.line ∷ [])
@@ -141,10 +152,12 @@ module _ (seen : List ℕ) (turns : List Turn) where
       })
 
   -- a connection is dialled
-  begins_new : (line time : ℕ) (address : List ℕ) (peer : Peer) (sending : Sending) (kept : Kept) → Sends seen turns kept → Does seen turns (begins_one line time address peer sending kept)
+  begins_new : (line time : ℕ) (address : List ℕ) (peer : Peer) (sending : Sending) (kept : Kept) → Sends seen turns kept
+      → Does seen turns (begins_one line time address peer sending kept)
   begins_new line time address peer sending kept s n = record {
     others = λ other h.
-        sent_joined other turns (begun line address ∷ []) ∙ append-nil (sent_on other turns) ∙ s.others other (or_false (line == other) (is_among other seen) (turned other h)).1;
+        sent_joined other turns (begun line address ∷ []) ∙ append-nil (sent_on other turns)
+        ∙ s.others other (or_false (line == other) (is_among other seen) (turned other h)).1;
     own = λ d e. subst (IsSent (line ∷ seen) (turns ++ begun line address ∷ [])) (same_Some (dialling line time peer sending) d e) is;
   }
     where
@@ -185,7 +198,9 @@ module _ (config : Config) where
       comes : Said → Outcome
       comes r = elim r.closing [ Some why ↦ parts r.text why time c kept | None ↦ speaks_on r.text r.point None c kept ]
 
-      late : (b : Bool) → Does seen turns (comes (if b then spoken_so (made_so.text ++ notice_text 4 0) made_so.point (Some (Fault 4 0)) else spoken_so made_so.text made_so.point None))
+      late : (b : Bool) → Does seen turns
+          (comes (if b then spoken_so (made_so.text ++ notice_text 4 0) made_so.point (Some (Fault 4 0))
+          else spoken_so made_so.text made_so.point None))
       late true = closes seen turns c (made_so.text ++ notice_text 4 0) (Fault 4 0) time kept s.others i.among
       late false =
           says seen turns c (spoke made_so.text made_so.point c) made_so.text refl refl (λ f. absurd (never_false c.made m f)) None kept s.others i
@@ -208,7 +223,8 @@ module _ (config : Config) where
       by None e = asks_none seen turns None kept s
       by (Some c) e = inner c e c.made refl
 
-  receives_sent : (seen : List ℕ) (turns : List Turn) (time : ℕ) (piece : List ℕ) (c : Connection) (kept : Kept) → Sends seen turns kept → IsSent seen turns c → c.made ≡ true
+  receives_sent : (seen : List ℕ) (turns : List Turn) (time : ℕ) (piece : List ℕ) (c : Connection) (kept : Kept) → Sends seen turns kept
+      → IsSent seen turns c → c.made ≡ true
       → Does seen turns (receives config time piece c kept)
   receives_sent seen turns time piece c kept s i m = by made_so.point.closed
     where
@@ -233,11 +249,13 @@ module _ (config : Config) where
           says seen turns c (spoke made_so.text made_so.point c) made_so.text refl refl (λ f. absurd (never_false c.made m f))
           (news_up (rises c.point made_so.point)) (comes_up (rises c.point made_so.point) kept) s.others i
 
-  line_sent : (seen : List ℕ) (turns : List Turn) (line : ℕ) (test : Connection → Bool) (act : Connection → Kept → Outcome) (kept : Kept) → Sends seen turns kept
+  line_sent : (seen : List ℕ) (turns : List Turn) (line : ℕ) (test : Connection → Bool) (act : Connection → Kept → Outcome) (kept : Kept)
+      → Sends seen turns kept
       → ((c : Connection) → kept.connection ≡ Some c → test c ≡ true → Does seen turns (act c kept)) → Does seen turns (at_line line test act kept)
   line_sent seen turns line test act kept s acts = by kept.connection refl
     where
-      inner : (c : Connection) → kept.connection ≡ Some c → (b : Bool) → ((c.line == line) && test c) ≡ b → Does seen turns (if b then act c kept else rests kept)
+      inner : (c : Connection) → kept.connection ≡ Some c → (b : Bool) → ((c.line == line) && test c) ≡ b
+          → Does seen turns (if b then act c kept else rests kept)
       inner c e true f = acts c e (and_parts (c.line == line) (test c) f).1
       inner c e false f = asks_none seen turns None kept s
 
@@ -255,17 +273,21 @@ module _ (config : Config) where
       says seen turns c (record c { made = true; since = time; spoken = text }) text refl (sym (ap (λ (z : List ℕ). z ++ text) (i.idle m).0))
       (λ f. absurd (true≢false f)) None kept s.others i
 
-  follows_sent : (seen : List ℕ) (turns : List Turn) (time : ℕ) (what : What) (kept : Kept) → Sends seen turns kept → Does seen turns (follows config time what kept)
+  follows_sent : (seen : List ℕ) (turns : List Turn) (time : ℕ) (what : What) (kept : Kept) → Sends seen turns kept
+      → Does seen turns (follows config time what kept)
   follows_sent seen turns time (made line) kept s =
-      line_sent seen turns line (λ c. not c.made) (begins config time) kept s (λ c e m. begins_sent seen turns time c kept s (s.own c e) (false_of_not c.made m))
+      line_sent seen turns line (λ c. not c.made) (begins config time) kept s
+      (λ c e m. begins_sent seen turns time c kept s (s.own c e) (false_of_not c.made m))
   follows_sent seen turns time (gave line piece) kept s =
       line_sent seen turns line (λ c. c.made) (receives config time piece) kept s (λ c e m. receives_sent seen turns time piece c kept s (s.own c e) m)
   follows_sent seen turns time (ended line) kept s =
-      line_sent seen turns line (λ c. true) (ends time) kept s (λ c e m. asks_none seen turns (ends time c kept).news (lets_go time kept) (goes seen turns time kept s))
+      line_sent seen turns line (λ c. true) (ends time) kept s
+      (λ c e m. asks_none seen turns (ends time c kept).news (lets_go time kept) (goes seen turns time kept s))
   follows_sent seen turns time (taken line from) kept s = asks_none seen turns None kept s
   follows_sent seen turns time nothing kept s = asks_none seen turns None kept s
 
-  hears_sent : (seen : List ℕ) (turns : List Turn) (time : ℕ) (what : What) (kept : Kept) → Sends seen turns kept → Does seen turns (hears config time what kept)
+  hears_sent : (seen : List ℕ) (turns : List Turn) (time : ℕ) (what : What) (kept : Kept) → Sends seen turns kept
+      → Does seen turns (hears config time what kept)
   hears_sent seen turns time what kept s n =
       subst (λ (t : List Turn). Sends (seen_after seen (first.turns ++ later.turns)) t later.kept) (append_assoc turns first.turns later.turns)
       (subst (λ (l : List ℕ). Sends l ((turns ++ first.turns) ++ later.turns) later.kept) (sym (seen_joined seen first.turns later.turns))
@@ -280,7 +302,8 @@ module _ (config : Config) where
       parts : (are_new seen first.turns ≡ true) × (are_new (seen_after seen first.turns) later.turns ≡ true)
       parts = new_joined seen first.turns later.turns n
 
-  dials_sent : (seen : List ℕ) (turns : List Turn) (line time : ℕ) (address : List ℕ) (kept : Kept) → Sends seen turns kept → Does seen turns (dials config line time address kept)
+  dials_sent : (seen : List ℕ) (turns : List Turn) (line time : ℕ) (address : List ℕ) (kept : Kept) → Sends seen turns kept
+      → Does seen turns (dials config line time address kept)
   dials_sent seen turns line time address kept s = by kept.connection
     where
       due : (sending : Sending) (peer : Peer) (b : Bool) → Does seen turns (if b then begins_one line time address peer sending kept else rests kept)
@@ -288,7 +311,11 @@ module _ (config : Config) where
       due sending peer false = asks_none seen turns None kept s
 
       for_peer : Sending → Option Peer → Outcome
-      for_peer sending found = elim found [ None ↦ rests kept | Some peer ↦ if is_due time kept then begins_one line time address peer sending kept else rests kept ]
+      for_peer sending found = elim found [
+        | None ↦ rests kept
+        | Some peer ↦ if is_due time kept then begins_one line time address peer sending kept
+            else rests kept
+      ]
 
       of_peer : (sending : Sending) (found : Option Peer) → Does seen turns (for_peer sending found)
       of_peer sending None = asks_none seen turns None kept s
@@ -309,7 +336,8 @@ module _ (config : Config) where
       by None = of_rules kept.rules
 
   -- RULES ARE TOLD
-  tells_sent : (seen : List ℕ) (turns : List Turn) (time : ℕ) (new : Sending) (c : Connection) (kept : Kept) → ((line : ℕ) → is_among line seen ≡ false → sent_on line turns ≡ [])
+  tells_sent : (seen : List ℕ) (turns : List Turn) (time : ℕ) (new : Sending) (c : Connection) (kept : Kept)
+      → ((line : ℕ) → is_among line seen ≡ false → sent_on line turns ≡ [])
       → IsSent seen turns c → c.made ≡ true → Does seen turns (tells config time new c kept)
   tells_sent seen turns time new c kept others i m = by (exceeds (needs_of c.asked.rules) (needs_of new.rules))
     where
@@ -338,7 +366,8 @@ module _ (config : Config) where
       by true m = m
       by false m = absurd (true≢false (sym t ∙ (i.idle m).1.1))
 
-  accepts_sent : (seen : List ℕ) (turns : List Turn) (time : ℕ) (new : Sending) (kept : Kept) → Sends seen turns kept → Does seen turns (accepts config time new kept)
+  accepts_sent : (seen : List ℕ) (turns : List Turn) (time : ℕ) (new : Sending) (kept : Kept) → Sends seen turns kept
+      → Does seen turns (accepts config time new kept)
   accepts_sent seen turns time new kept s = by kept.connection refl
     where
       other : Kept
@@ -347,7 +376,8 @@ module _ (config : Config) where
       same : Sends seen turns other
       same = record { others = s.others; own = s.own }
 
-      inner : (c : Connection) → kept.connection ≡ Some c → (b : Bool) → is_some c.told ≡ b → Does seen turns (if b then tells config time new c other else rests other)
+      inner : (c : Connection) → kept.connection ≡ Some c → (b : Bool) → is_some c.told ≡ b
+          → Does seen turns (if b then tells config time new c other else rests other)
       inner c e true f = tells_sent seen turns time new c other s.others (s.own c e) (made_told seen turns c (s.own c e) f)
       inner c e false f = asks_none seen turns None other same
 
@@ -362,7 +392,11 @@ module _ (config : Config) where
   tells_all_sent seen turns time kept s = by kept.connection refl
     where
       tells_by : Connection → Option Sending → Outcome
-      tells_by c rules = elim rules [ None ↦ rests kept | Some new ↦ if is_up c.point && not (is_some c.told) then tells config time new c kept else rests kept ]
+      tells_by c rules = elim rules [
+        | None ↦ rests kept
+        | Some new ↦ if is_up c.point && not (is_some c.told) then tells config time new c kept
+            else rests kept
+      ]
 
       inner : (c : Connection) → kept.connection ≡ Some c → (new : Sending) → (b : Bool) → (is_up c.point && not (is_some c.told)) ≡ b
           → Does seen turns (if b then tells config time new c kept else rests kept)
@@ -402,4 +436,5 @@ module _ (config : Config) where
       (all_sent (seen_after seen first) (turns ++ first) acts next (acted_sent seen turns act kept s parts.0) parts.1))
 
 pub sends_all : SendsAll
-sends_all config acts c n e = ((all_sent config [] [] acts at_first (record { others = λ line h. refl; own = λ d f. absurd (none_there d f) }) n).own c e).all_is
+sends_all config acts c n e = ((all_sent config [] [] acts at_first (record { others = λ line h. refl; own = λ d f. absurd (none_there d f) }) n).own
+    c e).all_is

@@ -1,5 +1,10 @@
 -- How a keeper stands behind what its connection says.
-use Rattle.fs_peering.proofs.KeeperWords.{ℕ, ◌*◌, min, most_wait, option_and_then, List, [], ◌∷◌, ◌≡◌, ◌≢◌, ◌==◌, ◌&&◌, Bool, true, false, Option, Some, None, refl, ap, sym, subst, ◌∙◌, if◌then◌else◌, Turn, shut, Grew, Grew-refl, Grew-trans, Config, announcer, machine_in, needs_of, StandsAt, Closed, Fault, Memory, NoFamily, Notified, Sending, Connection, Kept, Outcome, Said, at_line, checks, comes_up, machine_of, news_of, news_up, parts, rests, speaks, speaks_on, spoke, wakes, with_connection, IsConnection, IsLink, Keeping, LinkSaid, Linked, Stands, Took, let_go, News, HasClosed, HasNotified}
+use Rattle.fs_peering.proofs.KeeperWords.{ℕ, ◌*◌, min, most_wait, option_and_then, List, [], ◌∷◌, ◌≡◌, ◌≢◌, ◌==◌, ◌&&◌, Bool, true, false, Option}
+use Rattle.fs_peering.proofs.KeeperWords.{Some, None, refl, ap, sym, subst, ◌∙◌, if◌then◌else◌, Turn, shut, Grew, Grew-refl, Grew-trans, Config}
+use Rattle.fs_peering.proofs.KeeperWords.{announcer, machine_in, needs_of, StandsAt, Closed, Fault, Memory, NoFamily, Notified, Sending, Connection}
+use Rattle.fs_peering.proofs.KeeperWords.{Kept, Outcome, Said, at_line, checks, comes_up, machine_of, news_of, news_up, parts, rests, speaks}
+use Rattle.fs_peering.proofs.KeeperWords.{speaks_on, spoke, wakes, with_connection, IsConnection, IsLink, Keeping, LinkSaid, Linked, Stands, Took}
+use Rattle.fs_peering.proofs.KeeperWords.{let_go, News, HasClosed, HasNotified}
 
 -- no connection is there
 pub linked_none : (kept : Kept) (old : Keeping) → Stands kept old → old.link ≡ None → kept.connection ≡ None
@@ -25,30 +30,48 @@ linked_some kept old linked stands some = by kept.connection refl stands.link
         record { connection = connection; there = there; is = subst (IsConnection old.config kept.rules connection) same is.2 }
 
 -- it rests
-pub took_rests : (made : Outcome) (kept : Kept) (old : Keeping) (turns : Option (List Turn)) → Stands kept old → made ≡ rests kept → Took made None old old turns turns
+pub took_rests : (made : Outcome) (kept : Kept) (old : Keeping) (turns : Option (List Turn)) → Stands kept old → made ≡ rests kept
+    → Took made None old old turns turns
 took_rests made kept old turns stands e =
     subst (λ (o : Outcome). Took o None old old turns turns) (sym e)
     (record { asked = Grew-refl turns; news_is = refl; stands = stands; config_is = refl })
 
 pub checks_none : (time : ℕ) (kept : Kept) → kept.connection ≡ None → checks time kept ≡ rests kept
 checks_none time kept e =
-    ap (λ (o : Option Connection). elim o as (λ _. Outcome) [ None ↦ rests kept | Some connection ↦ if connection.made then wakes time connection kept else rests kept ]) e
+    ap (λ (o : Option Connection). elim o as (λ _. Outcome) [
+      | None ↦ rests kept
+      | Some connection ↦ if connection.made then wakes time connection kept
+          else rests kept
+    ]) e
 
 pub checks_some : (time : ℕ) (kept : Kept) (connection : Connection) (made : Bool) → kept.connection ≡ Some connection → connection.made ≡ made
     → checks time kept ≡ (if made then wakes time connection kept else rests kept)
 checks_some time kept connection made e m =
-    ap (λ (o : Option Connection). elim o as (λ _. Outcome) [ None ↦ rests kept | Some connection ↦ if connection.made then wakes time connection kept else rests kept ]) e
+    ap (λ (o : Option Connection). elim o as (λ _. Outcome) [
+      | None ↦ rests kept
+      | Some connection ↦ if connection.made then wakes time connection kept
+          else rests kept
+    ]) e
     ∙ ap (λ (b : Bool). if b then wakes time connection kept else rests kept) m
 
-pub line_none : (line : ℕ) (fits : Connection → Bool) (act : Connection → Kept → Outcome) (kept : Kept) → kept.connection ≡ None → at_line line fits act kept ≡ rests kept
+pub line_none : (line : ℕ) (fits : Connection → Bool) (act : Connection → Kept → Outcome) (kept : Kept) → kept.connection ≡ None
+    → at_line line fits act kept ≡ rests kept
 line_none line fits act kept e =
-    ap (λ (o : Option Connection). elim o as (λ _. Outcome) [ None ↦ rests kept | Some connection ↦ if (connection.line == line) && fits connection then act connection kept else rests kept ]) e
+    ap (λ (o : Option Connection). elim o as (λ _. Outcome) [
+      | None ↦ rests kept
+      | Some connection ↦ if (connection.line == line) && fits connection
+          then act connection kept else rests kept
+    ]) e
 
 pub line_some : (line : ℕ) (fits : Connection → Bool) (act : Connection → Kept → Outcome) (kept : Kept) (connection : Connection) (is : Bool)
     → kept.connection ≡ Some connection → ((connection.line == line) && fits connection) ≡ is
     → at_line line fits act kept ≡ (if is then act connection kept else rests kept)
 line_some line fits act kept connection is e m =
-    ap (λ (o : Option Connection). elim o as (λ _. Outcome) [ None ↦ rests kept | Some connection ↦ if (connection.line == line) && fits connection then act connection kept else rests kept ]) e
+    ap (λ (o : Option Connection). elim o as (λ _. Outcome) [
+      | None ↦ rests kept
+      | Some connection ↦ if (connection.line == line) && fits connection
+          then act connection kept else rests kept
+    ]) e
     ∙ ap (λ (b : Bool). if b then act connection kept else rests kept) m
 
 -- what a session says is said, and where it has closed its connection is
@@ -115,7 +138,8 @@ module _ (said : Said) (news : Option News) (time : ℕ) (connection : Connectio
     same = is.same;
   }
 
-  stands_on : said.closing ≡ None → (up : Bool) → Stands (with_connection (Some (spoke said.text said.point connection)) (comes_up up kept)) (going up linked' old)
+  stands_on : said.closing ≡ None → (up : Bool)
+      → Stands (with_connection (Some (spoke said.text said.point connection)) (comes_up up kept)) (going up linked' old)
   stands_on alive true = record {
     rules_are = stands.rules_are;
     sendable = stands.sendable;
@@ -137,7 +161,8 @@ module _ (said : Said) (news : Option News) (time : ℕ) (connection : Connectio
   opens_none alive = says.news_is ∙ ap (λ (closing : Option Closed). option_and_then news_of closing) alive
 
   -- the session stays open
-  pub took_open : (up : Bool) (new : Keeping) → news ≡ None → new ≡ going up linked' old → Took (settled said up time connection kept) (news_up up) old new turns turns1
+  pub took_open : (up : Bool) (new : Keeping) → news ≡ None → new ≡ going up linked' old
+      → Took (settled said up time connection kept) (news_up up) old new turns turns1
   took_open up new none goes =
       subst (λ (n : Keeping). Took (settled said up time connection kept) (news_up up) old n turns turns1) (sym goes) (by said.closing refl)
     where

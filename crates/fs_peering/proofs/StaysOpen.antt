@@ -1,5 +1,17 @@
 -- Where an end that hears pieces stays open: where the session of their octets does, and no hold time has passed.
-use Rattle.fs_peering.proofs.{Words.{CanArrive, Closed, Config, Established, Expires, Handed, Last, Machine, Message, MessageFault, Needs, NoFamily, Open, Peer, Phase, Point, Sending, Times, Update, WaitKeep, WaitOpen, announcer, at_moment, at_start, closed, faulted, first_message, is_established, message_text, needs_of, open_body, open_sent, opened, parts_of, phase, plays, receiver, reply_to, rest_closes, runs, runs_by, session_by, session_from, still, taken, taken_in, tick_at, transition_by, wrong_at, ◌≡◌, ◌≢◌, ◌⊎◌, inl, inr, ℕ, zero, suc, ◌+◌, ◌*◌, ◌<◌, ◌≤◌, min, List, [], ◌∷◌, ◌++◌, length, Bool, true, false, ◌&&◌, ◌||◌, if◌then◌else◌, Option, Some, None, Result, Ok, Err, refl, ap, sym, ◌∙◌, subst, append_assoc, append-nil, arith, AllByRecursion, map-append, open_read, message_stable, text_first, ran, runs_none, runs_step, going, machine_takes, machine_waits, plays_none, plays_step, session_rest, step_found, Spans, most, Pieces, moments_in, octets_in, course_of, IsTimely, told_by, course, goes_by, goes_on, last_by, last_update, one_message, open_fits}, Courses.{keepalives, octets_more, Steps, by_pieces, lived, steps, course_more}, Phases.{Unheld, awaits_open, closed_still, hold_is, runs_unheld, same_still, session_on}, Moments.{expires_late, positive}, BothEnds.{least, peer_opens}, Replying.{keepalives_front}}
+use Rattle.fs_peering.proofs.Words.{CanArrive, Closed, Config, Established, Expires, Handed, Last, Machine, Message, MessageFault, Needs, NoFamily}
+use Rattle.fs_peering.proofs.Words.{Open, Peer, Phase, Point, Sending, Times, Update, WaitKeep, WaitOpen, announcer, at_moment, at_start, closed}
+use Rattle.fs_peering.proofs.Words.{faulted, first_message, is_established, message_text, needs_of, open_body, open_sent, opened, parts_of, phase}
+use Rattle.fs_peering.proofs.Words.{plays, receiver, reply_to, rest_closes, runs, runs_by, session_by, session_from, still, taken, taken_in, tick_at}
+use Rattle.fs_peering.proofs.Words.{transition_by, wrong_at, ◌≡◌, ◌≢◌, ◌⊎◌, inl, inr, ℕ, zero, suc, ◌+◌, ◌*◌, ◌<◌, ◌≤◌, min, List, [], ◌∷◌, ◌++◌}
+use Rattle.fs_peering.proofs.Words.{length, Bool, true, false, ◌&&◌, ◌||◌, if◌then◌else◌, Option, Some, None, Result, Ok, Err, refl, ap, sym, ◌∙◌}
+use Rattle.fs_peering.proofs.Words.{subst, append_assoc, append-nil, arith, AllByRecursion, map-append, open_read, message_stable, text_first, ran}
+use Rattle.fs_peering.proofs.Words.{runs_none, runs_step, going, machine_takes, machine_waits, plays_none, plays_step, session_rest, step_found}
+use Rattle.fs_peering.proofs.Words.{Spans, most, Pieces, moments_in, octets_in, course_of, IsTimely, told_by, course, goes_by, goes_on, last_by}
+use Rattle.fs_peering.proofs.Words.{last_update, one_message, open_fits}
+use Rattle.fs_peering.proofs.Courses.{keepalives, octets_more, Steps, by_pieces, lived, steps, course_more}
+use Rattle.fs_peering.proofs.Phases.{Unheld, awaits_open, closed_still, hold_is, runs_unheld, same_still, session_on}
+use Rattle.fs_peering.proofs.{Moments.{expires_late, positive}, BothEnds.{least, peer_opens}, Replying.{keepalives_front}}
 
 abbrev Made : Type 0
 Made = Result (Phase × Option Update) Closed
@@ -78,14 +90,16 @@ module _ (machine : Machine) where
       ∙ by (λ next. stands_runs messages next (taken_in now.state times) waiting wrong) (transition_by machine now message)
       ∙ sym (ap stands_at (runs_step machine now times message messages waiting wrong))
     where
-      by : ((next : Phase) → (plays machine next messages wrong).1 ≡ stands_at (runs machine next (taken_in now.state times) messages waiting wrong)) → (made : Made)
+      by : ((next : Phase) → (plays machine next messages wrong).1 ≡ stands_at (runs machine next (taken_in now.state times) messages waiting wrong))
+          → (made : Made)
           → (going made (λ next. plays machine next messages wrong)).1
           ≡ stands_at (ran machine now times made (λ next. runs machine next (taken_in now.state times) messages waiting wrong))
       by goes (Ok next) = last_update next.1 (plays machine next.0 messages wrong) ∙ goes next.0
       by goes (Err why) = refl
 
   stands_by : (now : Phase) (times : Times) (octets : List ℕ) → last_by machine now octets ≡ stands_at (runs_by machine now times octets)
-  stands_by now times octets = stands_runs (parts_of first_message octets).0 now times (parts_of first_message octets).1 (wrong_at (parts_of first_message octets).1)
+  stands_by now times octets = stands_runs (parts_of first_message octets).0 now times (parts_of first_message octets).1
+      (wrong_at (parts_of first_message octets).1)
 
   abbrev at : Pieces → Point
   at heard = (course machine heard).point
@@ -133,7 +147,8 @@ module _ (machine : Machine) where
           ∙ ap (λ (p : Point). still p.phase) (sym point_is);
       unheld =
           subst (λ (p : Point). Unheld machine p.phase) (sym point_is)
-          (runs_unheld machine (parts_of first_message ((at heard).waiting ++ event.1)).0 (at heard).phase s.times (parts_of first_message ((at heard).waiting ++ event.1)).1
+          (runs_unheld machine (parts_of first_message ((at heard).waiting ++ event.1)).0 (at heard).phase s.times
+          (parts_of first_message ((at heard).waiting ++ event.1)).1
           (wrong_at (parts_of first_message ((at heard).waiting ++ event.1)).1) st.unheld);
     }
       where
@@ -146,7 +161,9 @@ module _ (machine : Machine) where
         by : (c : Option Closed) → later.point.closed ≡ c → later.point.closed ≡ None
         by None e = e
         by (Some why) e =
-            absurd (closed_still why last (sym (ap (λ (c : Option Closed). elim c [ Some why ↦ closed why | None ↦ last_by machine later.point.phase (later.point.waiting ++ more) ]) e)
+            absurd (closed_still why last (sym
+            (ap (λ (c : Option Closed). elim c [ Some why ↦ closed why | None ↦ last_by machine later.point.phase (later.point.waiting ++ more) ])
+            e)
             ∙ sym (comes more) ∙ h))
 
   abbrev StandsOpen : Pieces → Type 0
@@ -172,7 +189,8 @@ module _ (machine : Machine) where
 
   abbrev StaysOpen : Pieces → Type 0
   StaysOpen heard =
-      (more : List ℕ) (last : Phase) → last_by machine at_start (octets_in heard ++ more) ≡ still last → AreEarly last.hold (moments_in heard) → (at heard).closed ≡ None
+      (more : List ℕ) (last : Phase) → last_by machine at_start (octets_in heard ++ more) ≡ still last → AreEarly last.hold (moments_in heard)
+      → (at heard).closed ≡ None
 
   more_stays : (heard : Pieces) (event : ℕ × List ℕ) → StaysOpen heard → StaysOpen (heard ++ event ∷ [])
   more_stays heard event a more last h early = by (steps machine event (at heard) alive)
@@ -188,7 +206,8 @@ module _ (machine : Machine) where
       alive : (at heard).closed ≡ None
       alive = a (event.1 ++ more) last here (early_front last.hold (moments_in heard) (event.0 ∷ []) moments_early)
 
-      by : Steps machine event (at heard) ⊎ (tick_at (at heard).phase.hold (at_moment event.0 (at heard).times) ≡ Expires) → (at (heard ++ event ∷ [])).closed ≡ None
+      by : Steps machine event (at heard) ⊎ (tick_at (at heard).phase.hold (at_moment event.0 (at heard).times) ≡ Expires)
+          → (at (heard ++ event ∷ [])).closed ≡ None
       by (inl s) = open_more heard event (stands heard alive) s more last h
       by (inr due) = absurd (none_expires machine last.hold heard event.0 alive (agreed heard (event.1 ++ more) last alive here) moments_early due)
 
@@ -214,7 +233,8 @@ module _ (machine : Machine) where
           let fits = open_fits (length body) long in
           let whole : first_message (octets ++ left) ≡ Some (found.0, found.1 ++ left) = message_stable octets left found f in
           let first : first_message (message_text 1 body ++ more) ≡ Some (own, more) = text_first 1 body more (omega arith) (omega arith) fits.0 fits.1 in
-          let same : found.0 ≡ own = ap (λ (o : Option (Message × List ℕ)). elim o [ None ↦ own | Some g ↦ g.0 ]) (sym whole ∙ ap first_message split ∙ first) in
+          let same : found.0 ≡ own = ap (λ (o : Option (Message × List ℕ)). elim o [ None ↦ own | Some g ↦ g.0 ]) (sym whole ∙ ap first_message split
+          ∙ first) in
           let goes = step_found machine at_start octets found (Ok (next, None)) f (ap (transition_by machine at_start) same ∙ opens) in
           let taken_so : session_by machine at_start octets ≡ session_by machine next (found.1 ++ []) =
           ap (session_by machine at_start) (sym (append-nil octets)) ∙ machine_takes machine at_start next None octets found.1 [] goes in
@@ -236,11 +256,13 @@ module _ (config : Config) (peer : Peer) (sending : Sending) where
 
   -- the announcing end takes our OPEN
   teller_opens : CanArrive config peer sending
-      → transition_by teller at_start (record { kind = 1; body = open_body config.local_as config.hold_time config.local_id }) ≡ Ok (phase WaitKeep true config.hold_time, None)
+      → transition_by teller at_start (record { kind = 1; body = open_body config.local_as config.hold_time config.local_id })
+      ≡ Ok (phase WaitKeep true config.hold_time, None)
   teller_opens can =
       let needs : Needs = needs_of sending.rules in
       ap (λ (r : Result Open MessageFault). opened teller r)
-      (open_read config.local_as config.hold_time config.local_id can.own.asn.small can.own.hold_time.small can.own.id.small can.own.asn.some can.own.hold_time.not_one can.own.hold_time.not_two can.own.id.some)
+      (open_read config.local_as config.hold_time config.local_id can.own.asn.small can.own.hold_time.small can.own.id.small can.own.asn.some
+      can.own.hold_time.not_one can.own.hold_time.not_two can.own.id.some)
       ∙ ap (λ (b : Bool). if b then Err NoFamily else taken (phase WaitKeep true (min config.hold_time config.hold_time)) None) (none_lacks needs.v4 needs.v6)
       ∙ ap (λ (n : ℕ). Ok (phase WaitKeep true n, None)) (least config peer sending config.hold_time)
 
@@ -257,7 +279,8 @@ module _ (config : Config) (peer : Peer) (sending : Sending) where
       let body : List ℕ = open_body config.local_as config.hold_time config.local_id in
       let fits = open_fits (length body) refl in
       ap (session_by teller at_start) (append_assoc (message_text 1 body) (message_text 4 []) (keepalives n))
-      ∙ one_message teller at_start (phase WaitKeep true config.hold_time) None 1 body (message_text 4 [] ++ keepalives n) (omega arith) (omega arith) fits.0 fits.1 (teller_opens can)
+      ∙ one_message teller at_start (phase WaitKeep true config.hold_time) None 1 body (message_text 4 [] ++ keepalives n) (omega arith)
+      (omega arith) fits.0 fits.1 (teller_opens can)
       ∙ one_message teller (phase WaitKeep true config.hold_time) up None 4 [] (keepalives n) (omega arith) (omega arith) refl (omega arith) refl
       ∙ keepalives_taken n
 
@@ -291,7 +314,8 @@ module _ (config : Config) (peer : Peer) (sending : Sending) where
   teller_up heard n can all alive =
       let here : Phase = (told_by config sending heard).point.phase in
       let same : here ≡ up =
-      same_still here up (sym (stands teller heard alive).found ∙ ap (last_by teller at_start) all ∙ ap (λ (z : List Update × Last). z.1) (teller_last n can)) in
+      same_still here up (sym (stands teller heard alive).found ∙ ap (last_by teller at_start) all
+      ∙ ap (λ (z : List Update × Last). z.1) (teller_last n can)) in
       ap (λ (p : Phase). is_established p.state) same
 
   -- The session of a front of what the announcing end says has agreed on no hold time, or on ours,

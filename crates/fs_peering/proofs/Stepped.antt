@@ -1,5 +1,15 @@
 -- What a keeper does, from its fields.
-use Rattle.fs_peering.proofs.{KeeperWords.{ℕ, ◌-◌, nat_lt, not, List, [], ◌∷◌, ◌++◌, ◌≡◌, ◌==◌, ◌&&◌, Bool, true, false, Option, Some, None, IfSome, Result, Ok, Err, IfOk, OnErr, refl, ap, sym, subst, ◌∙◌, if◌then◌else◌, is_some, arith, Turn, What, dialled, shut, Grew, Config, Peer, CanSend, announcing, fresh, has_started, is_established, machine_in, needs_of, open_sent, sender_of, state_in, Sending, Connection, Kept, Outcome, accepts, at_line, begins, checks, dials, ends, exceeds, hears, news_up, received, receives, speaks, woken, Fits, Keeping, LinkSays, LinkTells, Linked, TellsSo, TookQuietly, TookSo, is_told, let_go, News, Ended, Unreached}, Standing.{going}, Following.{at_none, at_other, at_this, begun_so, check_none, check_open, check_shut, check_waits, ended_so, hear_shut, received_open, received_shut}, KeeperTells.{accept_rests, accept_tells, dial_early, dial_idle, dial_new, dial_there, tells_by, tells_idle, tells_none, tells_on, tells_shut}}
+use Rattle.fs_peering.proofs.KeeperWords.{ℕ, ◌-◌, nat_lt, not, List, [], ◌∷◌, ◌++◌, ◌≡◌, ◌==◌, ◌&&◌, Bool, true, false, Option, Some, None, IfSome}
+use Rattle.fs_peering.proofs.KeeperWords.{Result, Ok, Err, IfOk, OnErr, refl, ap, sym, subst, ◌∙◌, if◌then◌else◌, is_some, arith, Turn, What, dialled}
+use Rattle.fs_peering.proofs.KeeperWords.{shut, Grew, Config, Peer, CanSend, announcing, fresh, has_started, is_established, machine_in, needs_of}
+use Rattle.fs_peering.proofs.KeeperWords.{open_sent, sender_of, state_in, Sending, Connection, Kept, Outcome, accepts, at_line, begins, checks, dials}
+use Rattle.fs_peering.proofs.KeeperWords.{ends, exceeds, hears, news_up, received, receives, speaks, woken, Fits, Keeping, LinkSays, LinkTells}
+use Rattle.fs_peering.proofs.KeeperWords.{Linked, TellsSo, TookQuietly, TookSo, is_told, let_go, News, Ended, Unreached}
+use Rattle.fs_peering.proofs.Standing.{going}
+use Rattle.fs_peering.proofs.Following.{at_none, at_other, at_this, begun_so, check_none, check_open, check_shut, check_waits, ended_so, hear_shut}
+use Rattle.fs_peering.proofs.Following.{received_open, received_shut}
+use Rattle.fs_peering.proofs.KeeperTells.{accept_rests, accept_tells, dial_early, dial_idle, dial_new, dial_there, tells_by, tells_idle, tells_none}
+use Rattle.fs_peering.proofs.KeeperTells.{tells_on, tells_shut}
 use Rattle.std.{proofs.{Common.{eqb-true, ◌<◌, ◌≤◌}, lemmas.Bool.Decides.{nat_tests}}}
 use Rattle.fs_base.proofs.NumberTests.{eq_itself}
 
@@ -21,7 +31,8 @@ fit_other a b fit off = ap (λ x. (a == b) && x) off ∙ last (a == b)
 line_this : (a b : ℕ) (fit : Bool) → a ≡ b → fit ≡ true → ((a == b) && fit) ≡ true
 line_this a b fit same on = subst (λ n. ((a == n) && fit) ≡ true) same (ap (λ x. (a == a) && x) on ∙ ap (λ x. x && true) (eq_itself a))
 
-pub asked_as : (turns turns1 : Option (List Turn)) (line line' : ℕ) (octets octets' : List ℕ) → line ≡ line' → octets ≡ octets' → Grew turns turns1 (speaks line octets)
+pub asked_as : (turns turns1 : Option (List Turn)) (line line' : ℕ) (octets octets' : List ℕ) → line ≡ line' → octets ≡ octets'
+    → Grew turns turns1 (speaks line octets)
     → Grew turns turns1 (speaks line' octets')
 asked_as turns turns1 line line' octets octets' lines same grew =
     subst (λ o. Grew turns turns1 (speaks line' o)) same (subst (λ l. Grew turns turns1 (speaks l octets)) lines grew)
@@ -45,13 +56,15 @@ module _ (k old : Keeping) (same : k ≡ old) (linked seen : Linked) (link_is : 
       subst (λ (n : Keeping). TookSo (checks time) None old n turns turns) (sym stays_same)
       (check_waits time old linked old_link turns (sym (ap (λ (l : Linked). l.made) seen_is) ∙ off))
 
-  pub begin_other : (line time : ℕ) (turns : Option (List Turn)) → (seen.line ≡ line → ⊥) → TookSo (at_line line (λ connection. not connection.made) (begins old.config time)) None old unchanged turns turns
+  pub begin_other : (line time : ℕ) (turns : Option (List Turn)) → (seen.line ≡ line → ⊥)
+      → TookSo (at_line line (λ connection. not connection.made) (begins old.config time)) None old unchanged turns turns
   begin_other line time turns differs =
       subst (λ (n : Keeping). TookSo (at_line line (λ connection. not connection.made) (begins old.config time)) None old n turns turns) (sym stays_same)
       (at_other line (λ connection. not connection.made) (begins old.config time) old linked (not linked.made) old_link (λ connection e. ap not (sym e))
       (line_other linked.line line (not linked.made) (λ e. differs (ap (λ (l : Linked). l.line) seen_is ∙ e))) turns)
 
-  pub begin_made : (line time : ℕ) (turns : Option (List Turn)) → seen.made ≡ true → TookSo (at_line line (λ connection. not connection.made) (begins old.config time)) None old unchanged turns turns
+  pub begin_made : (line time : ℕ) (turns : Option (List Turn)) → seen.made ≡ true
+      → TookSo (at_line line (λ connection. not connection.made) (begins old.config time)) None old unchanged turns turns
   begin_made line time turns on =
       subst (λ (n : Keeping). TookSo (at_line line (λ connection. not connection.made) (begins old.config time)) None old n turns turns) (sym stays_same)
       (at_other line (λ connection. not connection.made) (begins old.config time) old linked (not linked.made) old_link (λ connection e. ap not (sym e))
@@ -92,14 +105,16 @@ module _ (k old : Keeping) (same : k ≡ old) (linked seen : Linked) (link_is : 
     on_old : (up : Bool) → going up linked' k ≡ going up linked' old
     on_old up = ap (going up linked') same
 
-    pub check_stays : (time : ℕ) (news : Option News) → seen.made ≡ true → LinkSays (woken time linked.since) news linked linked' before out → is_some news ≡ false
+    pub check_stays : (time : ℕ) (news : Option News) → seen.made ≡ true → LinkSays (woken time linked.since) news linked linked' before out
+        → is_some news ≡ false
         → TookSo (checks time) news old (going false linked' k) turns turns1
     check_stays time None on says off =
         check_open time old linked old_link None linked' out (going false linked' k) turns turns1 (sym (ap (λ (l : Linked). l.made) seen_is) ∙ on)
         (subst (λ b. LinkSays (woken time linked.since) None linked linked' b out) cleared says) asked_so refl (on_old false)
     check_stays time (Some done) on says off = absurd (let never : true ≡ false = off in cc)
 
-    pub check_closes : (time : ℕ) (news : Option News) (new : Keeping) (turns2 : Option (List Turn)) → seen.made ≡ true → LinkSays (woken time linked.since) news linked linked' before out
+    pub check_closes : (time : ℕ) (news : Option News) (new : Keeping) (turns2 : Option (List Turn)) → seen.made ≡ true
+        → LinkSays (woken time linked.since) news linked linked' before out
         → is_some news ≡ true → Grew turns1 turns2 (shut seen.line ∷ []) → new ≡ let_go time k → TookSo (checks time) news old new turns turns2
     check_closes time None new turns2 on says loud closed goes = absurd (let never : false ≡ true = loud in cc)
     check_closes time (Some done) new turns2 on says loud closed goes =
@@ -113,9 +128,11 @@ module _ (k old : Keeping) (same : k ≡ old) (linked seen : Linked) (link_is : 
         × (out ≡ before ++ open_sent linked.end.config linked.end.peer linked.end.sending))
         → TookSo (at_line line (λ connection. not connection.made) (begins old.config time)) None old (going false linked' k) turns turns1
     begin_this line time this off begun =
-        at_this line (λ connection. not connection.made) (begins old.config time) None old (going false linked' k) linked (not linked.made) turns turns1 old_link
+        at_this line (λ connection. not connection.made) (begins old.config time) None old (going false linked' k) linked
+        (not linked.made) turns turns1 old_link
         (λ connection e. ap not (sym e))
-        (line_this linked.line line (not linked.made) (sym (ap (λ (l : Linked). l.line) seen_is) ∙ this) (ap not (sym (ap (λ (l : Linked). l.made) seen_is) ∙ off)))
+        (line_this linked.line line (not linked.made) (sym (ap (λ (l : Linked). l.line) seen_is)
+        ∙ this) (ap not (sym (ap (λ (l : Linked). l.made) seen_is) ∙ off)))
         (begun_so time old (going false linked' k) linked linked' out turns turns1 (sym (ap (λ (l : Linked). l.made) seen_is) ∙ off)
         (λ fresh. subst (λ b. (linked' ≡ record linked { made = true; since = time; end = has_started linked.end })
         × (out ≡ b ++ open_sent linked.end.config linked.end.peer linked.end.sending)) cleared (begun fresh))
@@ -125,24 +142,29 @@ module _ (k old : Keeping) (same : k ≡ old) (linked seen : Linked) (link_is : 
       at_it : ((linked.line == line) && linked.made) ≡ true
       at_it = line_this linked.line line linked.made (sym (ap (λ (l : Linked). l.line) seen_is) ∙ this) (sym (ap (λ (l : Linked). l.made) seen_is) ∙ on)
 
-      pub receive_closes : (news : Option News) (new : Keeping) (turns2 : Option (List Turn)) → LinkSays (received (machine_in linked.end) time piece) news linked linked' before out
+      pub receive_closes : (news : Option News) (new : Keeping) (turns2 : Option (List Turn))
+          → LinkSays (received (machine_in linked.end) time piece) news linked linked' before out
           → is_some news ≡ true → Grew turns1 turns2 (shut seen.line ∷ []) → new ≡ let_go time k
           → TookSo (at_line line (λ connection. connection.made) (receives old.config time piece)) news old new turns turns2
       receive_closes None new turns2 says loud closed goes = absurd (let never : false ≡ true = loud in cc)
       receive_closes (Some done) new turns2 says loud closed goes =
-          at_this line (λ connection. connection.made) (receives old.config time piece) (Some done) old new linked linked.made turns turns2 old_link (λ connection e. sym e) at_it
+          at_this line (λ connection. connection.made) (receives old.config time piece) (Some done) old new linked linked.made turns turns2 old_link
+          (λ connection e. sym e) at_it
           (received_shut time piece old linked linked' (Some done) out turns turns1
           (subst (λ b. LinkSays (received (machine_in linked.end) time piece) (Some done) linked linked' b out) cleared says) asked_so new done turns2 refl
           (shut_as turns1 turns2 seen.line linked.line (ap (λ (l : Linked). l.line) seen_is) closed) (goes ∙ ap (let_go time) same))
 
-      pub receive_stays : (news : Option News) (up : Bool) → LinkSays (received (machine_in linked.end) time piece) news linked linked' before out → is_some news ≡ false
+      pub receive_stays : (news : Option News) (up : Bool) → LinkSays (received (machine_in linked.end) time piece) news linked linked' before out
+          → is_some news ≡ false
           → up ≡ (is_established (state_in linked'.end.line) && not (is_established (state_in linked.end.line)))
           → TookSo (at_line line (λ connection. connection.made) (receives old.config time piece)) (news_up up) old (going up linked' k) turns turns1
       receive_stays None up says off up_is =
-          subst (λ u. TookSo (at_line line (λ connection. connection.made) (receives old.config time piece)) (news_up u) old (going u linked' k) turns turns1) (sym up_is)
+          subst (λ u. TookSo (at_line line (λ connection. connection.made) (receives old.config time piece)) (news_up u) old
+          (going u linked' k) turns turns1) (sym up_is)
           (at_this line (λ connection. connection.made) (receives old.config time piece)
           (news_up (is_established (state_in linked'.end.line) && not (is_established (state_in linked.end.line)))) old
-          (going (is_established (state_in linked'.end.line) && not (is_established (state_in linked.end.line))) linked' k) linked linked.made turns turns1 old_link (λ connection e. sym e) at_it
+          (going (is_established (state_in linked'.end.line) && not (is_established (state_in linked.end.line))) linked' k) linked linked.made turns
+          turns1 old_link (λ connection e. sym e) at_it
           (received_open time piece old linked linked' None out turns turns1
           (subst (λ b. LinkSays (received (machine_in linked.end) time piece) None linked linked' b out) cleared says) asked_so
           (going (is_established (state_in linked'.end.line) && not (is_established (state_in linked.end.line))) linked' k)
@@ -177,10 +199,12 @@ ok_on (Ok value) p f = f value p
 ok_on (Err error) p f = tt
 
 -- a connection is dialled
-pub dial_took : (k old : Keeping) (line time passed : ℕ) (address : List ℕ) (sending : Sending) (linked seen : Linked) (turns turns1 : Option (List Turn)) → k ≡ old
+pub dial_took : (k old : Keeping) (line time passed : ℕ) (address : List ℕ) (sending : Sending) (linked seen : Linked)
+    (turns turns1 : Option (List Turn)) → k ≡ old
     → CanSend k.config (sender_of k.config.peers) sending → is_some k.link ≡ false → k.rules ≡ Some sending → passed ≡ time - k.since → k.wait ≤ passed
     → Grew turns turns1 (dialled line address ∷ [])
-    → IfSome (sender_of k.config.peers) (λ peer. linked ≡ record { line = 0; made = false; since = time; told = false; end = announcing k.config peer sending fresh false 0 })
+    → IfSome (sender_of k.config.peers)
+    (λ peer. linked ≡ record { line = 0; made = false; since = time; told = false; end = announcing k.config peer sending fresh false 0 })
     → seen ≡ linked
     → TookSo (dials old.config line time address) None old (going false (record seen { line = line }) k) turns turns1
 dial_took k old line time passed address sending linked seen turns turns1 same can none rules_are passed_is late asked made seen_is =
@@ -217,13 +241,15 @@ pub dial_none : (k old : Keeping) (time : ℕ) (address : List ℕ) (turns : Opt
 dial_none k old time address turns same none = dial_idle 0 time address old turns (subst (λ (o : Keeping). o.rules ≡ None) same none)
 
 -- other rules are accepted
-pub accept_off : (k old : Keeping) (time : ℕ) (rules : Sending) (dest : Option Sending) (turns : Option (List Turn)) → k ≡ old → CanSend old.config (sender_of old.config.peers) rules
+pub accept_off : (k old : Keeping) (time : ℕ) (rules : Sending) (dest : Option Sending) (turns : Option (List Turn)) → k ≡ old
+    → CanSend old.config (sender_of old.config.peers) rules
     → dest ≡ Some rules → is_told k.link ≡ false → TookSo (accepts old.config time rules) None old (record k { rules = dest }) turns turns
 accept_off k old time rules dest turns same can dest_is off =
     accept_rests time rules old can (record k { rules = dest }) turns (subst (λ (o : Keeping). is_told o.link ≡ false) same off)
     (ap (λ (d : Option Sending). record k { rules = d }) dest_is ∙ ap (λ (o : Keeping). record o { rules = Some rules }) same)
 
-pub accept_on : (k old new : Keeping) (time : ℕ) (rules : Sending) (dest told : Option Sending) (news : Option News) (turns turns' : Option (List Turn)) → k ≡ old
+pub accept_on : (k old new : Keeping) (time : ℕ) (rules : Sending) (dest told : Option Sending) (news : Option News)
+    (turns turns' : Option (List Turn)) → k ≡ old
     → CanSend old.config (sender_of old.config.peers) rules → dest ≡ Some rules → is_told k.link ≡ true → told ≡ k.rules
     → TellsSo time told news (record k { rules = dest }) new turns turns' → TookSo (accepts old.config time rules) news old new turns turns'
 accept_on k old new time rules dest told news turns turns' same can dest_is on told_is tells =
@@ -232,9 +258,11 @@ accept_on k old new time rules dest told news turns turns' same can dest_is on t
     (subst (λ (t : Option Sending). TellsSo time t news (record k { rules = dest }) new turns turns') (told_is ∙ ap (λ (o : Keeping). o.rules) same) tells)
 
 -- the rules are told
-module _ (k old : Keeping) (same : k ≡ old) (time : ℕ) (told : Option Sending) (linked seen : Linked) (rules : Sending) (link_is : k.link ≡ Some linked) (rules_are : k.rules ≡ Some rules)
+module _ (k old : Keeping) (same : k ≡ old) (time : ℕ) (told : Option Sending) (linked seen : Linked) (rules : Sending)
+    (link_is : k.link ≡ Some linked) (rules_are : k.rules ≡ Some rules)
     (seen_is : seen ≡ linked) (done : News) (closes : Bool) (linked' : Linked) (before out octets : List ℕ) (cleared : before ≡ []) (octets_are : octets ≡ out)
-    (tells : LinkTells told rules (done, closes) linked linked' before out) (turns turns1 : Option (List Turn)) (asked : Grew turns turns1 (speaks seen.line octets)) where
+    (tells : LinkTells told rules (done, closes) linked linked' before out) (turns turns1 : Option (List Turn))
+    (asked : Grew turns turns1 (speaks seen.line octets)) where
   tells_so : LinkTells told rules (done, closes) linked linked' [] out
   tells_so = subst (λ b. LinkTells told rules (done, closes) linked linked' b out) cleared tells
 
@@ -245,7 +273,8 @@ module _ (k old : Keeping) (same : k ≡ old) (time : ℕ) (told : Option Sendin
   tell_stays off =
       subst (λ (o : Keeping). TellsSo time told (Some done) o (going false linked' k) turns turns1) same
       (tells_by time told (Some done) k (going false linked' k) turns turns1 linked rules link_is rules_are
-      (tells_on (exceeds (needs_of linked.end.sending.rules) (needs_of rules.rules)) time told rules done linked linked' out k (going false linked' k) turns turns1
+      (tells_on (exceeds (needs_of linked.end.sending.rules) (needs_of rules.rules)) time told rules done linked linked' out k
+      (going false linked' k) turns turns1
       (subst (λ b. LinkTells told rules (done, b) linked linked' [] out) off tells_so) asked_here refl))
 
   pub tell_closes : (new : Keeping) (turns2 : Option (List Turn)) → closes ≡ true → Grew turns1 turns2 (shut seen.line ∷ []) → new ≡ let_go time k
@@ -257,10 +286,12 @@ module _ (k old : Keeping) (same : k ≡ old) (time : ℕ) (told : Option Sendin
       (subst (λ b. LinkTells told rules (done, b) linked linked' [] out) on tells_so) asked_here
       (shut_as turns1 turns2 seen.line linked.line (ap (λ (l : Linked). l.line) seen_is) closed) goes))
 
-pub tell_no : (k old : Keeping) (time : ℕ) (told : Option Sending) (turns : Option (List Turn)) → k ≡ old → k.link ≡ None → TellsSo time told None old k turns turns
+pub tell_no : (k old : Keeping) (time : ℕ) (told : Option Sending) (turns : Option (List Turn)) → k ≡ old → k.link ≡ None
+    → TellsSo time told None old k turns turns
 tell_no k old time told turns same none = subst (λ (o : Keeping). TellsSo time told None o k turns turns) same (tells_none time told k turns none)
 
-pub tell_idle : (k old : Keeping) (linked : Linked) (time : ℕ) (told : Option Sending) (turns : Option (List Turn)) → k ≡ old → k.link ≡ Some linked → k.rules ≡ None
+pub tell_idle : (k old : Keeping) (linked : Linked) (time : ℕ) (told : Option Sending) (turns : Option (List Turn)) → k ≡ old → k.link ≡ Some linked
+    → k.rules ≡ None
     → TellsSo time told None old (record k { link = Some linked }) turns turns
 tell_idle k old linked time told turns same link_is none =
     subst (λ (n : Keeping). TellsSo time told None old n turns turns) (sym same ∙ ap (λ (l : Option Linked). record k { link = l }) link_is)
@@ -271,9 +302,11 @@ err_on (Ok value) x f = tt
 err_on (Err error) x f = f x
 
 -- the connection that was begun is the sender's
-pub dial_fits : (config : Config) (rules : Option Sending) (link : Option Linked) (line time : ℕ) (sending : Sending) (linked seen : Linked) → Fits config rules link
+pub dial_fits : (config : Config) (rules : Option Sending) (link : Option Linked) (line time : ℕ) (sending : Sending) (linked seen : Linked)
+    → Fits config rules link
     → CanSend config (sender_of config.peers) sending
-    → IfSome (sender_of config.peers) (λ peer. linked ≡ record { line = 0; made = false; since = time; told = false; end = announcing config peer sending fresh false 0 })
+    → IfSome (sender_of config.peers)
+    (λ peer. linked ≡ record { line = 0; made = false; since = time; told = false; end = announcing config peer sending fresh false 0 })
     → seen ≡ linked → Fits config rules (Some (record seen { line = line }))
 dial_fits config rules link line time sending linked seen fits can made seen_is = by (sender_of config.peers) refl can made
   where

@@ -1,5 +1,10 @@
 -- The octets up to the message that establishes a session, and the session of all octets.
-use Rattle.fs_peering.proofs.{Words.{Closed, Last, Machine, Message, MessageFault, Phase, Update, closed, first_message, is_established, rest_closes, session_by, size_of, step_at, step_by, still, transition_by, wrong_at, ◌≡◌, ◌<◌, ◌≤◌, ℕ, zero, suc, List, [], ◌++◌, length, take, Bool, true, false, if◌then◌else◌, Option, Some, None, Result, Ok, Err, refl, ap, sym, ◌∙◌, subst, arith, append_assoc, append-nil, take-append-drop, is_first, message_shrinks, last_update, machine_stops, machine_takes, session_rest, step_found, opened_by, OpensAs, OpeningIsSession}, OpenSteps.{going, opened_first, opened_rest}}
+use Rattle.fs_peering.proofs.Words.{Closed, Last, Machine, Message, MessageFault, Phase, Update, closed, first_message, is_established, rest_closes}
+use Rattle.fs_peering.proofs.Words.{session_by, size_of, step_at, step_by, still, transition_by, wrong_at, ◌≡◌, ◌<◌, ◌≤◌, ℕ, zero, suc, List, []}
+use Rattle.fs_peering.proofs.Words.{◌++◌, length, take, Bool, true, false, if◌then◌else◌, Option, Some, None, Result, Ok, Err, refl, ap, sym, ◌∙◌}
+use Rattle.fs_peering.proofs.Words.{subst, arith, append_assoc, append-nil, take-append-drop, is_first, message_shrinks, last_update, machine_stops}
+use Rattle.fs_peering.proofs.Words.{machine_takes, session_rest, step_found, opened_by, OpensAs, OpeningIsSession}
+use Rattle.fs_peering.proofs.OpenSteps.{going, opened_first, opened_rest}
 
 abbrev Made : Type 0
 Made = Result (Phase × Option Update) Closed
@@ -18,7 +23,8 @@ module _ (machine : Machine) (octets : List ℕ) where
       octets,
       (
         sym (append-nil octets),
-        ap (λ (s : List Update × Last). s.1) (session_rest machine now octets none) ∙ ap (rest_closes now) e ∙ sym (ap (λ (s : List Update × Last). s.1) (session_rest machine now [] refl)),
+        ap (λ (s : List Update × Last). s.1) (session_rest machine now octets none) ∙ ap (rest_closes now) e
+            ∙ sym (ap (λ (s : List Update × Last). s.1) (session_rest machine now [] refl)),
       ),
     )
     rests (Some fault) e = ap (λ (s : List Update × Last). s.1) (session_rest machine now octets none) ∙ ap (rest_closes now) e
@@ -31,7 +37,8 @@ module _ (machine : Machine) (octets : List ℕ) where
     step_is : (made : Made) → transition_by machine now found.0 ≡ made → step_by machine now octets ≡ step_at made found.1
     step_is made t = step_found machine now octets found made first t
 
-    opened_is : (made : Made) → transition_by machine now found.0 ≡ made → opened_by machine now octets ≡ going made found.1 (λ next. opened_by machine next found.1)
+    opened_is : (made : Made) → transition_by machine now found.0 ≡ made
+        → opened_by machine now octets ≡ going made found.1 (λ next. opened_by machine next found.1)
     opened_is made t = opened_first machine now octets found first ∙ ap (λ (m : Made). going m found.1 (λ next. opened_by machine next found.1)) t
 
     abbrev front : List ℕ

@@ -1,5 +1,16 @@
 -- A receiving end that hears what the announcing end says doesn't close, where nothing hinders the rules.
-use Rattle.fs_peering.proofs.{Words.{CanArrive, Closed, ComesBack, Config, Established, Handed, Last, Message, MessageFault, Peer, Phase, Point, Sending, Sent, Update, WaitKeep, WaitOpen, at_moment, at_start, bounded, bounded_from, bounded_replies, bounded_replies_from, closed, first_message, first_over, handed, open_sent, peer_of, phase, receiver, replies_to_limit, reply_at, reply_to, session_from, still, text_sent, tick_at, ticked, ticks, too_many, update_sent, wrong_at, ◌≡◌, ◌⊎◌, inl, inr, ℕ, zero, suc, ◌≤◌, List, [], ◌∷◌, ◌++◌, length, map, take, Bool, true, Option, Some, None, Ok, refl, ap, sym, ◌∙◌, subst, append_assoc, append-nil, arith, AllByRecursion, flat_map-append, none-some, fault_stays, message_stable, replies_rest, replies_takes, wrong_first, machine_takes, session_rest, step_found, Pieces, moments_in, octets_in, ClosesIn, ExpiresAt, HasClosed, course_of, IsTimely, MayHold, TookOpen, rules_in, woven}, Limits.{within}, Phases.{awaits_open, session_on}, BothEnds.{answers, meets, open_first, own_message, parts_arrive, peer_opens}, Replying.{waits_silent}, StaysOpen.{hearer_hold, never_due, stands}, Timely.{timely_up_to}}
+use Rattle.fs_peering.proofs.Words.{CanArrive, Closed, ComesBack, Config, Established, Handed, Last, Message, MessageFault, Peer, Phase, Point}
+use Rattle.fs_peering.proofs.Words.{Sending, Sent, Update, WaitKeep, WaitOpen, at_moment, at_start, bounded, bounded_from, bounded_replies}
+use Rattle.fs_peering.proofs.Words.{bounded_replies_from, closed, first_message, first_over, handed, open_sent, peer_of, phase, receiver}
+use Rattle.fs_peering.proofs.Words.{replies_to_limit, reply_at, reply_to, session_from, still, text_sent, tick_at, ticked, ticks, too_many}
+use Rattle.fs_peering.proofs.Words.{update_sent, wrong_at, ◌≡◌, ◌⊎◌, inl, inr, ℕ, zero, suc, ◌≤◌, List, [], ◌∷◌, ◌++◌, length, map, take, Bool, true}
+use Rattle.fs_peering.proofs.Words.{Option, Some, None, Ok, refl, ap, sym, ◌∙◌, subst, append_assoc, append-nil, arith, AllByRecursion}
+use Rattle.fs_peering.proofs.Words.{flat_map-append, none-some, fault_stays, message_stable, replies_rest, replies_takes, wrong_first, machine_takes}
+use Rattle.fs_peering.proofs.Words.{session_rest, step_found, Pieces, moments_in, octets_in, ClosesIn, ExpiresAt, HasClosed, course_of, IsTimely}
+use Rattle.fs_peering.proofs.Words.{MayHold, TookOpen, rules_in, woven}
+use Rattle.fs_peering.proofs.{Limits.{within}, Phases.{awaits_open, session_on}}
+use Rattle.fs_peering.proofs.BothEnds.{answers, meets, open_first, own_message, parts_arrive, peer_opens}
+use Rattle.fs_peering.proofs.{Replying.{waits_silent}, StaysOpen.{hearer_hold, never_due, stands}, Timely.{timely_up_to}}
 use Rattle.std.proofs.lemmas.Bool.{true≢false as never}
 use Rattle.fs_speaker.specs.Replies.{replies_from, reply_rest}
 
@@ -33,7 +44,8 @@ bounded_within : (most : Option ℕ) (updates : List Update) (last : Last) → f
 bounded_within most updates last h =
     ap (λ (o : Option (List Update)). elim o as (λ _. List Update × Last) [ None ↦ (updates, last) | Some front ↦ (front, closed too_many) ]) h
 
-replied_by : (config : Config) (peer : Peer) (octets : List ℕ) (found : Option (List Update)) → first_over peer.max_routes (session_from config peer at_start octets).0 ≡ found
+replied_by : (config : Config) (peer : Peer) (octets : List ℕ) (found : Option (List Update))
+    → first_over peer.max_routes (session_from config peer at_start octets).0 ≡ found
     → bounded_replies_from config peer octets
     ≡ (elim found as (λ _. List ℕ) [ None ↦ replies_from config peer at_start octets | Some front ↦ replies_to_limit config ])
 replied_by config peer octets found h =
@@ -54,10 +66,12 @@ module _ (config : Config) (whose : Peer) (sending : Sending) (can : CanArrive c
       whole : first_message (octets ++ more) ≡ Some (own, rest)
       whole = ap first_message e ∙ open_first config whose sending rest
 
-      by : (x : Option (Message × List ℕ)) → first_message octets ≡ x → (first_message octets ≡ None) ⊎ ((behind : List ℕ) × (first_message octets ≡ Some (own, behind)))
+      by : (x : Option (Message × List ℕ)) → first_message octets ≡ x
+          → (first_message octets ≡ None) ⊎ ((behind : List ℕ) × (first_message octets ≡ Some (own, behind)))
       by None f = inl f
       by (Some found) f =
-          let same : found.0 ≡ own = ap (λ (o : Option (Message × List ℕ)). elim o [ None ↦ own | Some x ↦ x.0 ]) (sym (message_stable octets more found f) ∙ whole) in
+          let same : found.0 ≡ own = ap (λ (o : Option (Message × List ℕ)). elim o [ None ↦ own | Some x ↦ x.0 ])
+          (sym (message_stable octets more found f) ∙ whole) in
           inr (found.1, f ∙ ap (λ (m : Message). Some (m, found.1)) same)
 
   no_fault : (octets more rest : List ℕ) → octets ++ more ≡ open_sent config whose sending ++ rest → wrong_at octets ≡ None
@@ -75,9 +89,11 @@ module _ (config : Config) (whose : Peer) (sending : Sending) (can : CanArrive c
       ((first_message octets ≡ None) × (bounded_replies_from config whose octets ≡ []))
       ⊎ ((later : List ℕ) × (bounded_replies_from config whose octets ≡ reply_to config WaitOpen ++ later))
 
-  unanswered : (octets more rest : List ℕ) → octets ++ more ≡ open_sent config whose sending ++ rest → first_message octets ≡ None → bounded_replies_from config whose octets ≡ []
+  unanswered : (octets more rest : List ℕ) → octets ++ more ≡ open_sent config whose sending ++ rest → first_message octets ≡ None
+      → bounded_replies_from config whose octets ≡ []
   unanswered octets more rest e f =
-      let no_updates : (session_from config whose at_start octets).0 ≡ [] = ap (λ (s : List Update × Last). s.0) (session_rest (receiver config whose) at_start octets f) in
+      let no_updates : (session_from config whose at_start octets).0 ≡ [] =
+      ap (λ (s : List Update × Last). s.0) (session_rest (receiver config whose) at_start octets f) in
       replied_by config whose octets None (ap (first_over whose.max_routes) no_updates)
       ∙ replies_rest (receiver config whose) at_start octets f
       ∙ ap (reply_rest (receiver config whose)) (no_fault octets more rest e)
@@ -85,7 +101,8 @@ module _ (config : Config) (whose : Peer) (sending : Sending) (can : CanArrive c
   replies_so : (octets more rest : List ℕ) → octets ++ more ≡ open_sent config whose sending ++ rest → Replied octets
   replies_so octets more rest e = by (reads_open octets more rest e)
     where
-      some : (behind : List ℕ) → first_message octets ≡ Some (own, behind) → (o : Option (List Update)) → first_over whose.max_routes (session_from config whose at_start octets).0 ≡ o
+      some : (behind : List ℕ) → first_message octets ≡ Some (own, behind) → (o : Option (List Update))
+          → first_over whose.max_routes (session_from config whose at_start octets).0 ≡ o
           → Replied octets
       some behind f None o =
           inr (
@@ -113,7 +130,8 @@ module _ (config : Config) (whose : Peer) (sending : Sending) (can : CanArrive c
       silent : awaits_open here.state ≡ true
       silent = waits_silent config whose heard alive none
 
-      by : (first_message (octets_in heard) ≡ None) ⊎ ((behind : List ℕ) × (first_message (octets_in heard) ≡ Some (own, behind))) → first_message (octets_in heard) ≡ None
+      by : (first_message (octets_in heard) ≡ None) ⊎ ((behind : List ℕ) × (first_message (octets_in heard) ≡ Some (own, behind)))
+          → first_message (octets_in heard) ≡ None
       by (inl f) = f
       by (inr f) =
           let goes : session_from config whose at_start (octets_in heard) ≡ session_from config whose opened_phase (f.0 ++ []) =
@@ -164,7 +182,8 @@ module _ (config : Config) (whose : Peer) (sending : Sending) (can : CanArrive c
 
       no_expiry : ExpiresAt config whose h.earlier h.moment said why → ⊥
       no_expiry x =
-          never_due config whose sending (receiver config whose) h.earlier h.moment h.lived (hearer_hold config whose sending h.earlier (h.piece ++ beyond) (rest_of f.four) can whole_earlier h.lived)
+          never_due config whose sending (receiver config whose) h.earlier h.moment h.lived
+          (hearer_hold config whose sending h.earlier (h.piece ++ beyond) (rest_of f.four) can whole_earlier h.lived)
           (timely_up_to config h.earlier [] h.moment h.piece (subst (λ (z : Pieces). IsTimely config (moments_in z)) h.split timely))
           x.due
 
@@ -205,7 +224,8 @@ module _ (config : Config) (whose : Peer) (sending : Sending) (can : CanArrive c
               at (inl z) = inl (said_so ∙ sym (grown_so first_none) ∙ z.1)
               at (inr z) = inr (z.0, said_so ∙ sym (grown_so first_none) ∙ z.1)
 
-          by : ((course_of config whose h.earlier).text ≡ []) ⊎ ((more : List ℕ) × ((course_of config whose h.earlier).text ≡ reply_to config WaitOpen ++ more)) → Said said
+          by : ((course_of config whose h.earlier).text ≡ [])
+              ⊎ ((more : List ℕ) × ((course_of config whose h.earlier).text ≡ reply_to config WaitOpen ++ more)) → Said said
           by (inl none) = silent none
           by (inr m) = inr (
             m.0 ++ ((ticked h.moment here).text ++ c.more),
@@ -227,17 +247,21 @@ module _ (config : Config) (whose : Peer) (sending : Sending) (can : CanArrive c
           → bounded_from config whose (to_there ++ beyond)
           ≡ (map (update_sent config whose sending) (rules_in f.parts), still (phase Established true config.hold_time))
       goes_on may same =
-          let fewer : length (rules_in f.parts) ≤ length sending.rules = subst (λ (r : List Sent). length r ≤ length sending.rules) (sym f.rules_are) (few_taken f.appended sending.rules) in
+          let fewer : length (rules_in f.parts) ≤ length sending.rules =
+          subst (λ (r : List Sent). length r ≤ length sending.rules) (sym f.rules_are) (few_taken f.appended sending.rules) in
           ap (bounded_from config whose) (whole ∙ ap (λ (z : List ℕ). open_sent config whose sending ++ z) same)
           ∙ ap (bounded whose.max_routes) (parts_arrive config whose sending f.parts can
-          (subst (AllByRecursion (ComesBack config whose sending)) (sym f.rules_are) (all_take (ComesBack config whose sending) f.appended sending.rules can.read)))
+          (subst (AllByRecursion (ComesBack config whose sending)) (sym f.rules_are)
+          (all_take (ComesBack config whose sending) f.appended sending.rules can.read)))
           ∙ bounded_within whose.max_routes (map (update_sent config whose sending) (rules_in f.parts)) (still (phase Established true config.hold_time))
-          (within config whose sending whose.max_routes (rules_in f.parts) (may_hold_fewer whose.max_routes (length (rules_in f.parts)) (length sending.rules) fewer may))
+          (within config whose sending whose.max_routes (rules_in f.parts)
+          (may_hold_fewer whose.max_routes (length (rules_in f.parts)) (length sending.rules) fewer may))
 
       never_closed : (found : Phase) → closed why ≡ still found → ⊥
       never_closed found e = cc
 
-      no_closing : (in_flight : List ℕ) → said ≡ told ++ in_flight → MayHold whose.max_routes (length sending.rules) → ClosesIn config peer whose h.earlier h.moment h.piece said why → ⊥
+      no_closing : (in_flight : List ℕ) → said ≡ told ++ in_flight → MayHold whose.max_routes (length sending.rules)
+          → ClosesIn config peer whose h.earlier h.moment h.piece said why → ⊥
       no_closing in_flight split may c =
           never_closed (phase Established true config.hold_time)
           (ap (λ (s : List Update × Last). s.1) (sym (c.over.stays beyond) ∙ goes_on may (in_four in_flight split (begins c))))

@@ -1,5 +1,6 @@
 -- Steps of a wire that may stop telling, and a piece that is written in parts.
-use Rattle.fs_peering.proofs.Words.{TakesIn, Told, WireEnd, WireEnds, end_at, heard_end, other_than, wrote_end, ◌≡◌, ℕ, List, [], ◌++◌, Bool, true, false, Option, Some, None, take, drop, refl, ap, sym, ◌∙◌, append_assoc, take-append-drop}
+use Rattle.fs_peering.proofs.Words.{TakesIn, Told, WireEnd, WireEnds, end_at, heard_end, other_than, wrote_end, ◌≡◌, ℕ, List, [], ◌++◌, Bool, true}
+use Rattle.fs_peering.proofs.Words.{false, Option, Some, None, take, drop, refl, ap, sym, ◌∙◌, append_assoc, take-append-drop}
 use Rattle.std.{specs.Prelude.{if◌then◌else◌}, proofs.lemmas.List.{append-nil}}
 
 -- one step and then another are one step

@@ -1,5 +1,6 @@
 -- What the code that writes a change of rules looks up: the rules that are kept, and the messages that were said.
-use Rattle.std.specs.{Prelude.{ℕ, Bool, ◌||◌, ◌≡◌, not, nat_le, List, filter, flat_map, length}, BTreeSet.{BTreeSet}, List.{list_any}, Ordering.{is_eq, nat_cmp}, Cmp.Lexicographic.{slice_cmp}, Str.{bytes_eq}, Global.{Vec}}
+use Rattle.std.specs.Prelude.{ℕ, Bool, ◌||◌, ◌≡◌, not, nat_le, List, filter, flat_map, length}
+use Rattle.std.specs.{BTreeSet.{BTreeSet}, List.{list_any}, Ordering.{is_eq, nat_cmp}, Cmp.Lexicographic.{slice_cmp}, Str.{bytes_eq}, Global.{Vec}}
 use Rattle.fs_nlri.specs.{Parts.{Ruled}, Rule.{canonical_frame}}
 use Rattle.fs_order.specs.{Comparison.{rule_cmp}, declared.ranked.Ranked.{Ranked}}
 use Rattle.fs_speaker.specs.declared.Sent.{Sent}

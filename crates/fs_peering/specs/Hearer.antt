@@ -1,7 +1,8 @@
 -- The receiving end of a session over a wire, by the pieces that it heard and what it said.
 use Rattle.std.specs.Prelude.{◌≡◌, ◌⊎◌, ℕ, List, [], ◌∷◌, ◌++◌, length, Bool, true, false, Some, None}
 use Rattle.fs_base.specs.{Config.{peer_of}, declared.config.{Config.{Config}, Peer.{Peer}}}
-use Rattle.fs_speaker.specs.{End.{ticked}, Handed.{Handed}, Session.{Live}, Side.{notice_text, receiver}, Times.{at_moment, tick_at}, declared.{Closed.{Closed, TheVariants.{Fault}}, Standing.{Standing, TheVariants.{Ended}}}}
+use Rattle.fs_speaker.specs.{End.{ticked}, Handed.{Handed}, Session.{Live}, Side.{notice_text, receiver}, Times.{at_moment, tick_at}}
+use Rattle.fs_speaker.specs.declared.{Closed.{Closed, TheVariants.{Fault}}, Standing.{Standing, TheVariants.{Ended}}}
 use Rattle.fs_session.specs.declared.times.Tick.TheVariants.{Expires}
 use Rattle.fs_tape.specs.Tape.{Item, came_up, received}
 use Rattle.fs_desk.specs.{Desk.{Desked, Played, session_at, standing_at_desk}, Limit.{bounded_replies}, Receive.{IsOver, point_of}}

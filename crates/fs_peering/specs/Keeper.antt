@@ -1,14 +1,21 @@
 -- A session that is kept to an address through a gate: what is asked of the gate at each event, what is said when the rules
 -- change, and how it stands then.
-use Rattle.std.specs.{Prelude.{ℕ, ◌+◌, ◌*◌, ◌-◌, ◌==◌, ◌&&◌, ◌||◌, List, [], ◌∷◌, ◌++◌, Bool, true, false, not, min, nat_lt, if◌then◌else◌, Option, Some, None, is_some, drop, filter, flat_map, length, map, take}, List.{list_any}, Option.{option_or}, Ordering.{is_eq}, Str.{bytes_eq}}
-use Rattle.fs_base.specs.{Gate.{Turn, What, dialled, ended, gave, made, nothing, said, shut, taken}, Parts.{parts_within}, Bits.{afi_of}, declared.{config.{Config.{Config}, Peer.{Peer}}, prefix.Family.{Family, TheVariants.{V4, V6}}}}
+use Rattle.std.specs.Prelude.{ℕ, ◌+◌, ◌*◌, ◌-◌, ◌==◌, ◌&&◌, ◌||◌, List, [], ◌∷◌, ◌++◌, Bool, true, false, not, min, nat_lt, if◌then◌else◌, Option}
+use Rattle.std.specs.Prelude.{Some, None, is_some, drop, filter, flat_map, length, map, take}
+use Rattle.std.specs.{List.{list_any}, Option.{option_or}, Ordering.{is_eq}, Str.{bytes_eq}}
+use Rattle.fs_base.specs.Gate.{Turn, What, dialled, ended, gave, made, nothing, said, shut, taken}
+use Rattle.fs_base.specs.{Parts.{parts_within}, Bits.{afi_of}}
+use Rattle.fs_base.specs.declared.{config.{Config.{Config}, Peer.{Peer}}, prefix.Family.{Family, TheVariants.{V4, V6}}}
 use Rattle.fs_nlri.specs.{Parts.{Ruled}, Rule.{canonical_frame}}
 use Rattle.fs_order.specs.Comparison.{rule_cmp}
 use Rattle.fs_message.specs.Write.{message_text}
 use Rattle.fs_attrs.specs.{declared.update.{Routes.TheVariants.{Flow}, Terms.{Terms}, Update.{Update}}, Write.{update_text}}
 use Rattle.fs_session.specs.declared.{side.Needs.{Needs}}
-use Rattle.fs_speaker.specs.{Announcer.{is_established, open_sent}, End.{first_point, ticked}, Handed.{Point, hand}, Sending.{needs_of, sender_of, text_by}, Side.{announcer, notice_text}, Transition.{Machine, terms_of}, declared.{Closed.{Closed, TheVariants.{Fault, Memory, NoFamily, Notified}}, Sending.{Sending}, Sent.{Sent}}}
-use Rattle.fs_peering.specs.{Tell.{farewell_to}, declared.keeper.News.{News, TheVariants.{Closed as HasClosed, Ended, Notified as HasNotified, Told, Unreached, Up}}}
+use Rattle.fs_speaker.specs.{Announcer.{is_established, open_sent}, End.{first_point, ticked}, Handed.{Point, hand}}
+use Rattle.fs_speaker.specs.{Sending.{needs_of, sender_of, text_by}, Side.{announcer, notice_text}, Transition.{Machine, terms_of}}
+use Rattle.fs_speaker.specs.declared.{Closed.{Closed, TheVariants.{Fault, Memory, NoFamily, Notified}}, Sending.{Sending}, Sent.{Sent}}
+use Rattle.fs_peering.specs.Tell.{farewell_to}
+use Rattle.fs_peering.specs.declared.keeper.News.{News, TheVariants.{Closed as HasClosed, Ended, Notified as HasNotified, Told, Unreached, Up}}
 
 -- A connection: its line, whether it is made, and since when; for which peer it announces, and the rules that were to be
 -- announced when it was dialled, whose families it asks for; where its session stands; what was said through it; and the

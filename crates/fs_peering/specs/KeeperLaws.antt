@@ -1,11 +1,13 @@
 -- That a kept connection leaves the other end exactly the rules that it was told: what happens to a kept session, one act
 -- after the other, what is sent then, and what the receiving end holds by all that was said through its connection.
-use Rattle.std.specs.{Prelude.{◌≡◌, ℕ, ◌==◌, ◌^◌, ◌<◌, ◌&&◌, Bool, true, not, if◌then◌else◌, ⊤, List, [], ◌∷◌, ◌++◌, find, Option, Some, option_map}, List.{AllByRecursion, list_any}}
+use Rattle.std.specs.Prelude.{◌≡◌, ℕ, ◌==◌, ◌^◌, ◌<◌, ◌&&◌, Bool, true, not, if◌then◌else◌, ⊤, List, [], ◌∷◌, ◌++◌, find, Option, Some, option_map}
+use Rattle.std.specs.List.{AllByRecursion, list_any}
 use Rattle.fs_base.specs.{Gate.{Turn, What, dialled as begun, said}, declared.config.{Config.{Config}, Peer.{Peer}}}
 use Rattle.fs_nlri.specs.Parts.{Ruled}
 use Rattle.fs_attrs.specs.declared.update.{Terms.{Terms}, Update.{Update}}
 use Rattle.fs_session.specs.declared.{state.State.TheVariants.{Established}}
-use Rattle.fs_speaker.specs.{Announcer.{CanSend}, Laws.{IsSent}, Numbers.{HasOwnNumbers, IsFourOctet}, Sending.{path_by, sender_of}, Session.{at_start, session_from, still}, Transition.{phase, terms_of}, declared.{Sending.{Sending}, Sent.{Sent}}}
+use Rattle.fs_speaker.specs.{Announcer.{CanSend}, Laws.{IsSent}, Numbers.{HasOwnNumbers, IsFourOctet}, Sending.{path_by, sender_of}}
+use Rattle.fs_speaker.specs.{Session.{at_start, session_from, still}, Transition.{phase, terms_of}, declared.{Sending.{Sending}, Sent.{Sent}}}
 use Rattle.fs_desk.specs.Updates.{Given, flow_left, is_rule}
 use Rattle.fs_peering.specs.Keeper.{Connection, Kept, accepts, at_first, dials, hears, is_same, tells_all}
 

@@ -1,9 +1,14 @@
 -- That a keeper takes a step: what its gate was asked, and how it stands.
-use Rattle.std.specs.{Prelude.{ℕ, List, [], ◌∷◌, ◌++◌, ◌*◌, ◌&&◌, ◌≡◌, ◌≢◌, ◌≤◌, Bool, true, false, Option, Some, None, is_some, length, min, not, option_and_then, IfSome}, List.{list_all}}
+use Rattle.std.specs.Prelude.{ℕ, List, [], ◌∷◌, ◌++◌, ◌*◌, ◌&&◌, ◌≡◌, ◌≢◌, ◌≤◌, Bool, true, false, Option, Some, None, is_some, length, min, not}
+use Rattle.std.specs.Prelude.{option_and_then, IfSome}
+use Rattle.std.specs.List.{list_all}
 use Rattle.fs_base.specs.{Gate.{Turn, shut}, Sink.{Grew}, declared.config.Config.{Config}}
 use Rattle.fs_attrs.specs.declared.update.Terms.{Terms}
-use Rattle.fs_speaker.specs.{Announcer.{Announcing, CanSend, is_established, machine_in, with_line}, End.{StandsAt}, Handed.{Point}, Line.{state_in}, Sending.{is_short, needs_of, sender_of}, Side.{notice_text}, Transition.{terms_of}, declared.{Closed.{TheVariants.{Memory}}, Sending.{Sending}}}
-use Rattle.fs_peering.specs.{Keeper.{Connection, Kept, Outcome, Said, change_text, exceeds, machine_of, most_wait, news_of, news_told, speaks}, declared.keeper.News.{News, TheVariants.{Closed as HasClosed}}}
+use Rattle.fs_speaker.specs.Announcer.{Announcing, CanSend, is_established, machine_in, with_line}
+use Rattle.fs_speaker.specs.{End.{StandsAt}, Handed.{Point}, Line.{state_in}, Sending.{is_short, needs_of, sender_of}, Side.{notice_text}}
+use Rattle.fs_speaker.specs.{Transition.{terms_of}, declared.{Closed.{TheVariants.{Memory}}, Sending.{Sending}}}
+use Rattle.fs_peering.specs.Keeper.{Connection, Kept, Outcome, Said, change_text, exceeds, machine_of, most_wait, news_of, news_told, speaks}
+use Rattle.fs_peering.specs.declared.keeper.News.{News, TheVariants.{Closed as HasClosed}}
 
 -- the terms on which an end writes
 abbrev pub terms_in : Announcing → Terms

@@ -4,7 +4,10 @@ use Rattle.std.specs.{Prelude.{◌≡◌, ◌≢◌, ◌⊎◌, ℕ, ◌*◌, �
 use Rattle.fs_base.specs.declared.config.{Config.{Config}, Peer.{Peer}}
 use Rattle.fs_desk.specs.Limit.{bounded_from}
 use Rattle.fs_peering.specs.{HoldTime.{Spans}, Opening.{opened_by}, Round.{Pieces, moments_in}, Course.{course}}
-use Rattle.fs_speaker.specs.{Announcer.{CanSend}, JointLaws.{IsUnnamed}, Laws.{IsSent}, Numbers.{HasOwnNumbers, IsFourOctet}, Sending.{update_sent}, World.{run}, declared.{Sending.{Sending}, event.Event.{Event}, Closed.TheVariants.{Fault, Notified}}, Session.{Last, closed, session_by, still}, Times.{at_moment, tick_at}, Transition.{Machine}}
+use Rattle.fs_speaker.specs.{Announcer.{CanSend}, JointLaws.{IsUnnamed}, Laws.{IsSent}, Numbers.{HasOwnNumbers, IsFourOctet}, Sending.{update_sent}}
+use Rattle.fs_speaker.specs.World.{run}
+use Rattle.fs_speaker.specs.declared.{Sending.{Sending}, event.Event.{Event}, Closed.TheVariants.{Fault, Notified}}
+use Rattle.fs_speaker.specs.{Session.{Last, closed, session_by, still}, Times.{at_moment, tick_at}, Transition.{Machine}}
 use Rattle.fs_session.specs.declared.{times.Tick.TheVariants.{Expires}, transition.Phase.{Phase}}
 
 -- Either end, wherever pieces at moments leave it open: where its hold time has expired at one moment more, it agreed on

@@ -1,10 +1,13 @@
 -- What a receiving end hears and says over a wire, and how that ends.
 use Rattle.std.specs.Prelude.{◌≡◌, ℕ, ◌≤◌, ◌<◌, List, [], ◌++◌, length, if◌then◌else◌, Bool, true, false, Option, Some, None}
 use Rattle.fs_base.specs.{Config.{peer_of}, Sink.{Grew}, Wire.{Told, WireEnds}, declared.config.{Config.{Config}, Peer.{Peer}}}
-use Rattle.fs_speaker.specs.{Announcer.{is_established}, Session.{still}, declared.{Closed.{Closed}, Standing.{Standing, TheVariants.{Live, Ended as HasEnded}}}}
+use Rattle.fs_speaker.specs.{Announcer.{is_established}, Session.{still}}
+use Rattle.fs_speaker.specs.declared.{Closed.{Closed}, Standing.{Standing, TheVariants.{Live, Ended as HasEnded}}}
 use Rattle.fs_session.specs.declared.transition.Phase.{Phase}
 use Rattle.fs_desk.specs.{Desk.{Desked, Played}, Limit.{bounded_session}}
-use Rattle.fs_peering.specs.{declared.{tell.Ending.{Ending, TheVariants.{Done, Closed as WasClosed, Ended, AtLimit}}, listening.Stopped.{Stopped, TheVariants.{All, Over, AtLimit as MetIt}}}, Round.{Pieces, moments_in, octets_in}, Hearer.{HasClosed, tape_of, course_of}}
+use Rattle.fs_peering.specs.declared.tell.Ending.{Ending, TheVariants.{Done, Closed as WasClosed, Ended, AtLimit}}
+use Rattle.fs_peering.specs.declared.listening.Stopped.{Stopped, TheVariants.{All, Over, AtLimit as MetIt}}
+use Rattle.fs_peering.specs.{Round.{Pieces, moments_in, octets_in}, Hearer.{HasClosed, tape_of, course_of}}
 
 -- the peer is up, and its session is established
 abbrev pub is_settled : Standing → Bool

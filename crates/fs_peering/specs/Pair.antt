@@ -1,10 +1,20 @@
 -- What both ends of a session come to that are joined over a wire.
-use Rattle.std.specs.{Prelude.{◌≡◌, ◌≢◌, ◌⊎◌, ⊤, ℕ, ◌+◌, ◌*◌, ◌≤◌, ◌<◌, List, [], ◌∷◌, ◌++◌, length, map, take, if◌then◌else◌, Bool, true, false, Option, Some, None}, List.{AllByRecursion}}
+use Rattle.std.specs.Prelude.{◌≡◌, ◌≢◌, ◌⊎◌, ⊤, ℕ, ◌+◌, ◌*◌, ◌≤◌, ◌<◌, List, [], ◌∷◌, ◌++◌, length, map, take, if◌then◌else◌, Bool, true, false}
+use Rattle.std.specs.Prelude.{Option, Some, None}
+use Rattle.std.specs.List.{AllByRecursion}
 use Rattle.fs_base.specs.{Sink.{Grew}, Wire.{Told, WireEnds}, declared.config.{Config.{Config}, Peer.{Peer}}}
-use Rattle.fs_speaker.specs.{Announcer.{is_established, open_sent}, Handed.{Handed}, Sending.{needs_of, text_sent, update_sent}, Line.{Lined}, Session.{at_start, session_by, still}, Side.{announcer, receiver}, Transition.{Machine, phase}, declared.{Sending.{Sending}, Sent.{Sent}, Closed.{Closed, TheVariants.{Fault}}, Standing.{Standing, TheVariants.{Ended as HasEnded}}, State.TheVariants.{Established}}, JointLaws.{CanArrive}}
+use Rattle.fs_speaker.specs.{Announcer.{is_established, open_sent}, Handed.{Handed}, Sending.{needs_of, text_sent, update_sent}, Line.{Lined}}
+use Rattle.fs_speaker.specs.{Session.{at_start, session_by, still}, Side.{announcer, receiver}, Transition.{Machine, phase}}
+use Rattle.fs_speaker.specs.declared.{Sending.{Sending}, Sent.{Sent}, Closed.{Closed, TheVariants.{Fault}}}
+use Rattle.fs_speaker.specs.declared.{Standing.{Standing, TheVariants.{Ended as HasEnded}}, State.TheVariants.{Established}}
+use Rattle.fs_speaker.specs.JointLaws.{CanArrive}
 use Rattle.fs_session.specs.declared.transition.Phase.{Phase}
 use Rattle.fs_desk.specs.{Desk.{Desked}, Limit.{bounded_session}}
-use Rattle.fs_peering.specs.{Opening.{opened_by}, Tell.{EndsBefore, MetLimit}, declared.{tell.Ending.{Ending, TheVariants.{Done, Closed as WasClosed, Ended, AtLimit}}, joined.Talk.{Talk, TheVariants.{Done as AllSaid, FirstOver, SecondOver, AtLimit as MetIt, Broken}}}, Joined.{AreJoined, Heard, moments_of, of_first, of_second}, Round.{Pieces, octets_in}, Hearer.{HasClosed}, Listen.{IsReceiving}, Teller.{is_settled}, Sender.{rules_in, without_rules, woven}, Course.{course}}
+use Rattle.fs_peering.specs.{Opening.{opened_by}, Tell.{EndsBefore, MetLimit}}
+use Rattle.fs_peering.specs.declared.tell.Ending.{Ending, TheVariants.{Done, Closed as WasClosed, Ended, AtLimit}}
+use Rattle.fs_peering.specs.declared.joined.Talk.{Talk, TheVariants.{Done as AllSaid, FirstOver, SecondOver, AtLimit as MetIt, Broken}}
+use Rattle.fs_peering.specs.{Joined.{AreJoined, Heard, moments_of, of_first, of_second}, Round.{Pieces, octets_in}, Hearer.{HasClosed}}
+use Rattle.fs_peering.specs.{Listen.{IsReceiving}, Teller.{is_settled}, Sender.{rules_in, without_rules, woven}, Course.{course}}
 
 -- Of these moments none lies so far behind another that a hold time could have passed between them.
 abbrev pub IsTimely : Config → List ℕ → Type 0

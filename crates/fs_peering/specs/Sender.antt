@@ -2,7 +2,8 @@
 use Rattle.std.specs.Prelude.{◌≡◌, ◌+◌, ℕ, List, [], ◌∷◌, ◌++◌, length, take, flat_map, Bool, true, false, Option, Some, None, Ok}
 use Rattle.fs_base.specs.declared.config.Config.{Config}
 use Rattle.fs_message.specs.{Deframer.{pending}, Open.{open_of}, Stream.{Message, first_message}, Write.{message_text}, declared.open_.Open.{Open}}
-use Rattle.fs_speaker.specs.{End.{StandsAt}, Announcer.{Announcing, is_established, machine_in, with_line}, Line.{Lined}, Sending.{text_sent}, Session.{at_start, still}, Transition.{Machine}, declared.{Sent.{Sent}, State.{State, TheVariants.{WaitOpen}}}}
+use Rattle.fs_speaker.specs.{End.{StandsAt}, Announcer.{Announcing, is_established, machine_in, with_line}, Line.{Lined}, Sending.{text_sent}}
+use Rattle.fs_speaker.specs.{Session.{at_start, still}, Transition.{Machine}, declared.{Sent.{Sent}, State.{State, TheVariants.{WaitOpen}}}}
 use Rattle.fs_session.specs.declared.transition.Phase.{Phase}
 use Rattle.fs_peering.specs.{Opening.{opened_by}, Teller.{HasHeard, is_settled, opening_of}, Round.{Pieces, octets_in}, Course.{course}}
 

@@ -1,9 +1,13 @@
 -- What an announcing end says over a wire, and how that ends.
 use Rattle.std.specs.Prelude.{◌≡◌, ℕ, ◌+◌, ◌≤◌, ◌<◌, ◌==◌, List, [], ◌∷◌, ◌++◌, length, flat_map, true, false, if◌then◌else◌, Option, Some}
 use Rattle.fs_base.specs.{declared.config.{Config.{Config}, Peer.{Peer}}, Sink.{Grew}, Wire.{Told, WireEnds}}
-use Rattle.fs_speaker.specs.{declared.{Closed.{Closed, TheVariants.{Fault}}, Sending.{Sending}}, Announcer.{Announcing, announcing, is_established, open_sent}, Line.{fresh}, Sending.{needs_of, text_sent}, Session.{at_start, still}, Side.{announcer, notice_text}, Transition.{Machine}}
+use Rattle.fs_speaker.specs.declared.{Closed.{Closed, TheVariants.{Fault}}, Sending.{Sending}}
+use Rattle.fs_speaker.specs.{Announcer.{Announcing, announcing, is_established, open_sent}, Line.{fresh}, Sending.{needs_of, text_sent}}
+use Rattle.fs_speaker.specs.{Session.{at_start, still}, Side.{announcer, notice_text}, Transition.{Machine}}
 use Rattle.fs_session.specs.declared.transition.Phase.{Phase}
-use Rattle.fs_peering.specs.{Round.{Pieces, moments_in, octets_in}, declared.tell.Ending.{Ending, TheVariants.{Done, Closed as HasClosed, Ended, AtLimit}}, Course.{course}, Opening.{opened_by}, Teller.{ClosesSo, IsInTime, IsListening}}
+use Rattle.fs_peering.specs.Round.{Pieces, moments_in, octets_in}
+use Rattle.fs_peering.specs.declared.tell.Ending.{Ending, TheVariants.{Done, Closed as HasClosed, Ended, AtLimit}}
+use Rattle.fs_peering.specs.{Course.{course}, Opening.{opened_by}, Teller.{ClosesSo, IsInTime, IsListening}}
 
 -- What an announcing end says before its rules that hears these pieces: its OPEN, what is answered to them, and what the
 -- clock appends.

@@ -1,7 +1,12 @@
 -- An announcing end, by what it heard and said.
-use Rattle.std.specs.{Prelude.{◌≡◌, ◌≢◌, ◌⊎◌, ◌||◌, ◌&&◌, not, ℕ, ◌+◌, ◌-◌, ◌*◌, List, [], ◌∷◌, ◌++◌, length, take, flat_map, Bool, true, false, if◌then◌else◌, Some, None}, Option.{is_some}}
+use Rattle.std.specs.Prelude.{◌≡◌, ◌≢◌, ◌⊎◌, ◌||◌, ◌&&◌, not, ℕ, ◌+◌, ◌-◌, ◌*◌, List, [], ◌∷◌, ◌++◌, length, take, flat_map, Bool, true, false}
+use Rattle.std.specs.Prelude.{if◌then◌else◌, Some, None}
+use Rattle.std.specs.Option.{is_some}
 use Rattle.fs_message.specs.Deframer.{pending}
-use Rattle.fs_speaker.specs.{declared.Closed.{Closed, TheVariants.{Fault}}, Announcer.{Announcing, announcing, is_established, machine_in, open_sent}, End.{StandsAt, ticked}, Handed.{Point, hand}, Line.{Lined, fresh, state_in}, Sending.{text_sent}, Session.{at_start, closed, still}, Transition.{Machine}}
+use Rattle.fs_speaker.specs.declared.Closed.{Closed, TheVariants.{Fault}}
+use Rattle.fs_speaker.specs.Announcer.{Announcing, announcing, is_established, machine_in, open_sent}
+use Rattle.fs_speaker.specs.{End.{StandsAt, ticked}, Handed.{Point, hand}, Line.{Lined, fresh, state_in}, Sending.{text_sent}}
+use Rattle.fs_speaker.specs.{Session.{at_start, closed, still}, Transition.{Machine}}
 use Rattle.fs_session.specs.declared.transition.Phase.{Phase}
 use Rattle.fs_peering.specs.{Round.{Pieces, moments_in, octets_in}, Course.{course}, HoldTime.{Spans}, Opening.{opened_by}}
 

@@ -1,12 +1,16 @@
 //! What takes a router from old rules to new ones.
 
-ghost use Rattle.std.specs.{Prelude.{◌≡◌, ◌+◌, ◌-◌, ◌++◌, ◌∷◌, [], ◌<◌, ◌≤◌, ◌^◌, true, length, map, flat_map, None, Some, IfOk, IfSome, OnOk}, List.{list_all}, Option.{option_copied}};
+ghost use Rattle.std.specs.Prelude.{◌≡◌, ◌+◌, ◌-◌, ◌++◌, ◌∷◌, [], ◌<◌, ◌≤◌, ◌^◌, true, length, map, flat_map, None, Some, IfOk, IfSome, OnOk};
+ghost use Rattle.std.specs.{List.{list_all}, Option.{option_copied}};
 ghost use Rattle.fs_base.specs.declared.prefix.Family.TheVariants.{V4, V6};
 ghost use Rattle.fs_nlri.specs.Rule.{canonical_frame};
 ghost use Rattle.fs_attrs.specs.{Texts.{rules_text}, Writable.{are_rules_of}};
 ghost use Rattle.fs_message.specs.Write.{AppendsWhole};
 ghost use Rattle.fs_speaker.specs.Sending.{is_short, text_by};
-ghost use Rattle.fs_peering.specs.{Keeper.{change_text, fitting, fresh, gone, news_told, of_family, packs, room_for_rules, texts, withdrawal, withdrawal_text, withdrawals}, Keeping.{MayBeSaid}, Change.{Adds, AreSaid, Keeps, Notes, fits_alone, has_rule, joined, unkept, unsaid}};
+ghost use Rattle.fs_peering.specs.Keeper.{change_text, fitting, fresh, gone, news_told, of_family, packs, room_for_rules, texts, withdrawal};
+ghost use Rattle.fs_peering.specs.Keeper.{withdrawal_text, withdrawals};
+ghost use Rattle.fs_peering.specs.Keeping.{MayBeSaid};
+ghost use Rattle.fs_peering.specs.Change.{Adds, AreSaid, Keeps, Notes, fits_alone, has_rule, joined, unkept, unsaid};
 
 use crate::keeper::News;
 use fs_actions::Actions;

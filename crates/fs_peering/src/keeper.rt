@@ -3,7 +3,8 @@
 ghost use Rattle.std.specs.{Prelude.{◌≡◌, ◌∷◌, ℕ, [], None, true, not, IfOk, IfSome, OnErr, OnOk}, Option.{option_copied}};
 ghost use Rattle.fs_base.specs.{Gate.{FitsIn, shut, what_from}, Sink.{Grew}};
 ghost use Rattle.fs_speaker.specs.{Announcer.{CanSend}, Sending.{sender_of}};
-ghost use Rattle.fs_peering.specs.{Keeper.{accepts, at_line, begins, checks, dials, ends, follows, hears, receives, speaks, tells_all}, Keeping.{BreaksSo, TellsSo, TookQuietly, TookSo, is_told, is_untold, let_go}};
+ghost use Rattle.fs_peering.specs.Keeper.{accepts, at_line, begins, checks, dials, ends, follows, hears, receives, speaks, tells_all};
+ghost use Rattle.fs_peering.specs.Keeping.{BreaksSo, TellsSo, TookQuietly, TookSo, is_told, is_untold, let_go};
 
 use crate::link::Link;
 use fs_base::{Came, Config, Event, Gate, Memory};

@@ -1,8 +1,10 @@
 //! A connection of a session that is kept.
 
 ghost use Rattle.std.specs.{Prelude.{◌≡◌, ◌≢◌, ◌++◌, ◌-◌, ◌&&◌, Some, false, true, not, nat_lt, IfOk, IfSome, OnOk}, Option.{option_copied}};
-ghost use Rattle.fs_speaker.specs.{Announcer.{CanSend, announcing, has_started, is_established, machine_in, open_sent}, Line.{fresh, state_in}, Sending.{sender_of}, Side.{notice_text}};
-ghost use Rattle.fs_peering.specs.{Keeper.{exceeds, news_of, open_time, parting, received, woken}, Keeping.{KeepsOwn, LinkSays, LinkTells, MayBeSaid, terms_in}};
+ghost use Rattle.fs_speaker.specs.Announcer.{CanSend, announcing, has_started, is_established, machine_in, open_sent};
+ghost use Rattle.fs_speaker.specs.{Line.{fresh, state_in}, Sending.{sender_of}, Side.{notice_text}};
+ghost use Rattle.fs_peering.specs.Keeper.{exceeds, news_of, open_time, parting, received, woken};
+ghost use Rattle.fs_peering.specs.Keeping.{KeepsOwn, LinkSays, LinkTells, MayBeSaid, terms_in};
 
 use crate::change::append_change;
 use crate::keeper::News;

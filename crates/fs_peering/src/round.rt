@@ -1,6 +1,7 @@
 //! One round of an end, and one message of its own.
 
-ghost use Rattle.std.specs.{Prelude.{◌≡◌, ◌≤◌, ◌<◌, ◌+◌, ◌∷◌, [], ℕ, false, IsSome, IsTrue, None, IfOk, IsOk, OnOk, OnErr, Ok, length, unwrap_or}, Result.{IsErrOf}, Io.{ReadsAtMost}};
+ghost use Rattle.std.specs.Prelude.{◌≡◌, ◌≤◌, ◌<◌, ◌+◌, ◌∷◌, [], ℕ, false, IsSome, IsTrue, None, IfOk, IsOk, OnOk, OnErr, Ok, length, unwrap_or};
+ghost use Rattle.std.specs.{Result.{IsErrOf}, Io.{ReadsAtMost}};
 ghost use Rattle.fs_base.specs.{Outside.{HasCause, Rose}, Sink.{Grew}, Wire.{EndReads, TakesIn, Told}, declared.Failed.{Failed}};
 ghost use Rattle.fs_peering.specs.Round.{Speech, Spoken, Round};
 

@@ -1,5 +1,9 @@
 -- The numbers of a block are those whose first bits are the block's.
-use Rattle.fs_ranges.proofs.{Words.{◌≡◌, ℕ, ◌+◌, ◌-◌, ◌*◌, ◌/◌, ◌%◌, ◌^◌, ◌<◌, ◌≤◌, ◌==◌, true, ◌&&◌, nat_le, refl, sym, ap, subst, ◌∙◌, arith, inl, inr, div-add-mod', pow_pos, and_right, cases_lt, eq-eqb, eqb-true, lt-leb, Family, cleared, IsBlock, block_of, same_tests, V4Body, V6Body, IsSoundBody, is_prefix_of, Pattern, IsSmallAddress, address_number, IsPatternOf, is_under}, Enclosing.{from_in, to_in}}
+use Rattle.fs_ranges.proofs.Words.{◌≡◌, ℕ, ◌+◌, ◌-◌, ◌*◌, ◌/◌, ◌%◌, ◌^◌, ◌<◌, ◌≤◌, ◌==◌, true, ◌&&◌, nat_le, refl, sym, ap, subst, ◌∙◌, arith, inl}
+use Rattle.fs_ranges.proofs.Words.{inr, div-add-mod', pow_pos, and_right, cases_lt, eq-eqb, eqb-true, lt-leb, Family, cleared, IsBlock, block_of}
+use Rattle.fs_ranges.proofs.Words.{same_tests, V4Body, V6Body, IsSoundBody, is_prefix_of, Pattern, IsSmallAddress, address_number, IsPatternOf}
+use Rattle.fs_ranges.proofs.Words.{is_under}
+use Rattle.fs_ranges.proofs.Enclosing.{from_in, to_in}
 use Rattle.std.proofs.Math.Nat.{mod-eq_of_lt, mod-lt}
 use Rattle.fs_base.{specs.declared.config.Address.{Address, TheVariants.{V4, V6}}, proofs.NumberTests.{next_row}}
 
@@ -40,17 +44,21 @@ in_block size count last y some e = same_tests (nat_le (count * size) y && nat_l
         let same : y / size * size ≡ count * size = eqb-true (y / size * size) (count * size) h in
         to_in y (count * size, last) (omega (arith, split, below)) (omega (arith, split, below))
 
-in_prefix : (w len bits last x : ℕ) → len ≤ w → bits ≡ cleared w len bits → last + 1 ≡ bits + 2 ^ (w - len) → (nat_le bits (x % 2 ^ w) && nat_le (x % 2 ^ w) last) ≡ (cleared w len x == bits)
+in_prefix : (w len bits last x : ℕ) → len ≤ w → bits ≡ cleared w len bits → last + 1 ≡ bits + 2 ^ (w - len)
+    → (nat_le bits (x % 2 ^ w) && nat_le (x % 2 ^ w) last) ≡ (cleared w len x == bits)
 in_prefix w len bits last x short clear e =
     let block : IsBlock w len bits = block_of w len bits short clear in
     let ends : last + 1 ≡ block.count * 2 ^ (w - len) + 2 ^ (w - len) = e ∙ ap (λ (b : ℕ). b + 2 ^ (w - len)) block.spelled in
-    subst (λ (b : ℕ). (nat_le b (x % 2 ^ w) && nat_le (x % 2 ^ w) last) ≡ (x % 2 ^ w / 2 ^ (w - len) * 2 ^ (w - len) == b)) (sym block.spelled) (in_block (2 ^ (w - len)) block.count last (x % 2 ^ w) (pow_pos (w - len)) ends)
+    subst (λ (b : ℕ). (nat_le b (x % 2 ^ w) && nat_le (x % 2 ^ w) last) ≡ (x % 2 ^ w / 2 ^ (w - len) * 2 ^ (w - len) == b)) (sym block.spelled)
+    (in_block (2 ^ (w - len)) block.count last (x % 2 ^ w) (pow_pos (w - len)) ends)
 
 -- an address of IPv6 is above all of IPv4
-pub in_v4 : (family : Family) (len bits last : ℕ) (address : Address) → len ≤ 32 → bits ≡ cleared 32 len bits → last + 1 ≡ bits + 2 ^ (32 - len) → IsSmallAddress address
+pub in_v4 : (family : Family) (len bits last : ℕ) (address : Address) → len ≤ 32 → bits ≡ cleared 32 len bits → last + 1 ≡ bits + 2 ^ (32 - len)
+    → IsSmallAddress address
     → (nat_le bits (address_number address) && nat_le (address_number address) last) ≡ is_prefix_of (V4Body family len bits) address
 in_v4 family len bits last (V4 address) short clear e small =
-    subst (λ (n : ℕ). (nat_le bits n && nat_le n last) ≡ (cleared 32 len address == bits)) (mod-eq_of_lt small) (in_prefix 32 len bits last address short clear e)
+    subst (λ (n : ℕ). (nat_le bits n && nat_le n last) ≡ (cleared 32 len address == bits)) (mod-eq_of_lt small)
+    (in_prefix 32 len bits last address short clear e)
 in_v4 family len bits last (V6 address) short clear e small =
     let block : IsBlock 32 len bits = block_of 32 len bits short clear in
     let within : bits + 2 ^ (32 - len) ≤ 2 ^ 32 = block.within in

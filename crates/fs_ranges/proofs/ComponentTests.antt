@@ -1,5 +1,8 @@
 -- The tests of components stand for them.
-use Rattle.fs_ranges.proofs.{Words.{◌≡◌, ℕ, ◌+◌, ◌-◌, ◌^◌, ◌<◌, ◌≤◌, List, Option, Some, None, refl, sym, ap, ◌∙◌, arith, inl, inr, subst, ◌⊎◌, pow_pos, Family, width_of, IsBlock, block_of, ListBody, V4Body, V6Body, part, IsSoundBody, flags_hold, Pattern, Range, Within, TcpFlags, Destination, Source, facts_of, range, range_holds, IsPatternOf, IsTestOf, flags_pass}, Blocks.{in_v4, in_v6}}
+use Rattle.fs_ranges.proofs.Words.{◌≡◌, ℕ, ◌+◌, ◌-◌, ◌^◌, ◌<◌, ◌≤◌, List, Option, Some, None, refl, sym, ap, ◌∙◌, arith, inl, inr, subst, ◌⊎◌}
+use Rattle.fs_ranges.proofs.Words.{pow_pos, Family, width_of, IsBlock, block_of, ListBody, V4Body, V6Body, part, IsSoundBody, flags_hold, Pattern}
+use Rattle.fs_ranges.proofs.Words.{Range, Within, TcpFlags, Destination, Source, facts_of, range, range_holds, IsPatternOf, IsTestOf, flags_pass}
+use Rattle.fs_ranges.proofs.Blocks.{in_v4, in_v6}
 use Rattle.fs_base.specs.{declared.prefix.{Family.TheVariants.{V4}, Prefix.{Prefix}}, Prefix.{last_address}}
 use Rattle.fs_packet.proofs.Flags.{flags_same, sound_is_wide}
 
@@ -19,15 +22,18 @@ v4_high p sound =
 pub v4_prefix : (kind : ℕ) (p : Prefix) (r : Range) → (kind ≡ 1) ⊎ (kind ≡ 2) → IsSoundBody (V4Body p.family p.length p.bits)
     → r ≡ range kind p.bits (last_address p) → IsTestOf (part kind (V4Body p.family p.length p.bits)) (Within r)
 v4_prefix kind p r (inl one) sound h = subst (λ k. IsTestOf (part k (V4Body p.family p.length p.bits)) (Within r)) (sym one) (λ view small.
-    ap (range_holds (facts_of view)) (h ∙ ap (λ k. range k p.bits (last_address p)) one) ∙ in_v4 p.family p.length p.bits (last_address p) view.destination sound.1 sound.2 (v4_last p sound.0) small.destination)
+    ap (range_holds (facts_of view)) (h ∙ ap (λ k. range k p.bits (last_address p)) one)
+    ∙ in_v4 p.family p.length p.bits (last_address p) view.destination sound.1 sound.2 (v4_last p sound.0) small.destination)
 v4_prefix kind p r (inr two) sound h = subst (λ k. IsTestOf (part k (V4Body p.family p.length p.bits)) (Within r)) (sym two) (λ view small.
-    ap (range_holds (facts_of view)) (h ∙ ap (λ k. range k p.bits (last_address p)) two) ∙ in_v4 p.family p.length p.bits (last_address p) view.source sound.1 sound.2 (v4_last p sound.0) small.source)
+    ap (range_holds (facts_of view)) (h ∙ ap (λ k. range k p.bits (last_address p)) two)
+    ∙ in_v4 p.family p.length p.bits (last_address p) view.source sound.1 sound.2 (v4_last p sound.0) small.source)
 
 pub v6_destination : (len offset bits : ℕ) (pattern : Pattern) → IsSoundBody (V6Body len offset bits) → IsPatternOf len offset bits pattern
     → IsTestOf (part 1 (V6Body len offset bits)) (Destination pattern)
 v6_destination len offset bits pattern sound h = λ view small. in_v6 len offset bits pattern view.destination sound h
 
-pub v6_source : (len offset bits : ℕ) (pattern : Pattern) → IsSoundBody (V6Body len offset bits) → IsPatternOf len offset bits pattern → IsTestOf (part 2 (V6Body len offset bits)) (Source pattern)
+pub v6_source : (len offset bits : ℕ) (pattern : Pattern) → IsSoundBody (V6Body len offset bits) → IsPatternOf len offset bits pattern
+    → IsTestOf (part 2 (V6Body len offset bits)) (Source pattern)
 v6_source len offset bits pattern sound h = λ view small. in_v6 len offset bits pattern view.source sound h
 
 same_flags : (pairs : List (ℕ × ℕ)) (octets : Option ℕ) → IsSoundBody (ListBody pairs) → flags_pass pairs octets ≡ flags_hold pairs octets

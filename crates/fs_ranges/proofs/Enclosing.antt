@@ -1,4 +1,7 @@
-use Rattle.fs_ranges.proofs.Words.{◌≡◌, ℕ, zero, suc, ◌+◌, ◌^◌, ◌<◌, ◌≤◌, List, [], ◌∷◌, length, get_or, Bool, true, false, true≢false, ◌&&◌, ◌||◌, nat_le, nat_lt, refl, sym, ap, ◌∙◌, arith, inl, inr, list_all, list_any, IsPartitionPoint, IsPartitionedBy, IsTrue, ◌↔◌, and_right, cases_lt, le-leb, leb-true, leb-false, lt-leb, le-ltb, lt-ltb, ltb-true, ltb-false, and_both, and_parts, or_first, or_second, AreApart, contains, encloses, is_in}
+use Rattle.fs_ranges.proofs.Words.{◌≡◌, ℕ, zero, suc, ◌+◌, ◌^◌, ◌<◌, ◌≤◌, List, [], ◌∷◌, length, get_or, Bool, true, false, true≢false, ◌&&◌, ◌||◌}
+use Rattle.fs_ranges.proofs.Words.{nat_le, nat_lt, refl, sym, ap, ◌∙◌, arith, inl, inr, list_all, list_any, IsPartitionPoint, IsPartitionedBy, IsTrue}
+use Rattle.fs_ranges.proofs.Words.{◌↔◌, and_right, cases_lt, le-leb, leb-true, leb-false, lt-leb, le-ltb, lt-ltb, ltb-true, ltb-false, and_both}
+use Rattle.fs_ranges.proofs.Words.{and_parts, or_first, or_second, AreApart, contains, encloses, is_in}
 
 -- A stretch that is covered by ranges with gaps between them lies in one of them.
 
@@ -64,18 +67,21 @@ one_covers : (low : ℕ) (range : ℕ × ℕ) (others : List (ℕ × ℕ)) → A
 one_covers low range [] apart proper all = all range.0 (omega arith) proper
 one_covers low range (other ∷ others) apart proper all = elim (cases_lt other.1 range.0) [
   | inl behind ↦ or_second (encloses range other) (list_any (encloses range) others)
-      (one_covers (other.1 + 2) range others apart.2 proper (λ n first last. or_rest (is_in n other) (contains others n) (above_is n other (omega arith)) (all n first last)))
+      (one_covers (other.1 + 2) range others apart.2 proper
+      (λ n first last. or_rest (is_in n other) (contains others n) (above_is n other (omega arith)) (all n first last)))
   | inr near ↦ or_first (encloses range other) (list_any (encloses range) others) (to_encloses range other (starts near) (ends near))
 ] where
   starts : range.0 ≤ other.1 → other.0 ≤ range.0
   starts near = elim (cases_lt range.0 other.0) [
-    | inl before ↦ absurd (true≢false (sym (all range.0 (omega arith) proper) ∙ (λ i. below_is range.0 other before i || not_below (other.1 + 2) range.0 others apart.2 (omega arith) i)))
+    | inl before ↦ absurd (true≢false (sym (all range.0 (omega arith) proper)
+        ∙ (λ i. below_is range.0 other before i || not_below (other.1 + 2) range.0 others apart.2 (omega arith) i)))
     | inr first ↦ first
   ]
 
   ends : range.0 ≤ other.1 → range.1 ≤ other.1
   ends near = elim (cases_lt other.1 range.1) [
-    | inl over ↦ absurd (true≢false (sym (all (other.1 + 1) (omega arith) (omega arith)) ∙ (λ i. above_is (other.1 + 1) other (omega arith) i || not_below (other.1 + 2) (other.1 + 1) others apart.2 (omega arith) i)))
+    | inl over ↦ absurd (true≢false (sym (all (other.1 + 1) (omega arith) (omega arith))
+        ∙ (λ i. above_is (other.1 + 1) other (omega arith) i || not_below (other.1 + 2) (other.1 + 1) others apart.2 (omega arith) i)))
     | inr last ↦ last
   ]
 
@@ -85,7 +91,8 @@ all_covers low bound [] others apart outer all = refl
 all_covers low bound (range ∷ ranges) others apart outer all =
     let small : range.1 < 2 ^ 64 = apart.1.1 in
     and_both (list_any (encloses range) others) (all_within ranges others)
-    (one_covers bound range others outer apart.1.0 (λ n first last. all n (omega arith) (or_first (is_in n range) (contains ranges n) (to_in n range first last))))
+    (one_covers bound range others outer apart.1.0
+    (λ n first last. all n (omega arith) (or_first (is_in n range) (contains ranges n) (to_in n range first last))))
     (all_covers (range.1 + 2) bound ranges others apart.2 outer (λ n below here. all n below (or_second (is_in n range) (contains ranges n) here)))
 
 pub decides : (r : Bool) (ranges others : List (ℕ × ℕ)) → AreApart 0 ranges → AreApart 0 others → r ≡ all_within ranges others
@@ -111,7 +118,8 @@ place_behind range other others place at = record {
   behind = λ b d from inside. at.behind (suc b) d (omega arith) (omega arith);
 }
 
-skip_first : (place : ℕ) (range other : ℕ × ℕ) (others : List (ℕ × ℕ)) → IsPlace range (other ∷ others) (suc place) → list_any (encloses range) (other ∷ others) ≡ list_any (encloses range) others
+skip_first : (place : ℕ) (range other : ℕ × ℕ) (others : List (ℕ × ℕ)) → IsPlace range (other ∷ others) (suc place)
+    → list_any (encloses range) (other ∷ others) ≡ list_any (encloses range) others
 skip_first place range other others at = ap (λ (b : Bool). b || list_any (encloses range) others) (ends_before range other (at.before 0 other (omega arith)))
 
 -- the first that doesn't end before the range encloses it, or none does
@@ -138,25 +146,30 @@ first_encloses low (suc place) range (other ∷ others) apart at within d =
 none_left : (place : ℕ) (range : ℕ × ℕ) (others : List (ℕ × ℕ)) → IsPlace range others place → length others ≤ place → false ≡ list_any (encloses range) others
 none_left place range [] at past = refl
 none_left zero range (other ∷ others) at past = absurd (omega (arith, past))
-none_left (suc place) range (other ∷ others) at past = none_left place range others (place_behind range other others place at) (omega (arith, past)) ∙ sym (skip_first place range other others at)
+none_left (suc place) range (other ∷ others) at past = none_left place range others (place_behind range other others place at) (omega (arith, past))
+    ∙ sym (skip_first place range other others at)
 
-from_partition : (range : ℕ × ℕ) (others : List (ℕ × ℕ)) (place : ℕ) → IsPartitionPoint (λ r. nat_lt r.1 range.1 ≡ true) (λ r. nat_lt r.1 range.1 ≡ false) others place → IsPlace range others place
+from_partition : (range : ℕ × ℕ) (others : List (ℕ × ℕ)) (place : ℕ)
+    → IsPartitionPoint (λ r. nat_lt r.1 range.1 ≡ true) (λ r. nat_lt r.1 range.1 ≡ false) others place → IsPlace range others place
 from_partition range others place p = record {
   before = λ b d below. ltb-true (get_or others b d).1 range.1 (p.0 b d (omega arith) below);
   behind = λ b d from inside. ltb-false (get_or others b d).1 range.1 (p.1 b d from inside);
 }
 
-pub found_encloses : (place : ℕ) (range found : ℕ × ℕ) (others : List (ℕ × ℕ)) → AreApart 0 others → IsPartitionPoint (λ r. nat_lt r.1 range.1 ≡ true) (λ r. nat_lt r.1 range.1 ≡ false) others place
+pub found_encloses : (place : ℕ) (range found : ℕ × ℕ) (others : List (ℕ × ℕ)) → AreApart 0 others
+    → IsPartitionPoint (λ r. nat_lt r.1 range.1 ≡ true) (λ r. nat_lt r.1 range.1 ≡ false) others place
     → place < length others → found ≡ get_or others place found → nat_le found.0 range.0 ≡ list_any (encloses range) others
 found_encloses place range found others apart p within e =
     ap (λ (r : ℕ × ℕ). nat_le r.0 range.0) e ∙ first_encloses 0 place range others apart (from_partition range others place p) within found
 
-pub none_encloses : (place : ℕ) (range : ℕ × ℕ) (others : List (ℕ × ℕ)) → IsPartitionPoint (λ r. nat_lt r.1 range.1 ≡ true) (λ r. nat_lt r.1 range.1 ≡ false) others place
+pub none_encloses : (place : ℕ) (range : ℕ × ℕ) (others : List (ℕ × ℕ))
+    → IsPartitionPoint (λ r. nat_lt r.1 range.1 ≡ true) (λ r. nat_lt r.1 range.1 ≡ false) others place
     → length others ≤ place → false ≡ list_any (encloses range) others
 none_encloses place range others p past = none_left place range others (from_partition range others place p) past
 
 -- those that end before a number come first
-not_ended : (bound low : ℕ) (ranges : List (ℕ × ℕ)) → AreApart low ranges → bound ≤ low → (j : ℕ) (d : ℕ × ℕ) → j < length ranges → nat_lt (get_or ranges j d).1 bound ≡ false
+not_ended : (bound low : ℕ) (ranges : List (ℕ × ℕ)) → AreApart low ranges → bound ≤ low → (j : ℕ) (d : ℕ × ℕ) → j < length ranges
+    → nat_lt (get_or ranges j d).1 bound ≡ false
 not_ended bound low [] apart h j d below = absurd (omega (arith, below))
 not_ended bound low (range ∷ ranges) apart h zero d below =
     let first : low ≤ range.0 = apart.0 in
@@ -176,4 +189,5 @@ lasts_rise bound low (range ∷ ranges) apart zero (suc j) d order below passes 
       | inr later ↦ absurd (true≢false (sym passes ∙ not_ended bound (range.1 + 2) ranges apart.2 (omega arith) j d (omega arith)))
     ]
 lasts_rise bound low (range ∷ ranges) apart (suc i) zero d order below passes = absurd (omega (arith, order))
-lasts_rise bound low (range ∷ ranges) apart (suc i) (suc j) d order below passes = lasts_rise bound (range.1 + 2) ranges apart.2 i j d (omega arith) (omega arith) passes
+lasts_rise bound low (range ∷ ranges) apart (suc i) (suc j) d order below passes =
+    lasts_rise bound (range.1 + 2) ranges apart.2 i j d (omega arith) (omega arith) passes

@@ -1,5 +1,10 @@
 -- The test of a list by a field's number, of which an absent one is above all.
-use Rattle.fs_ranges.proofs.{Words.{◌≡◌, inl, inr, ℕ, ◌-◌, ◌^◌, ◌<◌, ◌≤◌, min, List, [], ◌∷◌, Bool, true, false, true≢false, ◌&&◌, ◌||◌, nat_le, nat_lt, if◌then◌else◌, Option, Some, None, refl, sym, ap, subst, ◌∙◌, arith, and_right, le-leb, le-ltb, leb-true, lt-leb, lt-ltb, same_tests, ListBody, part, Viewed, holds_of, list_matches, Test, Within, OneOf, PortWithin, IsSmall, IsSmallField, facts_of, field_number, number_of, AreNumbersOf, IsOnlyRange, has_field, range, clipped, contains, field_range, is_in, AsksOne, IsFieldTest, IsTestOf}, Enclosing.{from_in}}
+use Rattle.fs_ranges.proofs.Words.{◌≡◌, inl, inr, ℕ, ◌-◌, ◌^◌, ◌<◌, ◌≤◌, min, List, [], ◌∷◌, Bool, true, false, true≢false, ◌&&◌, ◌||◌, nat_le}
+use Rattle.fs_ranges.proofs.Words.{nat_lt, if◌then◌else◌, Option, Some, None, refl, sym, ap, subst, ◌∙◌, arith, and_right, le-leb, le-ltb, leb-true}
+use Rattle.fs_ranges.proofs.Words.{lt-leb, lt-ltb, same_tests, ListBody, part, Viewed, holds_of, list_matches, Test, Within, OneOf, PortWithin}
+use Rattle.fs_ranges.proofs.Words.{IsSmall, IsSmallField, facts_of, field_number, number_of, AreNumbersOf, IsOnlyRange, has_field, range, clipped}
+use Rattle.fs_ranges.proofs.Words.{contains, field_range, is_in, AsksOne, IsFieldTest, IsTestOf}
+use Rattle.fs_ranges.proofs.Enclosing.{from_in}
 use Rattle.std.proofs.lemmas.Option.{same_Some}
 
 -- the field that a type tests
@@ -15,13 +20,18 @@ asked kind pairs test (inl e) = field_is pairs (λ view. view.protocol) test e (
 asked kind pairs test (inr (inl e)) = field_is pairs (λ view. view.destination_port) test e (λ view. refl) (λ view small. small.destination_port) (λ view. refl)
 asked kind pairs test (inr (inr (inl e))) = field_is pairs (λ view. view.source_port) test e (λ view. refl) (λ view small. small.source_port) (λ view. refl)
 asked kind pairs test (inr (inr (inr (inl e)))) = field_is pairs (λ view. view.icmp_type) test e (λ view. refl) (λ view small. small.icmp_type) (λ view. refl)
-asked kind pairs test (inr (inr (inr (inr (inl e))))) = field_is pairs (λ view. view.icmp_code) test e (λ view. refl) (λ view small. small.icmp_code) (λ view. refl)
-asked kind pairs test (inr (inr (inr (inr (inr (inl e)))))) = field_is pairs (λ view. Some view.length) test e (λ view. refl) (λ view small. small.length) (λ view. refl)
-asked kind pairs test (inr (inr (inr (inr (inr (inr (inl e))))))) = field_is pairs (λ view. Some view.dscp) test e (λ view. refl) (λ view small. small.dscp) (λ view. refl)
-asked kind pairs test (inr (inr (inr (inr (inr (inr (inr e))))))) = field_is pairs (λ view. view.flow_label) test e (λ view. refl) (λ view small. small.flow_label) (λ view. refl)
+asked kind pairs test (inr (inr (inr (inr (inl e))))) =
+    field_is pairs (λ view. view.icmp_code) test e (λ view. refl) (λ view small. small.icmp_code) (λ view. refl)
+asked kind pairs test (inr (inr (inr (inr (inr (inl e)))))) =
+    field_is pairs (λ view. Some view.length) test e (λ view. refl) (λ view small. small.length) (λ view. refl)
+asked kind pairs test (inr (inr (inr (inr (inr (inr (inl e))))))) =
+    field_is pairs (λ view. Some view.dscp) test e (λ view. refl) (λ view small. small.dscp) (λ view. refl)
+asked kind pairs test (inr (inr (inr (inr (inr (inr (inr e))))))) =
+    field_is pairs (λ view. view.flow_label) test e (λ view. refl) (λ view small. small.flow_label) (λ view. refl)
 
 nothing_in : (n : ℕ) → is_in n (1, 0) ≡ false
-nothing_in n = same_tests (is_in n (1, 0)) false (λ h. let low : 1 ≤ n = (from_in n (1, 0) h).0 in let high : n ≤ 0 = (from_in n (1, 0) h).1 in absurd (omega arith)) (λ h. absurd (true≢false (sym h)))
+nothing_in n = same_tests (is_in n (1, 0)) false (λ h. let low : 1 ≤ n = (from_in n (1, 0) h).0 in let high : n ≤ 0 = (from_in n (1, 0) h).1 in
+    absurd (omega arith)) (λ h. absurd (true≢false (sym h)))
 
 least_same : (n last : ℕ) → n < 2 ^ 32 → nat_le n (min last (2 ^ 32 - 1)) ≡ nat_le n last
 least_same n last small = same_tests (nat_le n (min last (2 ^ 32 - 1))) (nat_le n last)
@@ -39,7 +49,8 @@ clipped_same : (first last n : ℕ) → n < 2 ^ 32 → is_in n (clipped first la
 clipped_same first last n small = at (nat_lt first (2 ^ 32)) refl
   where
     beyond : nat_lt first (2 ^ 32) ≡ false → nat_le first n ≡ false
-    beyond e = same_tests (nat_le first n) false (λ h. let low : first ≤ n = leb-true first n h in absurd (true≢false (sym (lt-ltb first (2 ^ 32) (omega arith)) ∙ e))) (λ h. absurd (true≢false (sym h)))
+    beyond e = same_tests (nat_le first n) false (λ h. let low : first ≤ n = leb-true first n h in
+        absurd (true≢false (sym (lt-ltb first (2 ^ 32) (omega arith)) ∙ e))) (λ h. absurd (true≢false (sym h)))
 
     at : (b : Bool) → nat_lt first (2 ^ 32) ≡ b → is_in n (if b then (first, min last (2 ^ 32 - 1)) else (1, 0)) ≡ is_in n (first, last)
     at true e = ap (λ (b : Bool). nat_le first n && b) (least_same n last small)
@@ -69,25 +80,37 @@ in_range pairs numbers r n (Some k) are h e small = ap (λ (k : ℕ). is_in k r)
 
 pub within_test : (field : ℕ) (pairs numbers : List (ℕ × ℕ)) (low high : ℕ) → AreNumbersOf pairs numbers → field_range numbers ≡ Some (low, high)
     → AsksOne field → IsTestOf (part field (ListBody pairs)) (Within (range field low high))
-within_test field pairs numbers low high are h asks = asked field pairs (Within (range field low high)) asks (λ facts number e small. in_range pairs numbers (low, high) (number_of facts field) number are (range_of numbers (low, high) h) e small)
+within_test field pairs numbers low high are h asks =
+    asked field pairs (Within (range field low high)) asks
+    (λ facts number e small. in_range pairs numbers (low, high) (number_of facts field) number are (range_of numbers (low, high) h) e small)
 
-in_only : (pairs : List (ℕ × ℕ)) (r : ℕ × ℕ) (n : ℕ) (number : Option ℕ) → r.1 < 2 ^ 32 → IsOnlyRange pairs r → n ≡ field_number number → IsSmallField number → is_in n r ≡ holds_of pairs number
+in_only : (pairs : List (ℕ × ℕ)) (r : ℕ × ℕ) (n : ℕ) (number : Option ℕ) → r.1 < 2 ^ 32 → IsOnlyRange pairs r → n ≡ field_number number
+    → IsSmallField number → is_in n r ≡ holds_of pairs number
 in_only pairs r n None low only e small = ap (λ (k : ℕ). is_in k r) e ∙ and_right (nat_le r.0 (2 ^ 32)) (nat_le (2 ^ 32) r.1) (lt-leb (2 ^ 32) r.1 low)
 in_only pairs r n (Some k) low only e small = ap (λ (k : ℕ). is_in k r) e ∙ only k
 
 pub range_test : (field : ℕ) (pairs : List (ℕ × ℕ)) (low high : ℕ) → high < 2 ^ 32 → IsOnlyRange pairs (low, high)
     → AsksOne field → IsTestOf (part field (ListBody pairs)) (Within (range field low high))
-range_test field pairs low high small only asks = asked field pairs (Within (range field low high)) asks (λ facts number e is_small. in_only pairs (low, high) (number_of facts field) number small only e is_small)
+range_test field pairs low high small only asks =
+    asked field pairs (Within (range field low high)) asks
+    (λ facts number e is_small. in_only pairs (low, high) (number_of facts field) number small only e is_small)
 
-pub has_same : (pairs numbers : List (ℕ × ℕ)) (n : ℕ) (number : Option ℕ) → AreNumbersOf pairs numbers → n ≡ field_number number → IsSmallField number → has_field numbers n ≡ holds_of pairs number
-has_same pairs numbers n None are e small = ap (λ (k : ℕ). has_field numbers k) e ∙ ap (λ (b : Bool). b && contains numbers (2 ^ 32)) (le-ltb (2 ^ 32) (2 ^ 32) (omega arith))
-has_same pairs numbers n (Some k) are e small = ap (λ (k : ℕ). has_field numbers k) e ∙ ap (λ (b : Bool). b && contains numbers k) (lt-ltb k (2 ^ 32) small) ∙ are k (omega arith)
+pub has_same : (pairs numbers : List (ℕ × ℕ)) (n : ℕ) (number : Option ℕ) → AreNumbersOf pairs numbers → n ≡ field_number number → IsSmallField number
+    → has_field numbers n ≡ holds_of pairs number
+has_same pairs numbers n None are e small = ap (λ (k : ℕ). has_field numbers k) e
+    ∙ ap (λ (b : Bool). b && contains numbers (2 ^ 32)) (le-ltb (2 ^ 32) (2 ^ 32) (omega arith))
+has_same pairs numbers n (Some k) are e small = ap (λ (k : ℕ). has_field numbers k) e
+    ∙ ap (λ (b : Bool). b && contains numbers k) (lt-ltb k (2 ^ 32) small) ∙ are k (omega arith)
 
-pub one_of_test : (field : ℕ) (pairs numbers : List (ℕ × ℕ)) → AreNumbersOf pairs numbers → AsksOne field → IsTestOf (part field (ListBody pairs)) (OneOf field numbers)
-one_of_test field pairs numbers are asks = asked field pairs (OneOf field numbers) asks (λ facts number e small. has_same pairs numbers (number_of facts field) number are e small)
+pub one_of_test : (field : ℕ) (pairs numbers : List (ℕ × ℕ)) → AreNumbersOf pairs numbers → AsksOne field
+    → IsTestOf (part field (ListBody pairs)) (OneOf field numbers)
+one_of_test field pairs numbers are asks =
+    asked field pairs (OneOf field numbers) asks (λ facts number e small. has_same pairs numbers (number_of facts field) number are e small)
 
 -- either port in one range
-pub port_within : (pairs numbers : List (ℕ × ℕ)) (low high : ℕ) → AreNumbersOf pairs numbers → field_range numbers ≡ Some (low, high) → IsTestOf (part 4 (ListBody pairs)) (PortWithin low high)
+pub port_within : (pairs numbers : List (ℕ × ℕ)) (low high : ℕ) → AreNumbersOf pairs numbers → field_range numbers ≡ Some (low, high)
+    → IsTestOf (part 4 (ListBody pairs)) (PortWithin low high)
 port_within pairs numbers low high are h = λ view small i.
     in_range pairs numbers (low, high) (field_number view.source_port) view.source_port are (range_of numbers (low, high) h) refl small.source_port i
-    || in_range pairs numbers (low, high) (field_number view.destination_port) view.destination_port are (range_of numbers (low, high) h) refl small.destination_port i
+    || in_range pairs numbers (low, high) (field_number view.destination_port) view.destination_port are
+    (range_of numbers (low, high) h) refl small.destination_port i

@@ -1,4 +1,7 @@
-use Rattle.fs_ranges.proofs.Words.{◌≡◌, ℕ, suc, ◌+◌, ◌-◌, ◌^◌, ◌<◌, ◌≤◌, max, List, [], ◌∷◌, ◌++◌, length, get_or, Bool, true, false, not, ◌&&◌, ◌||◌, nat_le, nat_lt, if◌then◌else◌, refl, sym, ap, subst, ◌∙◌, arith, All, AllByRecursion, IsNonDecreasingBy, and_left, le-leb, lt-leb, lt-ltb, ltb-true, nat_tests, All-append, All-cons, All-nil, list_any-append, AreApart, IsRange, contains, is_in, gap, gaps_from}
+use Rattle.fs_ranges.proofs.Words.{◌≡◌, ℕ, suc, ◌+◌, ◌-◌, ◌^◌, ◌<◌, ◌≤◌, max, List, [], ◌∷◌, ◌++◌, length, get_or, Bool, true, false, not, ◌&&◌, ◌||◌}
+use Rattle.fs_ranges.proofs.Words.{nat_le, nat_lt, if◌then◌else◌, refl, sym, ap, subst, ◌∙◌, arith, All, AllByRecursion, IsNonDecreasingBy, and_left}
+use Rattle.fs_ranges.proofs.Words.{le-leb, lt-leb, lt-ltb, ltb-true, nat_tests, All-append, All-cons, All-nil, list_any-append, AreApart, IsRange}
+use Rattle.fs_ranges.proofs.Words.{contains, is_in, gap, gaps_from}
 
 -- What ranges leave out: the numbers that are in none of them, as ranges with a gap before each next.
 
@@ -10,8 +13,11 @@ AreAscending low (range ∷ ranges) = (low ≤ range.0) × AreAscending range.0 
 ascending : (low : ℕ) (ranges : List (ℕ × ℕ)) → ((k : ℕ) (d : ℕ × ℕ) → k < length ranges → low ≤ (get_or ranges k d).0)
     → ((i j : ℕ) (d : ℕ × ℕ) → i ≤ j → j < length ranges → (get_or ranges i d).0 ≤ (get_or ranges j d).0) → AreAscending low ranges
 ascending low [] from rises = tt
-ascending low (range ∷ ranges) from rises =
-    (from 0 range (omega arith), ascending range.0 ranges (λ k d below. rises 0 (suc k) d (omega arith) (omega arith)) (λ i j d order below. rises (suc i) (suc j) d (omega arith) (omega arith)))
+ascending low (range ∷ ranges) from rises = (
+  from 0 range (omega arith),
+  ascending range.0 ranges (λ k d below. rises 0 (suc k) d (omega arith) (omega arith))
+      (λ i j d order below. rises (suc i) (suc j) d (omega arith) (omega arith)),
+)
 
 pub ascending_from : (ranges : List (ℕ × ℕ)) → IsNonDecreasingBy (λ r. r.0) ranges → AreAscending 0 ranges
 ascending_from ranges rises = ascending 0 ranges (λ k d below. omega arith) rises
@@ -36,20 +42,24 @@ step : (from first last n : ℕ) (rest : Bool) → (n < first → rest ≡ false
 step from first last n true none = grind (arith, nat_tests)
 step from first last n false none = grind (arith, nat_tests)
 
-gaps_have : (low from n : ℕ) (ranges : List (ℕ × ℕ)) → AreAscending low ranges → n < 2 ^ 64 → contains (gaps_from from ranges) n ≡ (nat_le from n && not (contains ranges n))
+gaps_have : (low from n : ℕ) (ranges : List (ℕ × ℕ)) → AreAscending low ranges → n < 2 ^ 64
+    → contains (gaps_from from ranges) n ≡ (nat_le from n && not (contains ranges n))
 gaps_have low from n [] rises below = in_gap from (2 ^ 64) n ∙ ap (λ (b : Bool). nat_le from n && b) (lt-ltb n (2 ^ 64) below)
 gaps_have low from n (range ∷ ranges) rises below =
     list_any-append (is_in n) (gap from range.0) (gaps_from (max from (range.1 + 1)) ranges)
-    ∙ either (contains (gap from range.0) n) (contains (gaps_from (max from (range.1 + 1)) ranges) n) (nat_le from n && nat_lt n range.0) (nat_le (max from (range.1 + 1)) n && not (contains ranges n))
+    ∙ either (contains (gap from range.0) n) (contains (gaps_from (max from (range.1 + 1)) ranges) n) (nat_le from n && nat_lt n range.0)
+    (nat_le (max from (range.1 + 1)) n && not (contains ranges n))
     (in_gap from range.0 n) (gaps_have range.0 (max from (range.1 + 1)) n ranges rises.1 below)
     ∙ step from range.0 range.1 n (contains ranges n) (none_below range.0 n ranges rises.1)
 
 -- what the ranges leave out, behind what stood before
-pub gaps_more : (before now ranges old : List (ℕ × ℕ)) (n : ℕ) → AreAscending 0 ranges → now ≡ before ++ gaps_from 0 ranges → ((m : ℕ) → contains ranges m ≡ contains old m) → n < 2 ^ 64
+pub gaps_more : (before now ranges old : List (ℕ × ℕ)) (n : ℕ) → AreAscending 0 ranges → now ≡ before ++ gaps_from 0 ranges
+    → ((m : ℕ) → contains ranges m ≡ contains old m) → n < 2 ^ 64
     → contains now n ≡ (contains before n || not (contains old n))
 gaps_more before now ranges old n rises e same below =
     ap (λ (l : List (ℕ × ℕ)). contains l n) e ∙ list_any-append (is_in n) before (gaps_from 0 ranges)
-    ∙ ap (λ (b : Bool). contains before n || b) (gaps_have 0 0 n ranges rises below ∙ ap (λ (b : Bool). b && not (contains ranges n)) (le-leb 0 n (omega arith)) ∙ ap not (same n))
+    ∙ ap (λ (b : Bool). contains before n || b) (gaps_have 0 0 n ranges rises below
+    ∙ ap (λ (b : Bool). b && not (contains ranges n)) (le-leb 0 n (omega arith)) ∙ ap not (same n))
 
 -- each gap is a range, and they stand apart
 gap_range : (from end : ℕ) → end ≤ 2 ^ 64 → All IsRange (gap from end)
@@ -65,7 +75,8 @@ gaps_ranges from [] each = gap_range from (2 ^ 64) (omega arith)
 gaps_ranges from (range ∷ ranges) each =
     let proper : range.0 ≤ range.1 = each.0.0 in
     let small : range.1 < 2 ^ 64 = each.0.1 in
-    All-append IsRange (gap from range.0) (gaps_from (max from (range.1 + 1)) ranges) (gap_range from range.0 (omega arith)) (gaps_ranges (max from (range.1 + 1)) ranges each.1)
+    All-append IsRange (gap from range.0) (gaps_from (max from (range.1 + 1)) ranges) (gap_range from range.0 (omega arith))
+    (gaps_ranges (max from (range.1 + 1)) ranges each.1)
 
 lower : (low high : ℕ) (ranges : List (ℕ × ℕ)) → low ≤ high → AreApart high ranges → AreApart low ranges
 lower low high [] h apart = tt
@@ -75,7 +86,8 @@ gap_apart : (low from end : ℕ) (rest : List (ℕ × ℕ)) → low ≤ from →
 gap_apart low from end rest first small apart = at (nat_lt from end) refl
   where
     at : (b : Bool) → nat_lt from end ≡ b → AreApart low ((if b then (from, end - 1) ∷ [] else []) ++ rest)
-    at true e = let l : from < end = ltb-true from end e in (first, ((omega arith), (omega arith)), lower (end - 1 + 2) (max from (end + 1)) rest (omega arith) apart)
+    at true e = let l : from < end = ltb-true from end e in
+        (first, ((omega arith), (omega arith)), lower (end - 1 + 2) (max from (end + 1)) rest (omega arith) apart)
     at false e = lower low (max from (end + 1)) rest (omega arith) apart
 
 gaps_apart : (low from : ℕ) (ranges : List (ℕ × ℕ)) → low ≤ from → AllByRecursion IsRange ranges → AreApart low (gaps_from from ranges)

@@ -1,5 +1,8 @@
 -- The range from the least number of a list to the greatest, before the list's own test.
-use Rattle.fs_ranges.proofs.{Words.{◌≡◌, ℕ, ◌+◌, ◌<◌, ◌≤◌, Bool, true, false, true≢false, ◌&&◌, ◌||◌, List, [], take, get_or, length, refl, sym, ap, ◌∙◌, arith, list_any_more, and_true, Range, Ranges, Test, Within, Facts, number_of, AreFree, range_holds, ranges_hold, with_range, contains, is_in, passes}, Enclosing.{from_in, to_in}, Placing.{put_placed}}
+use Rattle.fs_ranges.proofs.Words.{◌≡◌, ℕ, ◌+◌, ◌<◌, ◌≤◌, Bool, true, false, true≢false, ◌&&◌, ◌||◌, List, [], take, get_or, length, refl, sym, ap}
+use Rattle.fs_ranges.proofs.Words.{◌∙◌, arith, list_any_more, and_true, Range, Ranges, Test, Within, Facts, number_of, AreFree, range_holds}
+use Rattle.fs_ranges.proofs.Words.{ranges_hold, with_range, contains, is_in, passes}
+use Rattle.fs_ranges.proofs.{Enclosing.{from_in, to_in}, Placing.{put_placed}}
 
 pub wider : (n low high low' high' : ℕ) → low' ≤ low → high ≤ high' → is_in n (low, high) ≡ true → is_in n (low', high') ≡ true
 wider n low high low' high' less more h =
@@ -27,10 +30,13 @@ both false true range false e f = refl
 both false false range false e f = refl
 
 -- a range more that holds of each packet that passes the test
-pub hull_placed : (ranges new : Ranges) (place : ℕ) (range : Range) (test : Test) (facts : Facts) → place < 4 → AreFree place ranges → new ≡ with_range ranges range → number_of facts 0 ≡ 0
-    → (passes facts test ≡ true → range_holds facts range ≡ true) → (ranges_hold facts new && passes facts test) ≡ (ranges_hold facts ranges && passes facts test)
+pub hull_placed : (ranges new : Ranges) (place : ℕ) (range : Range) (test : Test) (facts : Facts) → place < 4 → AreFree place ranges
+    → new ≡ with_range ranges range → number_of facts 0 ≡ 0
+    → (passes facts test ≡ true → range_holds facts range ≡ true)
+    → (ranges_hold facts new && passes facts test) ≡ (ranges_hold facts ranges && passes facts test)
 hull_placed ranges new place range test facts below free made none within =
-    both (ranges_hold facts new) (ranges_hold facts ranges) (range_holds facts range) (passes facts test) (put_placed ranges new place range [] (Within range) below free refl made facts none) within
+    both (ranges_hold facts new) (ranges_hold facts ranges) (range_holds facts range) (passes facts test)
+    (put_placed ranges new place range [] (Within range) below free refl made facts none) within
 
 -- the test behind the others, where the ranges with it say no more than those before
 pub pushed : (new old tests test : Bool) → (new && test) ≡ (old && test) → (new && (tests && test)) ≡ ((old && tests) && test)

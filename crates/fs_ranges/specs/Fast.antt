@@ -3,7 +3,8 @@ use Rattle.std.specs.{Prelude.{◌≡◌, ℕ, ◌≤◌, ◌<◌, ◌==◌, Boo
 use Rattle.fs_base.specs.Bits.{afi_of}
 use Rattle.fs_nlri.specs.Parts.{Part, Ruled}
 use Rattle.fs_packet.specs.{Fields.{Viewed}, Matching.{is_match, part_matches}}
-use Rattle.fs_ranges.specs.{declared.{fast.Fast.{Fast}, ranges.Ranges.{Ranges}, tests.Test.{Test}}, Facts.{Facts, IsSmall, facts_of, number_of}, Ranges.{bounds_at, field_at, ranges_hold}, Tests.{passes}}
+use Rattle.fs_ranges.specs.declared.{fast.Fast.{Fast}, ranges.Ranges.{Ranges}, tests.Test.{Test}}
+use Rattle.fs_ranges.specs.{Facts.{Facts, IsSmall, facts_of, number_of}, Ranges.{bounds_at, field_at, ranges_hold}, Tests.{passes}}
 
 -- the four ranges hold, and the tests behind are passed
 abbrev pub all_pass : Facts → Ranges → List Test → Bool

@@ -4,7 +4,10 @@ use Rattle.fs_base.specs.declared.config.Address.{Address, TheVariants.{V4, V6}}
 use Rattle.fs_ops.specs.Evaluation.{holds, masks}
 use Rattle.fs_nlri.specs.Parts.{Part}
 use Rattle.fs_packet.specs.{Fields.{Viewed}, Matching.{holds_of, part_matches}}
-use Rattle.fs_ranges.specs.{declared.{pattern.Pattern.{Pattern}, ranges.Range.{Range}, tests.Test.{Test, TheVariants.{Within, OneOf, PortWithin, Ports, TcpFlags, Fragment, Destination, Source}}}, Facts.{Facts, IsSmall, IsSmallField, facts_of, field_number, number_of}, Numbers.{has_field}, Ranges.{is_in_range, range_holds}}
+use Rattle.fs_ranges.specs.declared.{pattern.Pattern.{Pattern}, ranges.Range.{Range}}
+use Rattle.fs_ranges.specs.declared.tests.Test.{Test, TheVariants.{Within, OneOf, PortWithin, Ports, TcpFlags, Fragment, Destination, Source}}
+use Rattle.fs_ranges.specs.Facts.{Facts, IsSmall, IsSmallField, facts_of, field_number, number_of}
+use Rattle.fs_ranges.specs.{Numbers.{has_field}, Ranges.{is_in_range, range_holds}}
 
 -- the flags and the four bits before them
 abbrev pub flags_pass : List (ℕ × ℕ) → Option ℕ → Bool

@@ -3,7 +3,9 @@
 ghost use Rattle.std.specs.Prelude.{◌≡◌, ◌<◌, ◌^◌, ◌⊎◌, IfOk, IfSome};
 ghost use Rattle.fs_base.specs.Prefix.{last_address};
 ghost use Rattle.fs_nlri.specs.{Component.{body_of, part_of}, Parts.{ListBody, V4Body, V6Body, part}, Sound.{IsSoundBody}};
-ghost use Rattle.fs_ranges.specs.{Flags.{is_match, is_syn}, Ranges.{range}, Numbers.{IsOnlyRange, is_equality, is_joined_most, is_least}, Tests.{AsksOne, IsPatternOf, IsTestOf}};
+ghost use Rattle.fs_ranges.specs.{Flags.{is_match, is_syn}, Ranges.{range}};
+ghost use Rattle.fs_ranges.specs.Numbers.{IsOnlyRange, is_equality, is_joined_most, is_least};
+ghost use Rattle.fs_ranges.specs.Tests.{AsksOne, IsPatternOf, IsTestOf};
 
 use crate::facts::{ABSENT, SYN};
 use crate::pattern::Pattern;

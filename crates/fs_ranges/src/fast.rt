@@ -3,7 +3,9 @@
 ghost use Rattle.std.specs.{Prelude.{◌≡◌, ◌+◌, ◌≤◌, ◌&&◌, true, IfOk, OnOk, ℕ}, List.{list_all}};
 ghost use Rattle.fs_nlri.specs.{Component.{parts_of}, Parts.{Ruled}, Sound.{AreSound}};
 ghost use Rattle.fs_packet.specs.Matching.{is_match};
-ghost use Rattle.fs_ranges.specs.{Limits.{allows, allows_port}, Facts.{Facts, IsSmall, front_of, key_of, number_of}, Fast.{AreFree, AreTestsOf, IsPut, StandsFor, facts_hold, fast_holds, holds_of_facts}, Ranges.{ranges_hold}, Tests.{passes}};
+ghost use Rattle.fs_ranges.specs.{Limits.{allows, allows_port}, Facts.{Facts, IsSmall, front_of, key_of, number_of}};
+ghost use Rattle.fs_ranges.specs.Fast.{AreFree, AreTestsOf, IsPut, StandsFor, facts_hold, fast_holds, holds_of_facts};
+ghost use Rattle.fs_ranges.specs.{Ranges.{ranges_hold}, Tests.{passes}};
 
 use crate::components::test_of;
 use crate::facts::{FRONT, Facts};

@@ -1,7 +1,8 @@
 //! Ranges of a packet's fields.
 
 ghost use Rattle.std.specs.Prelude.{◌≡◌, ℕ, ◌<◌, true, IfSome};
-ghost use Rattle.fs_ranges.specs.{Limits.{allows}, Facts.{Facts, number_of}, Spans.{is_in}, Ranges.{is_in_range, free_ranges, range_at, range_holds, ranges_hold, with_range}};
+ghost use Rattle.fs_ranges.specs.{Limits.{allows}, Facts.{Facts, number_of}, Spans.{is_in}};
+ghost use Rattle.fs_ranges.specs.Ranges.{is_in_range, free_ranges, range_at, range_holds, ranges_hold, with_range};
 
 use crate::facts::Facts;
 use crate::limits::Limit;

@@ -1,7 +1,8 @@
 //! The test of one component.
 
 ghost use Rattle.std.specs.Prelude.{◌≡◌, true, IfSome};
-ghost use Rattle.fs_ranges.specs.{Limits.{allows, allows_port}, Facts.{Facts, front_of, number_of}, Ranges.{range_holds}, Tests.{flags_pass, is_under, passes, test_range}};
+ghost use Rattle.fs_ranges.specs.{Limits.{allows, allows_port}, Facts.{Facts, front_of, number_of}, Ranges.{range_holds}};
+ghost use Rattle.fs_ranges.specs.Tests.{flags_pass, is_under, passes, test_range};
 
 use crate::facts::{Facts, top};
 use crate::limits::Limit;

@@ -1,11 +1,24 @@
 -- Of each peer the items come in turn.
-use Rattle.fs_recorder.proofs.{PlaceWords.{Bool, List, None, Option, Some, eqb-true, [], ap, false, not, refl, subst, sym, true, ℕ, ◌++◌, ◌==◌, ◌∙◌, ◌∷◌, ◌≡◌, map-append, AllByRecursion, filter, find, if◌then◌else◌, map, Address, Config, Point, Item, received, was_lost, Deed, items_of, leaves, says, shuts, tells, What, ended, gave, made, nothing, taken, AtDoor, Guest, door_after, door_with, guest_of, has_time, late_lines, said_as, swept_at, swept_where_due, with_guest, without_guest, Place, Station, Step, admits, checks, checks_peer, doing, ends, expires, follows, handed_point, hears, hears_octets, hurries, hurries_where_late, is_due, is_early, is_established, moved, peer_for, peers_at, place_for, place_of, places_without, receives, replaces, replies_to, resting, seat_at, seats_one, settles, speaks, sweeps, sweeps_all, sweeps_where_due, taken_by, takes, then_do, turns_away, vacates, waits, wakes, woken, is_closed, standing_of, AreApart}, Doing.{items_both, says_items, shuts_items}, Places.{apart_left, eq_flip, others_left, peers_moved}, Placing.{Apart, IsOther, apart_more, found_is, more_are, others_of_none}, Recorded.{items_told}}
+use Rattle.fs_recorder.proofs.PlaceWords.{Bool, List, None, Option, Some, eqb-true, [], ap, false, not, refl, subst, sym, true, ℕ, ◌++◌, ◌==◌, ◌∙◌}
+use Rattle.fs_recorder.proofs.PlaceWords.{◌∷◌, ◌≡◌, map-append, AllByRecursion, filter, find, if◌then◌else◌, map, Address, Config, Point, Item}
+use Rattle.fs_recorder.proofs.PlaceWords.{received, was_lost, Deed, items_of, leaves, says, shuts, tells, What, ended, gave, made, nothing, taken}
+use Rattle.fs_recorder.proofs.PlaceWords.{AtDoor, Guest, door_after, door_with, guest_of, has_time, late_lines, said_as, swept_at, swept_where_due}
+use Rattle.fs_recorder.proofs.PlaceWords.{with_guest, without_guest, Place, Station, Step, admits, checks, checks_peer, doing, ends, expires, follows}
+use Rattle.fs_recorder.proofs.PlaceWords.{handed_point, hears, hears_octets, hurries, hurries_where_late, is_due, is_early, is_established, moved}
+use Rattle.fs_recorder.proofs.PlaceWords.{peer_for, peers_at, place_for, place_of, places_without, receives, replaces, replies_to, resting, seat_at}
+use Rattle.fs_recorder.proofs.PlaceWords.{seats_one, settles, speaks, sweeps, sweeps_all, sweeps_where_due, taken_by, takes, then_do, turns_away}
+use Rattle.fs_recorder.proofs.PlaceWords.{vacates, waits, wakes, woken, is_closed, standing_of, AreApart}
+use Rattle.fs_recorder.proofs.{Doing.{items_both, says_items, shuts_items}, Places.{apart_left, eq_flip, others_left, peers_moved}}
+use Rattle.fs_recorder.proofs.Placing.{Apart, IsOther, apart_more, found_is, more_are, others_of_none}
+use Rattle.fs_recorder.proofs.Recorded.{items_told}
 use Rattle.std.proofs.Common.{inl, inr, ◌⊎◌, ◌||◌}
 use Rattle.std.specs.Prelude.{max}
 use Rattle.fs_base.proofs.NumberTests.{eq_itself}
 use Rattle.fs_speaker.specs.End.{ticked}
 use Rattle.fs_input.specs.Parts.{AllFrom}
-use Rattle.fs_recorder.specs.{Laws.{Alternates, ComesInTurn, IsNew, IsNewLine, is_in, lines_after, lines_with, up_after}, Steps.{Between, Happening, at_first, behind, recorded_from, step_at}, Tapes.{items_in}}
+use Rattle.fs_recorder.specs.Laws.{Alternates, ComesInTurn, IsNew, IsNewLine, is_in, lines_after, lines_with, up_after}
+use Rattle.fs_recorder.specs.Steps.{Between, Happening, at_first, behind, recorded_from, step_at}
+use Rattle.fs_recorder.specs.Tapes.{items_in}
 
 -- which peers are up behind items
 abbrev ups : List ℕ → List Item → List ℕ
@@ -61,7 +74,8 @@ moved_lines peer now [] = refl
 moved_lines peer now (place ∷ places) = by (place.peer == peer) (moved_lines peer now places)
   where
     by : (b : Bool) → lines_at (moved peer now places) ≡ lines_at places
-        → (let here : Place = (if b then record place { point = now } else place) in here.line) ∷ lines_at (moved peer now places) ≡ place.line ∷ lines_at places
+        → (let here : Place = (if b then record place { point = now } else place) in here.line) ∷ lines_at (moved peer now places)
+        ≡ place.line ∷ lines_at places
     by true later = ap (λ lines. place.line ∷ lines) later
     by false later = ap (λ lines. place.line ∷ lines) later
 
@@ -85,7 +99,8 @@ kept_all : (number : ℕ) (numbers : List ℕ) → AllByRecursion (λ (other : �
     → filter (λ (other : ℕ). not (other == number)) numbers ≡ numbers
 kept_all number [] all = refl
 kept_all number (first ∷ numbers) all =
-    subst (λ (b : Bool). (if not b then first ∷ filter (λ (other : ℕ). not (other == number)) numbers else filter (λ (other : ℕ). not (other == number)) numbers) ≡ first ∷ numbers)
+    subst (λ (b : Bool). (if not b then first ∷ filter (λ (other : ℕ). not (other == number)) numbers
+    else filter (λ (other : ℕ). not (other == number)) numbers) ≡ first ∷ numbers)
     (sym (eq_flip number first all.0)) (ap (λ rest. first ∷ rest) (kept_all number numbers all.1))
 
 kept_places : (line : ℕ) (places : List Place) → AllByRecursion (λ (other : ℕ). (line == other) ≡ false) (lines_at places)
@@ -112,18 +127,22 @@ left_same : (line peer : ℕ) (places : List Place) → Sits line peer places �
     → filter (λ (other : ℕ). not (other == peer)) (peers_at places) ≡ peers_at (places_without line places)
 left_same line peer [] sits apart lines = absurd sits
 left_same line peer (place ∷ places) (inl e) apart lines =
-    subst (λ (b : Bool). (if not b then place.peer ∷ filter (λ (other : ℕ). not (other == peer)) (peers_at places) else filter (λ (other : ℕ). not (other == peer)) (peers_at places))
+    subst (λ (b : Bool). (if not b then place.peer ∷ filter (λ (other : ℕ). not (other == peer)) (peers_at places)
+    else filter (λ (other : ℕ). not (other == peer)) (peers_at places))
     ≡ peers_at (places_without line (place ∷ places)))
     (sym (subst (λ n. (place.peer == n) ≡ true) e.1 (eq_itself place.peer)))
-    (subst (λ (b : Bool). filter (λ (other : ℕ). not (other == peer)) (peers_at places) ≡ peers_at (if not b then place ∷ places_without line places else places_without line places))
+    (subst (λ (b : Bool). filter (λ (other : ℕ). not (other == peer)) (peers_at places)
+    ≡ peers_at (if not b then place ∷ places_without line places else places_without line places))
     (sym (subst (λ n. (place.line == n) ≡ true) e.0 (eq_itself place.line)))
     (kept_all peer (peers_at places) (subst (λ n. AllByRecursion (λ (other : ℕ). (n == other) ≡ false) (peers_at places)) e.1 apart.0)
     ∙ ap peers_at (sym (kept_places line places (subst (λ n. AllByRecursion (λ (other : ℕ). (n == other) ≡ false) (lines_at places)) e.0 lines.0)))))
 left_same line peer (place ∷ places) (inr later) apart lines =
-    subst (λ (b : Bool). (if not b then place.peer ∷ filter (λ (other : ℕ). not (other == peer)) (peers_at places) else filter (λ (other : ℕ). not (other == peer)) (peers_at places))
+    subst (λ (b : Bool). (if not b then place.peer ∷ filter (λ (other : ℕ). not (other == peer)) (peers_at places)
+    else filter (λ (other : ℕ). not (other == peer)) (peers_at places))
     ≡ peers_at (places_without line (place ∷ places)))
     (sym (sits_differs peer line place.peer places later apart.0))
-    (subst (λ (b : Bool). place.peer ∷ filter (λ (other : ℕ). not (other == peer)) (peers_at places) ≡ peers_at (if not b then place ∷ places_without line places else places_without line places))
+    (subst (λ (b : Bool). place.peer ∷ filter (λ (other : ℕ). not (other == peer)) (peers_at places)
+    ≡ peers_at (if not b then place ∷ places_without line places else places_without line places))
     (sym (line_differs peer line place.line places later lines.0))
     (ap (λ peers. place.peer ∷ peers) (left_same line peer places later apart.1 lines.1)))
 
@@ -232,7 +251,8 @@ module _ (P : ℕ → Type 0) where
   module _ (time : ℕ) where
     turn_wakes : (place : Place) (station : Station) → Sits place.line place.peer station.places → Good P station
         → TurnStep P station (wakes time place station)
-    turn_wakes place station sits good = turn_settles (expires time place) place (ticked time place.point).point (ticked time place.point).text station sits good
+    turn_wakes place station sits good =
+        turn_settles (expires time place) place (ticked time place.point).point (ticked time place.point).text station sits good
 
     awake_sits : (place : Place) (station : Station) → expires time place ≡ false → Sits place.line place.peer station.places
         → Sits place.line place.peer (wakes time place station).station.places
@@ -331,7 +351,8 @@ module _ (P : ℕ → Type 0) where
   turn_ends line station good = by (place_of line station.places) refl
     where
       by : (found : Option Place) → place_of line station.places ≡ found
-          → TurnStep P station (elim found [ None ↦ resting station | Some place ↦ doing (tells (was_lost place.peer) ∷ []) (places_without place.line station.places) station ])
+          → TurnStep P station (elim found
+          [ None ↦ resting station | Some place ↦ doing (tells (was_lost place.peer) ∷ []) (places_without place.line station.places) station ])
       by None e = turn_rests station good
       by (Some place) e =
           turn_lost (tells (was_lost place.peer) ∷ []) place.line place.peer station refl
@@ -341,7 +362,8 @@ module _ (P : ℕ → Type 0) where
   turn_vacates peer station good = by (place_for peer station.places) refl
     where
       by : (found : Option Place) → place_for peer station.places ≡ found
-          → TurnStep P station (elim found [ None ↦ resting station | Some place ↦ doing (leaves (seat_at place)) (places_without place.line station.places) station ])
+          → TurnStep P station (elim found
+          [ None ↦ resting station | Some place ↦ doing (leaves (seat_at place)) (places_without place.line station.places) station ])
       by None e = turn_rests station good
       by (Some place) e =
           turn_lost (leaves (seat_at place)) place.line place.peer station refl
@@ -352,7 +374,9 @@ module _ (P : ℕ → Type 0) where
     where
       by : (found : Option Place) → place_for peer station.places ≡ found
           → AllByRecursion (IsOther peer)
-          (let step : Step = (elim found [ None ↦ resting station | Some place ↦ doing (leaves (seat_at place)) (places_without place.line station.places) station ]) in step.station.places)
+          (let step : Step = (elim found
+          [ None ↦ resting station | Some place ↦ doing (leaves (seat_at place)) (places_without place.line station.places) station ]) in
+          step.station.places)
       by None e = others_of_none peer station.places e
       by (Some place) e = others_left peer station.places place apart e
 
@@ -494,7 +518,8 @@ module _ (config : Config) (time : ℕ) where
       by (Some guest) e =
           turn_takes (IsPlaced used (without_guest line door).guests) config line guest.from (said_as piece) guest.since station less
           (record {
-            among = subst (IsAmong used) (found_line line door.guests guest e) (found_is (λ (one : Guest). IsAmong used one.line) (λ (g : Guest). g.line == line) door.guests guest wait e);
+            among = subst (IsAmong used) (found_line line door.guests guest e)
+                (found_is (λ (one : Guest). IsAmong used one.line) (λ (g : Guest). g.line == line) door.guests guest wait e);
             others = called line door.guests;
           })
           (others guest e)
@@ -509,7 +534,8 @@ module _ (config : Config) (time : ℕ) where
           (λ guest is. among_more line used guest.line is) wait
 
       by : (b : Bool)
-          → TurnEvent (line ∷ used) (if b then with_guest (guest_at line from time) door else door) station (if b then resting station else takes config line from None time station)
+          → TurnEvent (line ∷ used) (if b then with_guest (guest_at line from time) door else door) station (if b then resting station
+          else takes config line from None time station)
       by true = record {
         turn = turn_rests (IsPlaced (line ∷ used) (with_guest (guest_at line from time) door).guests) station
             (good_to (IsPlaced used door.guests) (IsPlaced (line ∷ used) (with_guest (guest_at line from time) door).guests) station

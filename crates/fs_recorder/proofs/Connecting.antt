@@ -1,5 +1,15 @@
 -- One step behind another, and what stands behind a seat that was taken or left.
-use Rattle.fs_recorder.proofs.{PlaceWords.{List, None, Option, Some, [], ap, append-nil, map-append, refl, subst, sym, ℕ, ◌++◌, ◌==◌, ◌∙◌, ◌∷◌, ◌≡◌, AllByRecursion, IsSome, Err, Ok, OnOk, Result, option_map, Grew, peer_of, Turn, shut, Address, Config, Peer, IsNumbered, IsWritable, came_up, was_lost, begins, fresh, live, AtDoor, Desked, KeepsOthers, Played, nobody, session_at, Booked, Tells, TellsPart, Does, Recording, leaves, shuts, tells, seat_for, seat_of, Place, Station, Step, checks, checks_peer, doing, ends, peer_for, peers_at, place_for, place_of, places_without, replaces, resting, seat_at, seats_one, taken_by, takes, vacates, BreaksAt, BreaksIn, BreaksQuietly, BreaksSo, DidAt, DidQuietly, DidSeat, DidSo, DoesStep, IsOpenAt, Left, Stands, Seat}, Doing.{breaks_more, breaks_tell, breaks_where, does_ask, does_tell}, Places.{FoundAt, found_at, found_none, open_left, others_left, place_found, place_is}, Placing.{apart_more, more_are, none_of_others, others_of_none, peers_more}, Settling.{stands_gone}, Stepping.{breaks_both, does_both, does_rest}}
+use Rattle.fs_recorder.proofs.PlaceWords.{List, None, Option, Some, [], ap, append-nil, map-append, refl, subst, sym, ℕ, ◌++◌, ◌==◌, ◌∙◌, ◌∷◌, ◌≡◌}
+use Rattle.fs_recorder.proofs.PlaceWords.{AllByRecursion, IsSome, Err, Ok, OnOk, Result, option_map, Grew, peer_of, Turn, shut, Address, Config, Peer}
+use Rattle.fs_recorder.proofs.PlaceWords.{IsNumbered, IsWritable, came_up, was_lost, begins, fresh, live, AtDoor, Desked, KeepsOthers, Played, nobody}
+use Rattle.fs_recorder.proofs.PlaceWords.{session_at, Booked, Tells, TellsPart, Does, Recording, leaves, shuts, tells, seat_for, seat_of, Place}
+use Rattle.fs_recorder.proofs.PlaceWords.{Station, Step, checks, checks_peer, doing, ends, peer_for, peers_at, place_for, place_of, places_without}
+use Rattle.fs_recorder.proofs.PlaceWords.{replaces, resting, seat_at, seats_one, taken_by, takes, vacates, BreaksAt, BreaksIn, BreaksQuietly}
+use Rattle.fs_recorder.proofs.PlaceWords.{BreaksSo, DidAt, DidQuietly, DidSeat, DidSo, DoesStep, IsOpenAt, Left, Stands, Seat}
+use Rattle.fs_recorder.proofs.Doing.{breaks_more, breaks_tell, breaks_where, does_ask, does_tell}
+use Rattle.fs_recorder.proofs.Places.{FoundAt, found_at, found_none, open_left, others_left, place_found, place_is}
+use Rattle.fs_recorder.proofs.Placing.{apart_more, more_are, none_of_others, others_of_none, peers_more}
+use Rattle.fs_recorder.proofs.{Settling.{stands_gone}, Stepping.{breaks_both, does_both, does_rest}}
 
 -- what two clauses say of a success
 pub ok_both : {T E : Type 0} {X Y Z : Type 0} (result : Result T E) → OnOk result X → OnOk result Y → (X → Y → Z) → OnOk result Z

@@ -1,5 +1,10 @@
 -- Deeds, one after the other.
-use Rattle.fs_recorder.proofs.{Words.{ℕ, Bool, List, [], ◌∷◌, ◌++◌, Option, ◌≡◌, map, refl, ap, sym, subst, ◌∙◌, append-nil, append_assoc, AllByRecursion, Turn, said, shut, Grew, Grew-refl, Grew-trans, part_more, part_then, GrewPart, take, IsWritable, item_text, Item, timed, Two, expired_after, nobody, AgreesBut, Booked, Tells, TellsPart, BreaksAt, Deed, Does, asked_in, items_of, leaves, says, sends, shuts, tells, text_at, text_now, told_at, Seat, was_lost, Result, Ok, Err, IfOk, OnErr, OnOk, arith, length, length-append, ◌+◌, ◌≤◌}, Telling.{told_on}}
+use Rattle.fs_recorder.proofs.Words.{ℕ, Bool, List, [], ◌∷◌, ◌++◌, Option, ◌≡◌, map, refl, ap, sym, subst, ◌∙◌, append-nil, append_assoc}
+use Rattle.fs_recorder.proofs.Words.{AllByRecursion, Turn, said, shut, Grew, Grew-refl, Grew-trans, part_more, part_then, GrewPart, take, IsWritable}
+use Rattle.fs_recorder.proofs.Words.{item_text, Item, timed, Two, expired_after, nobody, AgreesBut, Booked, Tells, TellsPart, BreaksAt, Deed, Does}
+use Rattle.fs_recorder.proofs.Words.{asked_in, items_of, leaves, says, sends, shuts, tells, text_at, text_now, told_at, Seat, was_lost, Result, Ok}
+use Rattle.fs_recorder.proofs.Words.{Err, IfOk, OnErr, OnOk, arith, length, length-append, ◌+◌, ◌≤◌}
+use Rattle.fs_recorder.proofs.Telling.{told_on}
 use Rattle.std.specs.Result.{IsErrAnd, IsErrOf}
 use Rattle.fs_recorder.specs.declared.stop.Stop.{Stop, TheVariants.{Limit, Memory}}
 
@@ -238,7 +243,8 @@ no_memory (Ok value) same limited = same
 no_memory (Err error) same limited = (let is : error ≡ Limit = cc in let no : Memory ≡ Limit = sym same ∙ is in absurd cc)
 
 -- a line is closed, and its peer lost
-module _ (seat : Seat) (old : Booked) (turns turns' : Option (List Turn)) (before now : Option (List ℕ)) (closed : Grew turns turns' (shut seat.line ∷ [])) where
+module _ (seat : Seat) (old : Booked) (turns turns' : Option (List Turn)) (before now : Option (List ℕ))
+    (closed : Grew turns turns' (shut seat.line ∷ [])) where
   shutting : (expired : ℕ → Bool) → Does expired expired (shuts seat.line ∷ []) old old turns turns' before before
   shutting expired = does_ask expired (shuts seat.line ∷ []) old turns turns' before refl closed
 
@@ -268,5 +274,7 @@ module _ (seat : Seat) (replies : List ℕ) (old : Booked) (turns turns1 turns2 
       does_then expired expired (says seat.line replies) old old turns turns1 before before (saying expired)
       (expired_after (was_lost seat.peer) expired) (leaves seat) new turns2 now (left expired)
 
-  pub breaks_answer : {L : Type 0} → BreaksAt L (leaves seat) old turns1 turns2 before now → BreaksAt L (says seat.line replies ++ leaves seat) old turns turns2 before now
-  breaks_answer {L} breaks = breaks_then nobody nobody (says seat.line replies) old old turns turns1 before before (saying nobody) (leaves seat) turns2 now breaks
+  pub breaks_answer : {L : Type 0} → BreaksAt L (leaves seat) old turns1 turns2 before now
+      → BreaksAt L (says seat.line replies ++ leaves seat) old turns turns2 before now
+  breaks_answer {L} breaks = breaks_then nobody nobody (says seat.line replies) old old turns turns1 before before (saying nobody)
+      (leaves seat) turns2 now breaks

@@ -1,5 +1,15 @@
 -- What a step tells is of configured peers.
-use Rattle.fs_recorder.proofs.{PlaceWords.{Bool, List, None, Option, Some, [], ap, append-nil, append_assoc, false, not, refl, subst, sym, true, ℕ, ◌++◌, ◌==◌, ◌≤◌, ◌∙◌, ◌∷◌, ◌≡◌, length, AllByRecursion, if◌then◌else◌, map, Address, Config, Point, IsNumbered, IsWritable, longest_payload, came_up, received, was_lost, items_of, leaves, says, shuts, tells, What, ended, gave, made, nothing, taken, AtDoor, Guest, guest_of, late_lines, said_as, Place, Station, Step, admits, checks, checks_peer, comes, doing, ends, expires, follows, handed_point, hears_octets, hurries, hurries_where_late, hurries_where_new, is_due, is_early, is_established, peer_for, peers_at, place_for, place_of, places_without, receives, replaces, replies_to, resting, seat_at, seats_one, settles, speaks, sweeps, sweeps_all, sweeps_where_due, taken_by, takes, then_do, turns_away, vacates, waits, wakes, woken, is_closed, standing_of}, Doing.{items_both, says_items, shuts_items}, Places.{at_found, peers_all, peers_left, peers_moved}, Placing.{both_are, front_are, last_is, peers_more}}
+use Rattle.fs_recorder.proofs.PlaceWords.{Bool, List, None, Option, Some, [], ap, append-nil, append_assoc, false, not, refl, subst, sym, true, ℕ}
+use Rattle.fs_recorder.proofs.PlaceWords.{◌++◌, ◌==◌, ◌≤◌, ◌∙◌, ◌∷◌, ◌≡◌, length, AllByRecursion, if◌then◌else◌, map, Address, Config, Point}
+use Rattle.fs_recorder.proofs.PlaceWords.{IsNumbered, IsWritable, longest_payload, came_up, received, was_lost, items_of, leaves, says, shuts, tells}
+use Rattle.fs_recorder.proofs.PlaceWords.{What, ended, gave, made, nothing, taken, AtDoor, Guest, guest_of, late_lines, said_as, Place, Station, Step}
+use Rattle.fs_recorder.proofs.PlaceWords.{admits, checks, checks_peer, comes, doing, ends, expires, follows, handed_point, hears_octets, hurries}
+use Rattle.fs_recorder.proofs.PlaceWords.{hurries_where_late, hurries_where_new, is_due, is_early, is_established, peer_for, peers_at, place_for}
+use Rattle.fs_recorder.proofs.PlaceWords.{place_of, places_without, receives, replaces, replies_to, resting, seat_at, seats_one, settles, speaks}
+use Rattle.fs_recorder.proofs.PlaceWords.{sweeps, sweeps_all, sweeps_where_due, taken_by, takes, then_do, turns_away, vacates, waits, wakes, woken}
+use Rattle.fs_recorder.proofs.PlaceWords.{is_closed, standing_of}
+use Rattle.fs_recorder.proofs.{Doing.{items_both, says_items, shuts_items}, Places.{at_found, peers_all, peers_left, peers_moved}}
+use Rattle.fs_recorder.proofs.Placing.{both_are, front_are, last_is, peers_more}
 use Rattle.fs_recorder.specs.Laws.{IsShort}
 
 -- the peers that connections speak for are configured
@@ -72,7 +82,8 @@ module _ (config : Config) (time : ℕ) where
       → KnownStep config station (checks time place station)
   known_checks place station numbered known = by (expires time place)
     where
-      by : (b : Bool) → KnownStep config station (if b then wakes time place station else then_do (wakes time place station) (hurries_where_late time (woken time place)))
+      by : (b : Bool) → KnownStep config station (if b then wakes time place station
+          else then_do (wakes time place station) (hurries_where_late time (woken time place)))
       by true = known_wakes place station numbered known
       by false = known_then config station (wakes time place station) (hurries_where_late time (woken time place))
           (known_wakes place station numbered known)
@@ -85,14 +96,16 @@ module _ (config : Config) (time : ℕ) where
           → KnownStep config station (elim found [ None ↦ resting station | Some place ↦ checks time place station ])
       by None e = known_rests config station known
       by (Some place) e = known_checks place station
-          (at_found (λ (p : Place). IsNumbered config p.peer) (λ (p : Place). p.peer == peer) station.places place (peers_all (IsNumbered config) station.places known) e)
+          (at_found (λ (p : Place). IsNumbered config p.peer) (λ (p : Place). p.peer == peer) station.places place
+          (peers_all (IsNumbered config) station.places known) e)
           known
 
   pub known_sweeps : (peers : List ℕ) (station : Station) → Known config station → KnownStep config station (sweeps time peers station)
   known_sweeps [] station known = known_rests config station known
   known_sweeps (peer ∷ peers) station known =
       let first = known_checks_peer peer station known in
-      known_then config station (checks_peer time peer station) (sweeps time peers) first (known_sweeps peers (checks_peer time peer station).station first.known)
+      known_then config station (checks_peer time peer station) (sweeps time peers) first
+      (known_sweeps peers (checks_peer time peer station).station first.known)
 
   known_away : (guests : List Guest) (station : Station) → Known config station → KnownStep config station (turns_away time guests station)
   known_away guests station known = record {
@@ -128,10 +141,15 @@ module _ (config : Config) where
   known_vacates peer station known = by (place_for peer station.places) refl
     where
       by : (found : Option Place) → place_for peer station.places ≡ found
-          → KnownStep config station (elim found [ None ↦ resting station | Some place ↦ doing (leaves (seat_at place)) (places_without place.line station.places) station ])
+          → KnownStep config station (elim found
+          [ None ↦ resting station | Some place ↦ doing (leaves (seat_at place)) (places_without place.line station.places) station ])
       by None e = known_rests config station known
       by (Some place) e = record {
-        writable = (at_found (λ (p : Place). IsNumbered config p.peer) (λ (p : Place). p.peer == peer) station.places place (peers_all (IsNumbered config) station.places known) e, tt);
+        writable = (
+          at_found (λ (p : Place). IsNumbered config p.peer) (λ (p : Place). p.peer == peer) station.places place
+              (peers_all (IsNumbered config) station.places known) e,
+          tt,
+        );
         known = known_left config place.line station known;
         told_is = refl;
       }
@@ -143,7 +161,8 @@ module _ (config : Config) where
       known_then config station (vacates peer station) (seats_one (record { line = line; peer = peer; since = time })) first
       (record {
         writable = (numbered, tt);
-        known = peers_more (IsNumbered config) (vacates peer station).station.places (taken_by (record { line = line; peer = peer; since = time })) first.known numbered;
+        known = peers_more (IsNumbered config) (vacates peer station).station.places (taken_by (record { line = line; peer = peer; since = time }))
+            first.known numbered;
         told_is = refl;
       })
 
@@ -162,7 +181,9 @@ module _ (config : Config) where
   took_known line from told since station writable peer e =
       last_is (IsWritable config) (items_of (vacates peer station).deeds) (came_up peer)
       (subst (AllByRecursion (IsWritable config)) (items_both (vacates peer station).deeds (tells (came_up peer) ∷ []))
-      (subst (λ found. AllByRecursion (IsWritable config) (items_of (let step : Step = (elim found [ None ↦ doing (shuts line ∷ []) station.places station | Some peer ↦ replaces line peer since station ]) in step.deeds)))
+      (subst (λ found. AllByRecursion (IsWritable config)
+      (items_of (let step : Step =
+      (elim found [ None ↦ doing (shuts line ∷ []) station.places station | Some peer ↦ replaces line peer since station ]) in step.deeds)))
       e writable))
 
   known_comes : (line : ℕ) (from : Address) (time : ℕ) (guests : List Guest) (station : Station) → Known config station
@@ -187,7 +208,9 @@ module _ (config : Config) where
       → AllByRecursion (IsWritable config) (items_of (admits config line piece guests station).deeds) → NewKnown config guests (gave line piece) station
   admits_told line piece guests station writable guest e =
       took_known line guest.from (said_as piece) guest.since station
-      (subst (λ found. AllByRecursion (IsWritable config) (items_of (let step : Step = (elim found [ None ↦ resting station | Some guest ↦ takes config line guest.from (said_as piece) guest.since station ]) in step.deeds)))
+      (subst (λ found. AllByRecursion (IsWritable config)
+      (items_of (let step : Step =
+      (elim found [ None ↦ resting station | Some guest ↦ takes config line guest.from (said_as piece) guest.since station ]) in step.deeds)))
       e writable)
 
   known_receives : (place : Place) (piece : List ℕ) (station : Station) → IsNumbered config place.peer → length piece ≤ longest_payload
@@ -205,10 +228,13 @@ module _ (config : Config) where
       → Known config station → KnownStep config station (speaks config time place piece station)
   known_speaks time place piece station numbered short known = by (expires time place)
     where
-      by : (b : Bool) → KnownStep config station (if b then wakes time place station else then_do (wakes time place station) (receives config (woken time place) piece))
+      by : (b : Bool) → KnownStep config station (if b then wakes time place station
+          else then_do (wakes time place station) (receives config (woken time place) piece))
       by true = known_wakes config time place station numbered known
-      by false = known_then config station (wakes time place station) (receives config (woken time place) piece) (known_wakes config time place station numbered known)
-          (known_receives (woken time place) piece (wakes time place station).station numbered short (known_wakes config time place station numbered known).known)
+      by false = known_then config station (wakes time place station) (receives config (woken time place) piece)
+          (known_wakes config time place station numbered known)
+          (known_receives (woken time place) piece (wakes time place station).station numbered short
+          (known_wakes config time place station numbered known).known)
 
   pub known_octets : (line time : ℕ) (piece : List ℕ) (station : Station) → length piece ≤ longest_payload → Known config station
       → KnownStep config station (hears_octets config line time piece station)
@@ -218,17 +244,23 @@ module _ (config : Config) where
           → KnownStep config station (elim found [ None ↦ resting station | Some place ↦ speaks config time place piece station ])
       by None e = known_rests config station known
       by (Some place) e = known_speaks time place piece station
-          (at_found (λ (p : Place). IsNumbered config p.peer) (λ (p : Place). p.line == line) station.places place (peers_all (IsNumbered config) station.places known) e)
+          (at_found (λ (p : Place). IsNumbered config p.peer) (λ (p : Place). p.line == line) station.places place
+          (peers_all (IsNumbered config) station.places known) e)
           short known
 
   known_ends : (line : ℕ) (station : Station) → Known config station → KnownStep config station (ends line station)
   known_ends line station known = by (place_of line station.places) refl
     where
       by : (found : Option Place) → place_of line station.places ≡ found
-          → KnownStep config station (elim found [ None ↦ resting station | Some place ↦ doing (tells (was_lost place.peer) ∷ []) (places_without place.line station.places) station ])
+          → KnownStep config station (elim found
+          [ None ↦ resting station | Some place ↦ doing (tells (was_lost place.peer) ∷ []) (places_without place.line station.places) station ])
       by None e = known_rests config station known
       by (Some place) e = record {
-        writable = (at_found (λ (p : Place). IsNumbered config p.peer) (λ (p : Place). p.line == line) station.places place (peers_all (IsNumbered config) station.places known) e, tt);
+        writable = (
+          at_found (λ (p : Place). IsNumbered config p.peer) (λ (p : Place). p.line == line) station.places place
+              (peers_all (IsNumbered config) station.places known) e,
+          tt,
+        );
         known = known_left config place.line station known;
         told_is = refl;
       }
@@ -249,7 +281,8 @@ module _ (config : Config) where
       → AllByRecursion (IsWritable config) (items_of (follows config guests time what station).deeds) → NewKnown config guests what station
   new_told guests time (taken line from) station writable = λ e.
       took_known line from None time station
-      (subst (λ (b : Bool). AllByRecursion (IsWritable config) (items_of (if b then resting station else takes config line from None time station).deeds)) e writable)
+      (subst (λ (b : Bool). AllByRecursion (IsWritable config)
+      (items_of (if b then resting station else takes config line from None time station).deeds)) e writable)
   new_told guests time (gave line piece) station writable =
       let first = admits config line piece guests station in
       let later = hears_octets config line time piece first.station in

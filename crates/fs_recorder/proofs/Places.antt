@@ -1,5 +1,7 @@
 -- The connections that speak for peers, and their seats.
-use Rattle.fs_recorder.proofs.Words.{ℕ, Bool, true, false, List, [], ◌∷◌, Some, None, ◌==◌, ◌≡◌, if◌then◌else◌, filter, find, map, not, refl, ap, sym, subst, ◌∙◌, true≢false, eqb-true, AllByRecursion, AreApart, eq_itself, session_at, point_of, Live, Point, Desked, Seat, without, Place, moved, peers_at, place_for, place_of, places_without, seat_at, IsOpenAt}
+use Rattle.fs_recorder.proofs.Words.{ℕ, Bool, true, false, List, [], ◌∷◌, Some, None, ◌==◌, ◌≡◌, if◌then◌else◌, filter, find, map, not, refl, ap, sym}
+use Rattle.fs_recorder.proofs.Words.{subst, ◌∙◌, true≢false, eqb-true, AllByRecursion, AreApart, eq_itself, session_at, point_of, Live, Point, Desked}
+use Rattle.fs_recorder.proofs.Words.{Seat, without, Place, moved, peers_at, place_for, place_of, places_without, seat_at, IsOpenAt}
 
 pub eq_flip : (a b : ℕ) → (a == b) ≡ false → (b == a) ≡ false
 eq_flip a b e = by (b == a) refl
@@ -68,14 +70,16 @@ pub found_none : (test : Seat → Bool) (places : List Place) → find test (map
 found_none test [] e = refl
 found_none test (first ∷ places) e = by (test (seat_at first)) (found_none test places) e
   where
-    by : (b : Bool) → (find test (map seat_at places) ≡ None → find (λ place. test (seat_at place)) places ≡ None) → (if b then Some (seat_at first) else find test (map seat_at places)) ≡ None
+    by : (b : Bool) → (find test (map seat_at places) ≡ None → find (λ place. test (seat_at place)) places ≡ None)
+        → (if b then Some (seat_at first) else find test (map seat_at places)) ≡ None
         → (if b then Some first else find (λ place. test (seat_at place)) places) ≡ None
     by true rest f = absurd cc
     by false rest f = rest f
 
 -- what holds of all places, and of their peers
 
-pub at_found : (P : Place → Type 0) (test : Place → Bool) (places : List Place) (place : Place) → AllByRecursion P places → find test places ≡ Some place → P place
+pub at_found : (P : Place → Type 0) (test : Place → Bool) (places : List Place) (place : Place) → AllByRecursion P places
+    → find test places ≡ Some place → P place
 at_found P test [] place all e = absurd cc
 at_found P test (first ∷ places) place all e = by (test first) (at_found P test places place all.1) e
   where
@@ -95,11 +99,13 @@ places_left P test (place ∷ places) all = by (test place) (places_left P test 
     by true later = (all.0, later)
     by false later = later
 
-pub peers_left : (P : ℕ → Type 0) (test : Place → Bool) (places : List Place) → AllByRecursion P (peers_at places) → AllByRecursion P (peers_at (filter test places))
+pub peers_left : (P : ℕ → Type 0) (test : Place → Bool) (places : List Place) → AllByRecursion P (peers_at places)
+    → AllByRecursion P (peers_at (filter test places))
 peers_left P test [] all = tt
 peers_left P test (place ∷ places) all = by (test place) (peers_left P test places all.1)
   where
-    by : (b : Bool) → AllByRecursion P (peers_at (filter test places)) → AllByRecursion P (peers_at (if b then place ∷ filter test places else filter test places))
+    by : (b : Bool) → AllByRecursion P (peers_at (filter test places))
+        → AllByRecursion P (peers_at (if b then place ∷ filter test places else filter test places))
     by true later = (all.0, later)
     by false later = later
 
@@ -145,7 +151,8 @@ others_left peer [] place apart e = absurd cc
 others_left peer (first ∷ places) place apart e = by (first.peer == peer) refl (others_left peer places place apart.1) e
   where
     kept : (b : Bool) → (first.peer == peer) ≡ false → AllByRecursion (λ (other : Place). (other.peer == peer) ≡ false) (places_without place.line places)
-        → AllByRecursion (λ (other : Place). (other.peer == peer) ≡ false) (if not b then first ∷ places_without place.line places else places_without place.line places)
+        → AllByRecursion (λ (other : Place). (other.peer == peer) ≡ false) (if not b then first ∷ places_without place.line places
+        else places_without place.line places)
     kept true is later = later
     kept false is later = (is, later)
 
@@ -159,11 +166,13 @@ others_left peer (first ∷ places) place apart e = by (first.peer == peer) refl
         let apart_now : AllByRecursion (λ other. (peer == other) ≡ false) (peers_at places) =
         subst (λ p. AllByRecursion (λ other. (p == other) ≡ false) (peers_at places)) own apart.0 in
         subst (λ (one : Place). AllByRecursion (λ (other : Place). (other.peer == peer) ≡ false) (places_without one.line (first ∷ places))) same
-        (subst (λ b. AllByRecursion (λ (other : Place). (other.peer == peer) ≡ false) (if not b then first ∷ places_without first.line places else places_without first.line places)) (sym (eq_itself first.line))
+        (subst (λ b. AllByRecursion (λ (other : Place). (other.peer == peer) ≡ false) (if not b then first ∷ places_without first.line places
+        else places_without first.line places)) (sym (eq_itself first.line))
         (places_left (λ (other : Place). (other.peer == peer) ≡ false) (λ (other : Place). not (other.line == first.line)) places
         (flipped places apart_now)))
       where
-        flipped : (some : List Place) → AllByRecursion (λ other. (peer == other) ≡ false) (peers_at some) → AllByRecursion (λ (other : Place). (other.peer == peer) ≡ false) some
+        flipped : (some : List Place) → AllByRecursion (λ other. (peer == other) ≡ false) (peers_at some)
+            → AllByRecursion (λ (other : Place). (other.peer == peer) ≡ false) some
         flipped [] all = tt
         flipped (one ∷ some) all = (eq_flip peer one.peer all.0, flipped some all.1)
     by false is rest f = kept (first.line == place.line) is (rest f)
@@ -187,11 +196,13 @@ place_moved peer now (first ∷ places) place e = by (first.peer == peer) refl (
 
 -- sessions that stay open
 
-pub opened : (old new : Desked) (place : Place) → session_at place.peer new.sessions ≡ session_at place.peer old.sessions → IsOpenAt old place → IsOpenAt new place
+pub opened : (old new : Desked) (place : Place) → session_at place.peer new.sessions ≡ session_at place.peer old.sessions → IsOpenAt old place
+    → IsOpenAt new place
 opened old new place same is = record { session = is.session; session_is = same ∙ is.session_is; alive = is.alive; point_is = is.point_is }
 
 -- where the sessions of the other peers stay, and that of this one stands at a point
-module _ (peer : ℕ) (old new : Desked) (others : (number : ℕ) → (number == peer) ≡ false → session_at number new.sessions ≡ session_at number old.sessions) where
+module _ (peer : ℕ) (old new : Desked) (others : (number : ℕ) → (number == peer) ≡ false
+    → session_at number new.sessions ≡ session_at number old.sessions) where
   pub open_moved : (now : Point) (session : Live) → session_at peer new.sessions ≡ Some session → session.closed ≡ None → point_of session ≡ now
       → (places : List Place) → AllByRecursion (IsOpenAt old) places → AllByRecursion (IsOpenAt new) (moved peer now places)
   open_moved now session own alive point_is [] all = tt

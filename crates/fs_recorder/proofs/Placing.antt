@@ -1,5 +1,6 @@
 -- Places of which one is found, and to which one is added.
-use Rattle.fs_recorder.proofs.PlaceWords.{Bool, List, None, Some, [], false, refl, subst, sym, true, ℕ, ◌++◌, ◌==◌, ◌∷◌, ◌≡◌, AllByRecursion, find, if◌then◌else◌, AreApart, Place, peers_at, place_for}
+use Rattle.fs_recorder.proofs.PlaceWords.{Bool, List, None, Some, [], false, refl, subst, sym, true, ℕ, ◌++◌, ◌==◌, ◌∷◌, ◌≡◌, AllByRecursion, find}
+use Rattle.fs_recorder.proofs.PlaceWords.{if◌then◌else◌, AreApart, Place, peers_at, place_for}
 
 -- what is found is as all are
 pub found_is : {X : Type 0} (P : X → Type 0) (test : X → Bool) (xs : List X) (x : X) → AllByRecursion P xs → find test xs ≡ Some x → P x

@@ -1,10 +1,19 @@
 -- What is told of the tape of a recorder, whatever happens.
-use Rattle.fs_recorder.proofs.{PlaceWords.{Bool, List, None, Option, Some, [], ap, append-nil, append_assoc, arith, false, map, refl, subst, sym, true, ℕ, ◌++◌, ◌<◌, ◌==◌, ◌≤◌, ◌∙◌, ◌∷◌, ◌≡◌, AllByRecursion, find, if◌then◌else◌, Address, Config, Peer, IsNumbered, IsWritable, Item, Played, nobody, items_of, What, ended, gave, made, nothing, taken, Station, AtDoor, Guest, door_with, said_as, follows, hears, peer_for, seat_at, sweeps_where_due, Seat}, Knowing.{Known, KnownStep, NewKnown, known_follows, known_then, known_where_due}, Placing.{found_is}, Seating.{FoundBy, found_by, found_peer}}
+use Rattle.fs_recorder.proofs.PlaceWords.{Bool, List, None, Option, Some, [], ap, append-nil, append_assoc, arith, false, map, refl, subst, sym, true}
+use Rattle.fs_recorder.proofs.PlaceWords.{ℕ, ◌++◌, ◌<◌, ◌==◌, ◌≤◌, ◌∙◌, ◌∷◌, ◌≡◌, AllByRecursion, find, if◌then◌else◌, Address, Config, Peer}
+use Rattle.fs_recorder.proofs.PlaceWords.{IsNumbered, IsWritable, Item, Played, nobody, items_of, What, ended, gave, made, nothing, taken, Station}
+use Rattle.fs_recorder.proofs.PlaceWords.{AtDoor, Guest, door_with, said_as, follows, hears, peer_for, seat_at, sweeps_where_due, Seat}
+use Rattle.fs_recorder.proofs.Knowing.{Known, KnownStep, NewKnown, known_follows, known_then, known_where_due}
+use Rattle.fs_recorder.proofs.{Placing.{found_is}, Seating.{FoundBy, found_by, found_peer}}
 use Rattle.std.specs.Prelude.{◌^◌, max}
 use Rattle.fs_input.specs.Parts.{AllFrom}
 use Rattle.fs_tape.specs.{Laws.{Fits, ReadsBack, after, tape_text}, Tape.{Timed, stands}, declared.magic.Version.TheVariants.{Two}}
 use Rattle.fs_desk.specs.Desk.{Desked, PlayedBut, standing_at_desk}
-use Rattle.fs_recorder.specs.{Deeds.{told_at}, Laws.{AreNumbered, IsRecordable, IsShort, ReadsBackRecorded, Replays}, Seats.{first_peer, free_by}, Steps.{Between, Happening, at_first, behind, recorded, recorded_from, stands_from, step_at}, Tapes.{items_in}}
+use Rattle.fs_recorder.specs.Deeds.{told_at}
+use Rattle.fs_recorder.specs.Laws.{AreNumbered, IsRecordable, IsShort, ReadsBackRecorded, Replays}
+use Rattle.fs_recorder.specs.Seats.{first_peer, free_by}
+use Rattle.fs_recorder.specs.Steps.{Between, Happening, at_first, behind, recorded, recorded_from, stands_from, step_at}
+use Rattle.fs_recorder.specs.Tapes.{items_in}
 
 -- what is told at a moment fits behind what was told before it
 fits_told : (config : Config) (moment : ℕ) (items : List Item) (later : List Timed) → moment < 2 ^ 64 → AllByRecursion (IsWritable config) items

@@ -1,7 +1,9 @@
 -- Seats of configured peers.
 use Rattle.fs_base.specs.declared.config.Address.{Address}
 use Rattle.fs_recorder.specs.Seats.{free_by, free_peer, free_peer_of}
-use Rattle.fs_recorder.proofs.Words.{ℕ, Bool, true, false, List, [], ◌∷◌, ◌++◌, Some, None, ◌∙◌, ◌==◌, ◌≡◌, if◌then◌else◌, filter, find, not, refl, Option, sym, subst, AllByRecursion, Config, Peer, IsSome, eq_itself, peer_of, Seat, AreKnown, IsKnown, Recording, without}
+use Rattle.fs_recorder.proofs.Words.{ℕ, Bool, true, false, List, [], ◌∷◌, ◌++◌, Some, None, ◌∙◌, ◌==◌, ◌≡◌, if◌then◌else◌, filter, find, not, refl}
+use Rattle.fs_recorder.proofs.Words.{Option, sym, subst, AllByRecursion, Config, Peer, IsSome, eq_itself, peer_of, Seat, AreKnown, IsKnown, Recording}
+use Rattle.fs_recorder.proofs.Words.{without}
 
 filtered : (P : Seat → Type 0) (test : Seat → Bool) (seats : List Seat) → AllByRecursion P seats → AllByRecursion P (filter test seats)
 filtered P test [] all = tt

@@ -1,10 +1,15 @@
 -- What the clock and a piece make of the session through a place.
-use Rattle.fs_recorder.proofs.Words.{ℕ, Bool, true, false, List, [], ◌∷◌, ◌++◌, Option, Some, None, ◌==◌, ◌≡◌, ◌||◌, if◌then◌else◌, length, drop, unwrap_or, drop-append_seam, refl, ap, sym, subst, ◌∙◌, true≢false, eq_itself, peer_of, Config, Peer, Item, received, Desked, HandsPeer, PeerIs, Played, Replied, RepliesBehind, TicksPeer, session_at, standing_at_desk, life, point_of, Live, Point, Place, IsOpenAt, expires, handed_point, is_closed, is_some, replies_to}
+use Rattle.fs_recorder.proofs.Words.{ℕ, Bool, true, false, List, [], ◌∷◌, ◌++◌, Option, Some, None, ◌==◌, ◌≡◌, ◌||◌, if◌then◌else◌, length, drop}
+use Rattle.fs_recorder.proofs.Words.{unwrap_or, drop-append_seam, refl, ap, sym, subst, ◌∙◌, true≢false, eq_itself, peer_of, Config, Peer, Item}
+use Rattle.fs_recorder.proofs.Words.{received, Desked, HandsPeer, PeerIs, Played, Replied, RepliesBehind, TicksPeer, session_at, standing_at_desk}
+use Rattle.fs_recorder.proofs.Words.{life, point_of, Live, Point, Place, IsOpenAt, expires, handed_point, is_closed, is_some, replies_to}
 use Rattle.std.specs.List.{list_any}
 use Rattle.fs_message.specs.{Write.{message_text}, Deframer.{pending}}
 use Rattle.fs_attrs.specs.declared.update.Update.{Update}
 use Rattle.fs_rules.specs.Table.{Held}
-use Rattle.fs_speaker.specs.{declared.{Closed.{Closed, TheVariants.{Fault}}, Standing.{TheVariants.{Ended, Live as LiveIn}}}, End.{ticked, ticks}, Handed.{Handed, handed, hand, point}, Side.{receiver}, State.{standing_by}, Times.{at_moment, tick_at, written_now}}
+use Rattle.fs_speaker.specs.declared.{Closed.{Closed, TheVariants.{Fault}}, Standing.{TheVariants.{Ended, Live as LiveIn}}}
+use Rattle.fs_speaker.specs.{End.{ticked, ticks}, Handed.{Handed, handed, hand, point}, Side.{receiver}, State.{standing_by}}
+use Rattle.fs_speaker.specs.Times.{at_moment, tick_at, written_now}
 use Rattle.fs_session.specs.declared.times.{Tick.{Tick, TheVariants.{Quiet, Keeps, Expires}}, Times.{Times}}
 use Rattle.fs_desk.specs.{HoldTimer.{TickMakes, TicksIn, with_times}, Life.{begins_life, bounds_life, sent_by}, Limit.{bounded_replies}, Receive.{IsFed}}
 
@@ -92,7 +97,8 @@ ticked_at time place old new replies is_open t = by (session_at place.peer old.s
         let times = at_moment time kept.times in
         let makes = subst (λ (c : Option Closed). TicksIn c place.peer time kept t.0 old.held new.held [] replies) alive t.1.0 in
         let to : ticked time (point_of kept) ≡ ticks (tick_at kept.phase.hold times) (pending kept.framing) kept.phase times =
-        ap (λ (c : Option Closed). elim c [ Some why ↦ handed (point_of kept) [] [] | None ↦ ticks (tick_at kept.phase.hold times) (pending kept.framing) kept.phase times ]) alive in
+        ap (λ (c : Option Closed). elim c
+        [ Some why ↦ handed (point_of kept) [] [] | None ↦ ticks (tick_at kept.phase.hold times) (pending kept.framing) kept.phase times ]) alive in
         record {
           before = kept;
           was = is_open.session_is ∙ ap Some (sym same);
@@ -155,7 +161,8 @@ lives_at config items desk place is_open played =
 
 -- a piece leaves a life
 
-any_on : (peer other : ℕ) (piece : List ℕ) (items : List Item) → list_any (bounds_life peer) (items ++ received other piece ∷ []) ≡ list_any (bounds_life peer) items
+any_on : (peer other : ℕ) (piece : List ℕ) (items : List Item)
+    → list_any (bounds_life peer) (items ++ received other piece ∷ []) ≡ list_any (bounds_life peer) items
 any_on peer other piece [] = refl
 any_on peer other piece (item ∷ items) = ap (λ b. bounds_life peer item || b) (any_on peer other piece items)
 
@@ -163,12 +170,14 @@ life_on : (peer : ℕ) (piece : List ℕ) (items : List Item) (octets : List ℕ
     → (later : List ℕ) × (life peer (items ++ received peer piece ∷ []) ≡ Some later)
 life_on peer piece [] octets e = absurd cc
 life_on peer piece (item ∷ items) octets e =
-    subst (λ b. (later : List ℕ) × ((if b then life peer (items ++ received peer piece ∷ []) else if begins_life peer item then Some (sent_by peer (items ++ received peer piece ∷ [])) else None) ≡ Some later))
+    subst (λ b. (later : List ℕ) × ((if b then life peer (items ++ received peer piece ∷ []) else if begins_life peer item
+    then Some (sent_by peer (items ++ received peer piece ∷ [])) else None) ≡ Some later))
     (sym (any_on peer peer piece items)) (at (list_any (bounds_life peer) items) (begins_life peer item) (life_on peer piece items octets) e)
   where
     at : (b u : Bool) → (life peer items ≡ Some octets → (later : List ℕ) × (life peer (items ++ received peer piece ∷ []) ≡ Some later))
         → (if b then life peer items else if u then Some (sent_by peer items) else None) ≡ Some octets
-        → (later : List ℕ) × ((if b then life peer (items ++ received peer piece ∷ []) else if u then Some (sent_by peer (items ++ received peer piece ∷ [])) else None) ≡ Some later)
+        → (later : List ℕ) × ((if b then life peer (items ++ received peer piece ∷ []) else if u
+        then Some (sent_by peer (items ++ received peer piece ∷ [])) else None) ≡ Some later)
     at true u rest e = rest e
     at false true rest e = (sent_by peer (items ++ received peer piece ∷ []), refl)
     at false false rest e = absurd cc
@@ -189,17 +198,20 @@ pub session_on : (config : Config) (items : List Item) (old new : Desked) (place
 session_on config items old new place piece is_open was now =
     let lives = lives_at config items old place is_open was in
     let later = life_on place.peer piece items lives.sent lives.life_is in
-    kept_on config (peer_of place.peer config.peers) (life place.peer (items ++ received place.peer piece ∷ [])) (session_at place.peer new.sessions) place.peer new.held later.0
+    kept_on config (peer_of place.peer config.peers) (life place.peer (items ++ received place.peer piece ∷ []))
+    (session_at place.peer new.sessions) place.peer new.held later.0
     (now.each place.peer) later.1
 
 -- what is replied to a piece
-replied_on : (config : Config) (peer : ℕ) (octets : Option (List ℕ)) (piece replies sent : List ℕ) → Replied config peer octets piece [] replies → octets ≡ Some sent
+replied_on : (config : Config) (peer : ℕ) (octets : Option (List ℕ)) (piece replies sent : List ℕ) → Replied config peer octets piece [] replies
+    → octets ≡ Some sent
     → drop (length (bounded_replies config peer (unwrap_or octets []))) (bounded_replies config peer (unwrap_or octets [] ++ piece)) ≡ replies
 replied_on config peer None piece replies sent r e = absurd cc
 replied_on config peer (Some octets) piece replies sent r e =
     ap (drop (length (bounded_replies config peer octets))) r.2 ∙ drop-append_seam (bounded_replies config peer octets) r.0 ∙ sym r.1
 
-pub replies_are : (config : Config) (items : List Item) (desk : Desked) (place : Place) (piece replies : List ℕ) → IsOpenAt desk place → Played config items desk
+pub replies_are : (config : Config) (items : List Item) (desk : Desked) (place : Place) (piece replies : List ℕ) → IsOpenAt desk place
+    → Played config items desk
     → RepliesBehind place.peer desk piece [] replies → replies_to config place.peer items piece ≡ replies
 replies_are config items desk place piece replies is_open played r =
     let lives = lives_at config items desk place is_open played in
@@ -216,4 +228,5 @@ point_on config items old new place piece replies session is_open played hands o
     ∙ ap (λ (c : Config). (hand (receiver c is_open.session.peer) is_open.session.times.greatest (point_of is_open.session) piece).point) lives.own_config
     ∙ ap (λ (p : Peer). (hand (receiver config p) is_open.session.times.greatest (point_of is_open.session) piece).point) lives.own_peer
     ∙ ap (λ (at : Point). (hand (receiver config lives.whose) at.times.greatest at piece).point) is_open.point_is
-    ∙ sym (ap (λ (p : Option Peer). elim p [ None ↦ place.point | Some whose ↦ (hand (receiver config whose) place.point.times.greatest place.point piece).point ]) lives.peer_is)
+    ∙ sym (ap (λ (p : Option Peer).
+    elim p [ None ↦ place.point | Some whose ↦ (hand (receiver config whose) place.point.times.greatest place.point piece).point ]) lives.peer_is)

@@ -1,5 +1,15 @@
 -- How it stands behind the steps of one session.
-use Rattle.fs_recorder.proofs.{Words.{ℕ, Bool, true, false, List, [], ◌∷◌, ◌++◌, Option, Some, None, ◌==◌, ◌≡◌, ◌≢◌, not, refl, ap, sym, subst, ◌∙◌, true≢false, append-nil, AllByRecursion, AreApart, Turn, Config, IsNumbered, Item, received, was_lost, HandsPeer, KeepsOthers, Played, PlayedBut, RepliesBehind, StaysPlayed, ExpiresPlayed, ExpiresSo, TicksPeer, expired_after, expired_with, session_at, standing_at_desk, standing_of, nobody, point_of, Live, Point, Booked, Tells, Does, Recording, behind_answer, answered, is_closed, items_of, leaves, says, tells, Place, Station, doing, expires, handed_point, moved, peers_at, place_for, places_without, receives, replies_to, seat_at, settles, then_do, wakes, Seat, without, DoesStep, IsOpenAt, Left, Settled, Stands}, Doing.{does_tell, does_then, items_both, says_items}, Places.{apart_left, at_found, open_moved, open_without, peers_left, peers_moved, seats_moved, seats_without}, Sessions.{Ticked, not_shut, place_open, point_on, replies_are, session_on, ticked_at, ticked_shut, ticked_stays}, Waking.{answered_so, does_woke, expired_none, none_behind}}
+use Rattle.fs_recorder.proofs.Words.{ℕ, Bool, true, false, List, [], ◌∷◌, ◌++◌, Option, Some, None, ◌==◌, ◌≡◌, ◌≢◌, not, refl, ap, sym, subst, ◌∙◌}
+use Rattle.fs_recorder.proofs.Words.{true≢false, append-nil, AllByRecursion, AreApart, Turn, Config, IsNumbered, Item, received, was_lost, HandsPeer}
+use Rattle.fs_recorder.proofs.Words.{KeepsOthers, Played, PlayedBut, RepliesBehind, StaysPlayed, ExpiresPlayed, ExpiresSo, TicksPeer, expired_after}
+use Rattle.fs_recorder.proofs.Words.{expired_with, session_at, standing_at_desk, standing_of, nobody, point_of, Live, Point, Booked, Tells, Does}
+use Rattle.fs_recorder.proofs.Words.{Recording, behind_answer, answered, is_closed, items_of, leaves, says, tells, Place, Station, doing, expires}
+use Rattle.fs_recorder.proofs.Words.{handed_point, moved, peers_at, place_for, places_without, receives, replies_to, seat_at, settles, then_do, wakes}
+use Rattle.fs_recorder.proofs.Words.{Seat, without, DoesStep, IsOpenAt, Left, Settled, Stands}
+use Rattle.fs_recorder.proofs.Doing.{does_tell, does_then, items_both, says_items}
+use Rattle.fs_recorder.proofs.Places.{apart_left, at_found, open_moved, open_without, peers_left, peers_moved, seats_moved, seats_without}
+use Rattle.fs_recorder.proofs.Sessions.{Ticked, not_shut, place_open, point_on, replies_are, session_on, ticked_at, ticked_shut, ticked_stays}
+use Rattle.fs_recorder.proofs.Waking.{answered_so, does_woke, expired_none, none_behind}
 use Rattle.fs_speaker.specs.{End.{ticked}, State.{standing_by}}
 use Rattle.fs_desk.proofs.Standing.{desk_stands}
 
@@ -59,7 +69,8 @@ told_says line text told = ap (λ items. told ++ items) (says_items line text) �
 pub told_leaves : (place : Place) (text : List ℕ) (told : List Item)
     → told ++ items_of (says place.line text ++ leaves (seat_at place)) ≡ told ++ was_lost place.peer ∷ []
 told_leaves place text told =
-    ap (λ items. told ++ items) (items_both (says place.line text) (leaves (seat_at place)) ∙ ap (λ items. items ++ was_lost place.peer ∷ []) (says_items place.line text))
+    ap (λ items. told ++ items) (items_both (says place.line text) (leaves (seat_at place))
+    ∙ ap (λ items. items ++ was_lost place.peer ∷ []) (says_items place.line text))
 
 -- What is answered behind what a session has said.
 pub record Answered (seat : Seat) (lives : Bool) (mid new : Recording) (turns turns' : Option (List Turn)) (before now : Option (List ℕ)) : Type 0 where
@@ -108,7 +119,8 @@ module _ (time : ℕ) (place : Place) (old mid new : Recording) (turns turns' : 
   woke_so true e a = record {
     does = woke_does true a;
     stands = subst (λ told. Stands (record { told = told; places = moved place.peer to station.places }) new) (sym (told_says place.line text station.told))
-        (stands_moved place to station.told station old mid new stands w.config_is w.seats_are at.others at.session at.session_is (at.made.alive e) (at.made.point_is e)
+        (stands_moved place to station.told station old mid new stands w.config_is w.seats_are at.others at.session at.session_is (at.made.alive e)
+        (at.made.point_is e)
         (w.stays (ticked_stays time place old.books.desk mid.books.desk mid.replies at e) nobody old.books.desk.config station.told stands.played)
         a.settled.0 a.settled.1.0);
     door_is = a.settled.1.1 ∙ w.door_is;
@@ -121,7 +133,8 @@ module _ (time : ℕ) (place : Place) (old mid new : Recording) (turns turns' : 
       λ same. true≢false (sym shut ∙ ap is_closed same ∙ place_open old.books.desk place is_open) in
       record {
         does = woke_does false a;
-        stands = subst (λ told. Stands (record { told = told; places = places_without place.line station.places }) new) (sym (told_leaves place text station.told))
+        stands = subst (λ told. Stands (record { told = told; places = places_without place.line station.places }) new)
+            (sym (told_leaves place text station.told))
             (stands_left place station.told (expired_with place.peer nobody) station old mid new stands found w.config_is w.seats_are at.others
             (w.expired other nobody old.books.desk.config station.told stands.played) (none_behind place.peer) a.settled (a.answers nobody).config_is);
         door_is = a.settled.door_is ∙ w.door_is;
@@ -214,7 +227,8 @@ module _ (piece : List ℕ) (place : Place) (old mid : Recording) (before now : 
         → DoesStep old.door (receives config place piece station) old new turns turns' before later
     received_step lives a =
         let e : shuts_now ≡ not lives = sym received_stands ∙ a.closes in
-        subst (λ b. DoesStep old.door (then_do (doing (tells (received place.peer piece) ∷ []) station.places station) (settles b place to_piece said)) old new turns turns' before later)
+        subst (λ b. DoesStep old.door (then_do (doing (tells (received place.peer piece) ∷ []) station.places station)
+        (settles b place to_piece said)) old new turns turns' before later)
         (sym e)
         (record {
           does = does_then nobody nobody (tells (received place.peer piece) ∷ []) old.books mid.books turns turns before now

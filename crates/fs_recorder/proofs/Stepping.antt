@@ -1,6 +1,21 @@
 -- Steps that were taken, and steps that were broken off.
-use Rattle.fs_recorder.proofs.{Words.{longest_payload, length, ◌≤◌, ℕ, Bool, true, false, List, [], ◌∷◌, ◌++◌, Option, Some, None, ◌==◌, ◌-◌, ◌≡◌, not, refl, ap, sym, subst, ◌∙◌, ◌+◌, true≢false, if◌then◌else◌, nat_lt, AllByRecursion, IsWritable, Grew, Grew-refl, GrewPart, Turn, said, Config, IsNumbered, received, was_lost, HandsPeer, KeepsOthers, RepliesBehind, TicksPeer, StaysPlayed, ExpiresPlayed, ExpiresSo, standing_at_desk, nobody, Point, AtDoor, Booked, Scribed, Tells, TellsPart, Deed, Does, Recording, answered, is_closed, items_of, leaves, says, sends, tells, text_at, stands_established, Place, Station, Step, expires, handed_point, hurries, hurries_where_late, hurries_where_new, is_early, is_established, moved, open_time, place_for, place_of, receives, replies_to, resting, seat_at, settles, then_do, wakes, woken, Seat, seat_of, BreaksAt, BreaksIn, BreaksSo, DidAt, DidSo, DoesStep, IsOpenAt, Left, Stands, WakesSo}, Doing.{breaks_early, breaks_more, breaks_tell, breaks_then, breaks_where, does_ask, does_tell, does_then, items_both, says_items}, Places.{FoundAt, at_found, found_at, found_none, peers_all, place_found, place_is, place_moved}, Sessions.{open_stands}, Settling.{Answered, Received, Woke, received_says, received_stands, received_step, stands_gone, woke_at, woke_lives, woke_step}}
-use Rattle.fs_speaker.specs.{declared.{Standing.{TheVariants.{Live as LiveIn}}, State.{State, TheVariants.{WaitOpen, WaitKeep, Established, Closed}}}, End.{ticked}, Side.{notice_text}, State.{standing_by}}
+use Rattle.fs_recorder.proofs.Words.{longest_payload, length, ◌≤◌, ℕ, Bool, true, false, List, [], ◌∷◌, ◌++◌, Option, Some, None, ◌==◌, ◌-◌, ◌≡◌, not}
+use Rattle.fs_recorder.proofs.Words.{refl, ap, sym, subst, ◌∙◌, ◌+◌, true≢false, if◌then◌else◌, nat_lt, AllByRecursion, IsWritable, Grew, Grew-refl}
+use Rattle.fs_recorder.proofs.Words.{GrewPart, Turn, said, Config, IsNumbered, received, was_lost, HandsPeer, KeepsOthers, RepliesBehind, TicksPeer}
+use Rattle.fs_recorder.proofs.Words.{StaysPlayed, ExpiresPlayed, ExpiresSo, standing_at_desk, nobody, Point, AtDoor, Booked, Scribed, Tells}
+use Rattle.fs_recorder.proofs.Words.{TellsPart, Deed, Does, Recording, answered, is_closed, items_of, leaves, says, sends, tells, text_at}
+use Rattle.fs_recorder.proofs.Words.{stands_established, Place, Station, Step, expires, handed_point, hurries, hurries_where_late, hurries_where_new}
+use Rattle.fs_recorder.proofs.Words.{is_early, is_established, moved, open_time, place_for, place_of, receives, replies_to, resting, seat_at, settles}
+use Rattle.fs_recorder.proofs.Words.{then_do, wakes, woken, Seat, seat_of, BreaksAt, BreaksIn, BreaksSo, DidAt, DidSo, DoesStep, IsOpenAt, Left}
+use Rattle.fs_recorder.proofs.Words.{Stands, WakesSo}
+use Rattle.fs_recorder.proofs.Doing.{breaks_early, breaks_more, breaks_tell, breaks_then, breaks_where, does_ask, does_tell, does_then, items_both}
+use Rattle.fs_recorder.proofs.Doing.{says_items}
+use Rattle.fs_recorder.proofs.Places.{FoundAt, at_found, found_at, found_none, peers_all, place_found, place_is, place_moved}
+use Rattle.fs_recorder.proofs.Sessions.{open_stands}
+use Rattle.fs_recorder.proofs.Settling.{Answered, Received, Woke, received_says, received_stands, received_step, stands_gone, woke_at, woke_lives}
+use Rattle.fs_recorder.proofs.Settling.{woke_step}
+use Rattle.fs_speaker.specs.declared.{Standing.{TheVariants.{Live as LiveIn}}, State.{State, TheVariants.{WaitOpen, WaitKeep, Established, Closed}}}
+use Rattle.fs_speaker.specs.{End.{ticked}, Side.{notice_text}, State.{standing_by}}
 
 -- the place of a seat, where the seat is seen as its own
 own_found : (seat : Seat) (places : List Place) (place : Place) → place_for seat.peer places ≡ Some place → place_for place.peer places ≡ Some place
@@ -36,7 +51,8 @@ does_both first later old mid new t t1 t2 w w1 w2 one next = record {
   door_is = next.door_is ∙ one.door_is;
 }
 
-pub breaks_both : {L : Type 0} → {door : AtDoor} → (first : Step) (later : Station → Step) (old mid : Recording) (t t1 t2 : Option (List Turn)) (w w1 w2 : Option (List ℕ))
+pub breaks_both : {L : Type 0} → {door : AtDoor}
+    → (first : Step) (later : Station → Step) (old mid : Recording) (t t1 t2 : Option (List Turn)) (w w1 w2 : Option (List ℕ))
     → DoesStep door first old mid t t1 w w1 → BreaksAt L (later first.station).deeds mid.books t1 t2 w1 w2
     → BreaksAt L (then_do first later).deeds old.books t t2 w w2
 breaks_both {L} {door} first later old mid t t1 t2 w w1 w2 one next =
@@ -48,7 +64,8 @@ settles_writable : (config : Config) (b : Bool) (place : Place) (to : Point) (te
 settles_writable config false place to text station known = subst (AllByRecursion (IsWritable config)) (sym (says_items place.line text)) tt
 settles_writable config true place to text station known =
     subst (AllByRecursion (IsWritable config))
-    (sym (items_both (says place.line text) (leaves (seat_at place)) ∙ ap (λ items. items ++ was_lost place.peer ∷ []) (says_items place.line text))) (known, tt)
+    (sym (items_both (says place.line text) (leaves (seat_at place)) ∙ ap (λ items. items ++ was_lost place.peer ∷ []) (says_items place.line text)))
+    (known, tt)
 
 -- it was broken off behind what leaves the tape and the configuration
 breaks_before : {L : Type 0} → (deeds : List Deed) (old mid : Booked) (t t1 : Option (List Turn)) (w w1 : Option (List ℕ)) → mid.scribe ≡ old.scribe
@@ -83,14 +100,16 @@ woke_as time peer inside old mid cleared same none ticks stays expired so config
       door_is = door_is;
     })
 
-pub did_wake : (time : ℕ) (seat : Seat) (lives : Bool) (old mid new : Recording) (t t1 : Option (List Turn)) (w w1 : Option (List ℕ)) → Woke time seat.peer old mid
+pub did_wake : (time : ℕ) (seat : Seat) (lives : Bool) (old mid new : Recording) (t t1 : Option (List Turn)) (w w1 : Option (List ℕ))
+    → Woke time seat.peer old mid
     → Answered seat lives mid new t t1 w w1 → DidAt seat (wakes time) old new t t1 w w1
 did_wake time seat lives old mid new t t1 w w1 woke answered station stands place found seated =
     woke_step time place old mid new t t1 w w1 station stands (own_found seat station.places place found)
     (subst (λ (s : Seat). Woke time s.peer old mid) (sym seated) woke) lives
     (subst (λ (s : Seat). Answered s lives mid new t t1 w w1) (sym seated) answered)
 
-pub wakes_so : (time : ℕ) (seat : Seat) (lives : Bool) (old mid : Recording) → Woke time seat.peer old mid → is_closed (standing_at_desk mid.books.desk seat.peer) ≡ not lives
+pub wakes_so : (time : ℕ) (seat : Seat) (lives : Bool) (old mid : Recording) → Woke time seat.peer old mid
+    → is_closed (standing_at_desk mid.books.desk seat.peer) ≡ not lives
     → WakesSo time seat old lives
 wakes_so time seat lives old mid woke closes station stands place found =
     let own : place.peer ≡ seat.peer = place_is seat.peer station.places place found in
@@ -106,7 +125,8 @@ breaks_unwoken {L} time seat old t w never station stands place found seated =
     (settles_writable old.books.desk.config (expires time place) place (ticked time place.point).point (ticked time place.point).text station
     (place_known station old stands seat.peer place found)) never
 
-pub breaks_woken : {L : Type 0} → (time : ℕ) (seat : Seat) (old mid : Recording) (t t1 : Option (List Turn)) (w w1 : Option (List ℕ)) → Woke time seat.peer old mid
+pub breaks_woken : {L : Type 0} → (time : ℕ) (seat : Seat) (old mid : Recording) (t t1 : Option (List Turn)) (w w1 : Option (List ℕ))
+    → Woke time seat.peer old mid
     → is_closed (standing_at_desk mid.books.desk seat.peer) ≡ true → BreaksAt L (answered false seat mid.replies) mid.books t t1 w w1
     → BreaksIn L seat (wakes time) old t t1 w w1
 breaks_woken {L} time seat old mid t t1 w w1 woke closes breaks station stands place found seated =
@@ -137,14 +157,16 @@ received_as piece peer inside old mid cleared before now same none told hands ot
       door_is = door_is;
     })
 
-pub did_receive : (piece : List ℕ) (seat : Seat) (lives : Bool) (old mid new : Recording) (t t1 : Option (List Turn)) (w w1 w2 : Option (List ℕ)) → Received piece seat.peer old mid w w1
+pub did_receive : (piece : List ℕ) (seat : Seat) (lives : Bool) (old mid new : Recording) (t t1 : Option (List Turn)) (w w1 w2 : Option (List ℕ))
+    → Received piece seat.peer old mid w w1
     → Answered seat lives mid new t t1 w1 w2 → DidAt seat (λ place. receives old.books.desk.config place piece) old new t t1 w w2
 did_receive piece seat lives old mid new t t1 w w1 w2 heard answered station stands place found seated =
     received_step piece place old mid w w1 station stands (own_found seat station.places place found)
     (subst (λ (s : Seat). Received piece s.peer old mid w w1) (sym seated) heard) new t t1 w2 lives
     (subst (λ (s : Seat). Answered s lives mid new t t1 w1 w2) (sym seated) answered)
 
-pub breaks_unreceived : {L : Type 0} → (piece : List ℕ) (seat : Seat) (old : Recording) (t : Option (List Turn)) (w w1 : Option (List ℕ)) → TellsPart L (received seat.peer piece) old.books w w1
+pub breaks_unreceived : {L : Type 0} → (piece : List ℕ) (seat : Seat) (old : Recording) (t : Option (List Turn)) (w w1 : Option (List ℕ))
+    → TellsPart L (received seat.peer piece) old.books w w1
     → BreaksIn L seat (λ place. receives old.books.desk.config place piece) old t t w w1
 breaks_unreceived {L} piece seat old t w w1 part station stands place found seated =
     let step = receives old.books.desk.config place piece station in
@@ -153,7 +175,8 @@ breaks_unreceived {L} piece seat old t w w1 part station stands place found seat
     (subst (λ (s : Seat). BreaksAt L (tells (received s.peer piece) ∷ []) old.books t t w w1) (sym seated)
     (breaks_tell (received seat.peer piece) old.books t w w1 part))
 
-pub breaks_received : {L : Type 0} → (piece : List ℕ) (seat : Seat) (old mid : Recording) (t t1 : Option (List Turn)) (w w1 w2 : Option (List ℕ)) → Received piece seat.peer old mid w w1
+pub breaks_received : {L : Type 0} → (piece : List ℕ) (seat : Seat) (old mid : Recording) (t t1 : Option (List Turn)) (w w1 w2 : Option (List ℕ))
+    → Received piece seat.peer old mid w w1
     → is_closed (standing_at_desk mid.books.desk seat.peer) ≡ true → BreaksAt L (answered false seat mid.replies) mid.books t t1 w1 w2
     → BreaksIn L seat (λ place. receives old.books.desk.config place piece) old t t1 w w2
 breaks_received {L} piece seat old mid t t1 w w1 w2 heard closes breaks station stands place found seated =
@@ -161,14 +184,19 @@ breaks_received {L} piece seat old mid t t1 w w1 w2 heard closes breaks station 
     let heard_here = subst (λ (s : Seat). Received piece s.peer old mid w w1) (sym seated) heard in
     let e = sym (received_stands piece place old mid w w1 station stands at heard_here)
     ∙ subst (λ (s : Seat). is_closed (standing_at_desk mid.books.desk s.peer) ≡ true) (sym seated) closes in
-    subst (λ b. BreaksAt L ((tells (received place.peer piece) ∷ []) ++ (settles b place (handed_point old.books.desk.config place.peer place.point piece) (replies_to old.books.desk.config place.peer station.told piece) (record { told = station.told ++ received place.peer piece ∷ []; places = station.places })).deeds) old.books t t1 w w2) (sym e)
+    subst (λ b. BreaksAt L ((tells (received place.peer piece) ∷ [])
+    ++ (settles b place (handed_point old.books.desk.config place.peer place.point piece)
+    (replies_to old.books.desk.config place.peer station.told piece)
+    (record { told = station.told ++ received place.peer piece ∷ []; places = station.places })).deeds) old.books t t1 w w2) (sym e)
     (breaks_then nobody nobody (tells (received place.peer piece) ∷ []) old.books mid.books t t w w1
     (does_tell (received place.peer piece) old.books mid.books t w w1 heard_here.told nobody)
     _ t1 w2
-    (subst (λ text. BreaksAt L (answered false (seat_at place) text) mid.books t t1 w1 w2) (sym (received_says piece place old mid w w1 station stands at heard_here))
+    (subst (λ text. BreaksAt L (answered false (seat_at place) text) mid.books t t1 w1 w2)
+    (sym (received_says piece place old mid w w1 station stands at heard_here))
     (subst (λ s. BreaksAt L (answered false s mid.replies) mid.books t t1 w1 w2) (sym seated) breaks)))
 
-pub receives_writable : (piece : List ℕ) (config : Config) (place : Place) (station : Station) → IsNumbered config place.peer → IsWritable config (received place.peer piece)
+pub receives_writable : (piece : List ℕ) (config : Config) (place : Place) (station : Station) → IsNumbered config place.peer
+    → IsWritable config (received place.peer piece)
     → AllByRecursion (IsWritable config) (items_of (receives config place piece station).deeds)
 receives_writable piece config place station known writable = (writable, settles_writable config _ place _ _ _ known)
 
@@ -182,22 +210,26 @@ module _ (time : ℕ) (seat : Seat) (later : Place → Station → Step) where
       → place_for seat.peer (settles b place (ticked time place.point).point (ticked time place.point).text station).station.places ≡ Some (woken time place)
   at_woken true e station place found = absurd (true≢false e)
   at_woken false e station place found =
-      subst (λ p. place_for seat.peer (moved p (ticked time place.point).point station.places) ≡ Some (woken time place)) (sym (place_is seat.peer station.places place found))
+      subst (λ p. place_for seat.peer (moved p (ticked time place.point).point station.places) ≡ Some (woken time place))
+      (sym (place_is seat.peer station.places place found))
       (place_moved seat.peer (ticked time place.point).point station.places place found)
 
-  pub woken_shut : (old new : Recording) (t t1 : Option (List Turn)) (w w1 : Option (List ℕ)) → WakesSo time seat old false → DidAt seat (wakes time) old new t t1 w w1
+  pub woken_shut : (old new : Recording) (t t1 : Option (List Turn)) (w w1 : Option (List ℕ)) → WakesSo time seat old false
+      → DidAt seat (wakes time) old new t t1 w w1
       → DidAt seat (wakes_then time later) old new t t1 w w1
   woken_shut old new t t1 w w1 so did station stands place found seated =
       subst (λ b. DoesStep old.door (if b then wakes time place station else then_do (wakes time place station) (later (woken time place))) old new t t1 w w1)
       (sym (flipped false (expires time place) (so station stands place found)))
       (did station stands place found seated)
 
-  module _ (old mid : Recording) (t t1 t2 : Option (List Turn)) (w w1 w2 : Option (List ℕ)) (so : WakesSo time seat old true) (did : DidAt seat (wakes time) old mid t t1 w w1) where
+  module _ (old mid : Recording) (t t1 t2 : Option (List Turn)) (w w1 w2 : Option (List ℕ)) (so : WakesSo time seat old true)
+      (did : DidAt seat (wakes time) old mid t t1 w w1) where
     pub woken_then : (new : Recording) → DidAt seat later mid new t1 t2 w1 w2 → DidAt seat (wakes_then time later) old new t t2 w w2
     woken_then new next station stands place found seated =
         let e : expires time place ≡ false = flipped true (expires time place) (so station stands place found) in
         let one = did station stands place found seated in
-        subst (λ b. DoesStep old.door (if b then wakes time place station else then_do (wakes time place station) (later (woken time place))) old new t t2 w w2) (sym e)
+        subst (λ b. DoesStep old.door (if b then wakes time place station else then_do (wakes time place station) (later (woken time place))) old new
+        t t2 w w2) (sym e)
         (does_both (wakes time place station) (later (woken time place)) old mid new t t1 t2 w w1 w2 one
         (next (wakes time place station).station one.stands (woken time place) (at_woken (expires time place) e station place found) seated))
 
@@ -205,12 +237,14 @@ module _ (time : ℕ) (seat : Seat) (later : Place → Station → Step) where
     woken_breaks {L} next station stands place found seated =
         let e : expires time place ≡ false = flipped true (expires time place) (so station stands place found) in
         let one = did station stands place found seated in
-        subst (λ b. BreaksAt L (if b then wakes time place station else then_do (wakes time place station) (later (woken time place))).deeds old.books t t2 w w2) (sym e)
+        subst (λ b. BreaksAt L (if b then wakes time place station else then_do (wakes time place station) (later (woken time place))).deeds old.books
+        t t2 w w2) (sym e)
         (breaks_both (wakes time place station) (later (woken time place)) old mid t t1 t2 w w1 w2 one
         (next (wakes time place station).station one.stands (woken time place) (at_woken (expires time place) e station place found) seated))
 
   -- the clock broke it off
-  pub woken_broke : {L M : Type 0} → (old : Recording) (t t1 : Option (List Turn)) (w w1 : Option (List ℕ)) → (M → L) → BreaksIn L seat (wakes time) old t t1 w w1
+  pub woken_broke : {L M : Type 0} → (old : Recording) (t t1 : Option (List Turn)) (w w1 : Option (List ℕ)) → (M → L)
+      → BreaksIn L seat (wakes time) old t t1 w w1
       → ((station : Station) → Stands station old → (place : Place) → place_for seat.peer station.places ≡ Some place → seat_at place ≡ seat
       → (there : Station) → AllByRecursion (IsWritable old.books.desk.config) (items_of (later (woken time place) there).deeds))
       → BreaksIn M seat (wakes_then time later) old t t1 w w1
@@ -219,7 +253,8 @@ module _ (time : ℕ) (seat : Seat) (later : Place → Station → Step) where
       there : BreaksAt M (wakes time place station).deeds old.books t t1 w w1
       there = breaks_where named (broke station stands place found seated)
 
-      by : (b : Bool) → BreaksAt M (if b then wakes time place station else then_do (wakes time place station) (later (woken time place))).deeds old.books t t1 w w1
+      by : (b : Bool) → BreaksAt M (if b then wakes time place station else then_do (wakes time place station) (later (woken time place))).deeds
+          old.books t t1 w w1
       by true = there
       by false =
           breaks_more (wakes time place station).deeds (later (woken time place) (wakes time place station).station).deeds old.books t t1 w w1
@@ -245,12 +280,14 @@ stands_est Closed = refl
 pub place_est : (station : Station) (old : Recording) → Stands station old → (peer : ℕ) (place : Place) → place_for peer station.places ≡ Some place
     → is_established place.point.phase.state ≡ stands_established (standing_at_desk old.books.desk peer)
 place_est station old stands peer place found =
-    let is_open : IsOpenAt old.books.desk place = at_found (IsOpenAt old.books.desk) (λ (other : Place). other.peer == peer) station.places place stands.live found in
+    let is_open : IsOpenAt old.books.desk place =
+    at_found (IsOpenAt old.books.desk) (λ (other : Place). other.peer == peer) station.places place stands.live found in
     sym (ap (λ p. stands_established (standing_at_desk old.books.desk p)) (sym (place_is peer station.places place found))
     ∙ ap (λ kept. stands_established (standing_by kept)) is_open.session_is ∙ ap stands_established (open_stands is_open.session is_open.alive)
     ∙ stands_est is_open.session.phase.state ∙ ap (λ (p : Point). is_established p.phase.state) is_open.point_is)
 
-pub did_not_hurry : (seat : Seat) (old : Recording) (t : Option (List Turn)) (w : Option (List ℕ)) → stands_established (standing_at_desk old.books.desk seat.peer) ≡ true
+pub did_not_hurry : (seat : Seat) (old : Recording) (t : Option (List Turn)) (w : Option (List ℕ))
+    → stands_established (standing_at_desk old.books.desk seat.peer) ≡ true
     → DidAt seat hurries_where_new old old t t w w
 did_not_hurry seat old t w is station stands place found seated =
     subst (λ b. DoesStep old.door (if b then resting station else hurries place station) old old t t w w)
@@ -259,7 +296,8 @@ did_not_hurry seat old t w is station stands place found seated =
 abbrev pub gives_up : Seat → List Deed
 gives_up seat = sends seat.line (notice_text 4 0) ∷ leaves seat
 
-pub did_hurry : (seat : Seat) (old new : Recording) (t t1 t2 : Option (List Turn)) (w w1 : Option (List ℕ)) → stands_established (standing_at_desk old.books.desk seat.peer) ≡ false
+pub did_hurry : (seat : Seat) (old new : Recording) (t t1 t2 : Option (List Turn)) (w w1 : Option (List ℕ))
+    → stands_established (standing_at_desk old.books.desk seat.peer) ≡ false
     → Grew t t1 (said seat.line (notice_text 4 0) ∷ []) → Does nobody nobody (leaves seat) old.books new.books t1 t2 w w1 → Left seat old new
     → DidAt seat hurries_where_new old new t t2 w w1
 did_hurry seat old new t t1 t2 w w1 is grew does left station stands place found seated =
@@ -275,7 +313,8 @@ did_hurry seat old new t t1 t2 w w1 is grew does left station stands place found
       door_is = left.door_is;
     })
 
-pub breaks_hurry : {L : Type 0} → (seat : Seat) (old : Recording) (t t1 t2 : Option (List Turn)) (w w1 : Option (List ℕ)) → stands_established (standing_at_desk old.books.desk seat.peer) ≡ false
+pub breaks_hurry : {L : Type 0} → (seat : Seat) (old : Recording) (t t1 t2 : Option (List Turn)) (w w1 : Option (List ℕ))
+    → stands_established (standing_at_desk old.books.desk seat.peer) ≡ false
     → Grew t t1 (said seat.line (notice_text 4 0) ∷ []) → BreaksAt L (leaves seat) old.books t1 t2 w w1 → BreaksIn L seat hurries_where_new old t t2 w w1
 breaks_hurry {L} seat old t t1 t2 w w1 is grew breaks station stands place found seated =
     subst (λ b. BreaksAt L (if b then resting station else hurries place station).deeds old.books t t2 w w1)
@@ -295,31 +334,38 @@ did_early time seat old t w early station stands place found seated =
     subst (λ b. DoesStep old.door (if b then resting station else hurries_where_new place station) old old t t w w)
     (sym (place_early time seat place seated ∙ early)) (does_rest station old t w stands)
 
-pub did_late : (time : ℕ) (seat : Seat) (old new : Recording) (t t1 : Option (List Turn)) (w w1 : Option (List ℕ)) → nat_lt (time - seat.since) open_time ≡ false
+pub did_late : (time : ℕ) (seat : Seat) (old new : Recording) (t t1 : Option (List Turn)) (w w1 : Option (List ℕ))
+    → nat_lt (time - seat.since) open_time ≡ false
     → DidAt seat hurries_where_new old new t t1 w w1 → DidAt seat (hurries_where_late time) old new t t1 w w1
 did_late time seat old new t t1 w w1 late did station stands place found seated =
     subst (λ b. DoesStep old.door (if b then resting station else hurries_where_new place station) old new t t1 w w1)
     (sym (place_early time seat place seated ∙ late)) (did station stands place found seated)
 
-pub breaks_late : {L : Type 0} → (time : ℕ) (seat : Seat) (old : Recording) (t t1 : Option (List Turn)) (w w1 : Option (List ℕ)) → nat_lt (time - seat.since) open_time ≡ false
+pub breaks_late : {L : Type 0} → (time : ℕ) (seat : Seat) (old : Recording) (t t1 : Option (List Turn)) (w w1 : Option (List ℕ))
+    → nat_lt (time - seat.since) open_time ≡ false
     → BreaksIn L seat hurries_where_new old t t1 w w1 → BreaksIn L seat (hurries_where_late time) old t t1 w w1
 breaks_late {L} time seat old t t1 w w1 late did station stands place found seated =
     subst (λ b. BreaksAt L (if b then resting station else hurries_where_new place station).deeds old.books t t1 w w1)
     (sym (place_early time seat place seated ∙ late)) (did station stands place found seated)
 
-pub late_writable : (time : ℕ) (seat : Seat) (old : Recording) (station : Station) → Stands station old → (place : Place) → place_for seat.peer station.places ≡ Some place
-    → seat_at place ≡ seat → (there : Station) → AllByRecursion (IsWritable old.books.desk.config) (items_of (hurries_where_late time (woken time place) there).deeds)
-late_writable time seat old station stands place found seated there = by (is_early time (woken time place)) (is_established (woken time place).point.phase.state)
+pub late_writable : (time : ℕ) (seat : Seat) (old : Recording) (station : Station) → Stands station old → (place : Place)
+    → place_for seat.peer station.places ≡ Some place
+    → seat_at place ≡ seat → (there : Station)
+    → AllByRecursion (IsWritable old.books.desk.config) (items_of (hurries_where_late time (woken time place) there).deeds)
+late_writable time seat old station stands place found seated there =
+    by (is_early time (woken time place)) (is_established (woken time place).point.phase.state)
   where
     by : (early new : Bool)
-        → AllByRecursion (IsWritable old.books.desk.config) (items_of (if early then resting there else if new then resting there else hurries (woken time place) there).deeds)
+        → AllByRecursion (IsWritable old.books.desk.config)
+        (items_of (if early then resting there else if new then resting there else hurries (woken time place) there).deeds)
     by true new = tt
     by false true = tt
     by false false = (place_known station old stands seat.peer place found, tt)
 
 -- the seat of a line is a place's
 
-pub did_line : (line : ℕ) (seat : Seat) (step : Place → Station → Step) (old new : Recording) (t t1 : Option (List Turn)) (w w1 : Option (List ℕ)) → seat_of line old.seats ≡ Some seat
+pub did_line : (line : ℕ) (seat : Seat) (step : Place → Station → Step) (old new : Recording) (t t1 : Option (List Turn)) (w w1 : Option (List ℕ))
+    → seat_of line old.seats ≡ Some seat
     → DidAt seat step old new t t1 w w1
     → DidSo (λ station. elim (place_of line station.places) [ None ↦ resting station | Some place ↦ step place station ]) old new t t1 w w1
 did_line line seat step old new t t1 w w1 is did station stands =
@@ -327,7 +373,8 @@ did_line line seat step old new t t1 w w1 is did station stands =
     found_at (λ (other : Seat). other.line == line) station.places seat (ap (seat_of line) (sym stands.seats_are) ∙ is) in
     let own : place_for seat.peer station.places ≡ Some at.place =
     subst (λ (s : Seat). place_for s.peer station.places ≡ Some at.place) at.seated (place_found line station.places at.place stands.apart at.found) in
-    subst (λ (found : Option Place). DoesStep old.door (elim found [ None ↦ resting station | Some place ↦ step place station ]) old new t t1 w w1) (sym at.found)
+    subst (λ (found : Option Place). DoesStep old.door (elim found [ None ↦ resting station | Some place ↦ step place station ]) old new t t1 w w1)
+    (sym at.found)
     (did station stands at.place own at.seated)
 
 pub did_no_line : (line : ℕ) (step : Place → Station → Step) (old : Recording) (t : Option (List Turn)) (w : Option (List ℕ)) → seat_of line old.seats ≡ None
@@ -337,7 +384,9 @@ did_no_line line step old t w is station stands =
     (sym (found_none (λ (other : Seat). other.line == line) station.places (ap (seat_of line) (sym stands.seats_are) ∙ is)))
     (does_rest station old t w stands)
 
-pub breaks_line : {L : Type 0} → (line : ℕ) (seat : Seat) (step : Place → Station → Step) (old : Recording) (t t1 : Option (List Turn)) (w w1 : Option (List ℕ)) → seat_of line old.seats ≡ Some seat
+pub breaks_line : {L : Type 0}
+    → (line : ℕ) (seat : Seat) (step : Place → Station → Step) (old : Recording) (t t1 : Option (List Turn)) (w w1 : Option (List ℕ))
+    → seat_of line old.seats ≡ Some seat
     → BreaksIn L seat step old t t1 w w1
     → BreaksSo L (λ station. elim (place_of line station.places) [ None ↦ resting station | Some place ↦ step place station ]) old t t1 w w1
 breaks_line {L} line seat step old t t1 w w1 is did station stands =
@@ -345,5 +394,6 @@ breaks_line {L} line seat step old t t1 w w1 is did station stands =
     found_at (λ (other : Seat). other.line == line) station.places seat (ap (seat_of line) (sym stands.seats_are) ∙ is) in
     let own : place_for seat.peer station.places ≡ Some at.place =
     subst (λ (s : Seat). place_for s.peer station.places ≡ Some at.place) at.seated (place_found line station.places at.place stands.apart at.found) in
-    subst (λ (found : Option Place). BreaksAt L (elim found as (λ _. Step) [ None ↦ resting station | Some place ↦ step place station ]).deeds old.books t t1 w w1) (sym at.found)
+    subst (λ (found : Option Place). BreaksAt L (elim found as (λ _. Step) [ None ↦ resting station | Some place ↦ step place station ]).deeds
+    old.books t t1 w w1) (sym at.found)
     (did station stands at.place own at.seated)

@@ -1,9 +1,18 @@
 -- The clock of each session in turn, and all that is done at an event.
-use Rattle.fs_recorder.proofs.{PlaceWords.{Bool, List, Option, [], ap, append_assoc, false, refl, subst, sym, true, ℕ, ◌++◌, ◌∙◌, ◌∷◌, ◌≡◌, AllByRecursion, if◌then◌else◌, Grew, Turn, shut, Config, IsWritable, nobody, Recording, items_of, What, Station, Step, checks_peer, follows, hears, AtDoor, door_after, door_with, is_due, late_lines, swept_at, swept_where_due, peers_at, peers_in, resting, seat_at, shuts, sweeps, sweeps_all, sweeps_where_due, then_do, turns_away, BreaksAt, BreaksSo, DidHear, DidSo, DoesStep, Stands}, Doing.{breaks_early, breaks_more, breaks_then, breaks_where, does_ask, does_then, shuts_asked, shuts_items}, Knowing.{Known, known_checks_peer, known_follows, known_sweeps, known_where_due, new_told}, Stepping.{breaks_both, does_both, does_rest}, Waiting.{stands_door}}
+use Rattle.fs_recorder.proofs.PlaceWords.{Bool, List, Option, [], ap, append_assoc, false, refl, subst, sym, true, ℕ, ◌++◌, ◌∙◌, ◌∷◌, ◌≡◌}
+use Rattle.fs_recorder.proofs.PlaceWords.{AllByRecursion, if◌then◌else◌, Grew, Turn, shut, Config, IsWritable, nobody, Recording, items_of, What}
+use Rattle.fs_recorder.proofs.PlaceWords.{Station, Step, checks_peer, follows, hears, AtDoor, door_after, door_with, is_due, late_lines, swept_at}
+use Rattle.fs_recorder.proofs.PlaceWords.{swept_where_due, peers_at, peers_in, resting, seat_at, shuts, sweeps, sweeps_all, sweeps_where_due, then_do}
+use Rattle.fs_recorder.proofs.PlaceWords.{turns_away, BreaksAt, BreaksSo, DidHear, DidSo, DoesStep, Stands}
+use Rattle.fs_recorder.proofs.Doing.{breaks_early, breaks_more, breaks_then, breaks_where, does_ask, does_then, shuts_asked, shuts_items}
+use Rattle.fs_recorder.proofs.Knowing.{Known, known_checks_peer, known_follows, known_sweeps, known_where_due, new_told}
+use Rattle.fs_recorder.proofs.{Stepping.{breaks_both, does_both, does_rest}, Waiting.{stands_door}}
 use Rattle.fs_recorder.specs.{Books.{Booked}, Deeds.{Does, passing}, Laws.{IsShort}, Steps.{Place}}
 use Rattle.fs_recorder.specs.declared.seats.Seat.{Seat}
 use Rattle.fs_base.specs.{Gate.{what_from}, declared.Came.{Came, TheVariants.{Ended, Made, Nothing, Octets, Taken}}}
-use Rattle.std.{proofs.{Common.{arith, drop, get_or, length, take, ◌+◌, ◌<◌, ◌≤◌}, lemmas.{List.{drop_more, length-drop, length-take, map-append, take-append-drop, take_more}}}, specs.Prelude.{map}}
+use Rattle.std.proofs.Common.{arith, drop, get_or, length, take, ◌+◌, ◌<◌, ◌≤◌}
+use Rattle.std.proofs.lemmas.{List.{drop_more, length-drop, length-take, map-append, take-append-drop, take_more}}
+use Rattle.std.specs.Prelude.{map}
 
 -- some peers, and then others
 pub sweeps_both : (time : ℕ) (front later : List ℕ) (station : Station)
@@ -28,7 +37,8 @@ module _ (time : ℕ) (front : List ℕ) (peer : ℕ) (a b : Recording) (t t1 t2
       (does_both (sweeps time front station) (sweeps time (peer ∷ [])) a b c t t1 t2 w w1 w2 one single)
 
   -- it was broken off at a peer
-  pub breaks_more_peers : {L M : Type 0} → (later : List ℕ) → (M → L) → DidSo (sweeps time front) a b t t1 w w1 → BreaksSo L (checks_peer time peer) b t1 t2 w1 w2
+  pub breaks_more_peers : {L M : Type 0} → (later : List ℕ) → (M → L) → DidSo (sweeps time front) a b t t1 w w1
+      → BreaksSo L (checks_peer time peer) b t1 t2 w1 w2
       → BreaksSo M (sweeps time (front ++ peer ∷ later)) a t t2 w w2
   breaks_more_peers {L} {M} later named did breaks station stands =
       let one = did station stands in
@@ -56,10 +66,12 @@ module _ (time : ℕ) (old : Recording) (t t1 : Option (List Turn)) (w w1 : Opti
   pub breaks_sweep : {L : Type 0} → (seats : List Seat) → seats ≡ old.seats → BreaksSo L (sweeps time (peers_in seats)) old t t1 w w1
       → BreaksSo L (sweeps_all time) old t t1 w w1
   breaks_sweep {L} seats same breaks station stands =
-      subst (λ peers. BreaksAt L (sweeps time peers station).deeds old.books t t1 w w1) (ap peers_in same ∙ peers_are old station stands) (breaks station stands)
+      subst (λ peers. BreaksAt L (sweeps time peers station).deeds old.books t t1 w w1) (ap peers_in same
+      ∙ peers_are old station stands) (breaks station stands)
 
 -- it was broken off before it began
-pub breaks_sweep_early : {L : Type 0} → (time : ℕ) (old : Recording) (t : Option (List Turn)) (w : Option (List ℕ)) → (L → ⊥) → BreaksSo L (sweeps_all time) old t t w w
+pub breaks_sweep_early : {L : Type 0} → (time : ℕ) (old : Recording) (t : Option (List Turn)) (w : Option (List ℕ)) → (L → ⊥)
+    → BreaksSo L (sweeps_all time) old t t w w
 breaks_sweep_early {L} time old t w never station stands =
     breaks_early (sweeps_all time station).deeds old.books t w
     (known_sweeps old.books.desk.config time (peers_at station.places) station stands.known).writable never
@@ -87,13 +99,15 @@ module _ (config : Config) (time : ℕ) (what : What) (old mid : Recording) (t t
       let one = did station stands in
       let all = does_both (event_step station) resting old mid mid t t1 t1 w w1 w1 one
       (does_rest (event_step station).station mid t1 w1 one.stands) in
-      subst (λ (seats : List Seat). DoesStep (swept_where_due time behind_event) (hears_at (door_with config time what seats old.door) station) old mid t t1 w w1) stands.seats_are
+      subst (λ (seats : List Seat). DoesStep (swept_where_due time behind_event) (hears_at (door_with config time what seats old.door) station) old
+      mid t t1 w w1) stands.seats_are
       (subst (λ (door : AtDoor). DoesStep (swept_where_due time door) (hears_at door station) old mid t t1 w w1) one.door_is
       (subst (λ (b : Bool). DoesStep (if b then swept_at time mid.door else mid.door) (hears_by b station) old mid t t1 w w1) (sym e)
       (record { does = all.does; stands = all.stands; door_is = refl })))
 
   -- the clock is due
-  module _ (due : is_due mid.door.swept time ≡ true) (did : DidHear behind_event event_step old mid t t1 w w1) (t2 t3 : Option (List Turn)) (w2 : Option (List ℕ))
+  module _ (due : is_due mid.door.swept time ≡ true) (did : DidHear behind_event event_step old mid t t1 w w1) (t2 t3 : Option (List Turn))
+      (w2 : Option (List ℕ))
       (away : Grew t1 t2 (map shut (late_lines time mid.door.guests))) where
     turned_away : Does nobody nobody (map shuts (late_lines time mid.door.guests)) mid.books mid.books t1 t2 w1 w1
     turned_away =
@@ -105,7 +119,8 @@ module _ (config : Config) (time : ℕ) (what : What) (old mid : Recording) (t t
     did_due new later station stands =
         let one = did station stands in
         let next = later (event_step station).station (stands_door (event_step station).station mid (swept_at time mid.door) one.stands) in
-        subst (λ (seats : List Seat). DoesStep (swept_where_due time behind_event) (hears_at (door_with config time what seats old.door) station) old new t t3 w w2) stands.seats_are
+        subst (λ (seats : List Seat). DoesStep (swept_where_due time behind_event) (hears_at (door_with config time what seats old.door) station) old
+        new t t3 w w2) stands.seats_are
         (subst (λ (door : AtDoor). DoesStep (swept_where_due time door) (hears_at door station) old new t t3 w w2) one.door_is
         (subst (λ (b : Bool). DoesStep (if b then swept_at time mid.door else mid.door) (hears_by b station) old new t t3 w w2) (sym due)
         (record {

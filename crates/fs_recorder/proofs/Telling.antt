@@ -1,5 +1,8 @@
 -- What a record adds to a tape, and the desk beside it.
-use Rattle.fs_recorder.proofs.Words.{ℕ, Bool, List, [], ◌∷◌, ◌++◌, Option, ◌≡◌, ◌≤◌, ◌<◌, ◌+◌, ◌^◌, length, drop, refl, ap, sym, subst, arith, length-append, length-drop, take, take_all, ◌-◌, append-nil, flat_map, Grew, GrewPart, Config, AllFrom, Fits, IsWritable, after, item_text, record_text, Item, Timed, stands, timed, Two, PlayedBut, Plays, expired_after, AgreesBut, Booked, Tells, TellsPart, text_now, items_in, last_of, longer_by}
+use Rattle.fs_recorder.proofs.Words.{ℕ, Bool, List, [], ◌∷◌, ◌++◌, Option, ◌≡◌, ◌≤◌, ◌<◌, ◌+◌, ◌^◌, length, drop, refl, ap, sym, subst, arith}
+use Rattle.fs_recorder.proofs.Words.{length-append, length-drop, take, take_all, ◌-◌, append-nil, flat_map, Grew, GrewPart, Config, AllFrom, Fits}
+use Rattle.fs_recorder.proofs.Words.{IsWritable, after, item_text, record_text, Item, Timed, stands, timed, Two, PlayedBut, Plays, expired_after}
+use Rattle.fs_recorder.proofs.Words.{AgreesBut, Booked, Tells, TellsPart, text_now, items_in, last_of, longer_by}
 
 -- a record of octets is as long as the buffer that has it
 pub received_size : (buffer : List ℕ) (peer moment : ℕ) → 15 ≤ length buffer
@@ -23,10 +26,16 @@ items_append : (told : List Timed) (one : Timed) → items_in (told ++ one ∷ [
 items_append [] one = refl
 items_append (first ∷ told) one = ap (λ items. first.item ∷ items) (items_append told one)
 
-texts_append : (told : List Timed) (one : Timed) → length (flat_map (item_text Two) (told ++ one ∷ [])) ≡ length (flat_map (item_text Two) told) + length (item_text Two one)
+texts_append : (told : List Timed) (one : Timed)
+    → length (flat_map (item_text Two) (told ++ one ∷ [])) ≡ length (flat_map (item_text Two) told) + length (item_text Two one)
 texts_append [] one = omega (arith, ap length (append-nil (item_text Two one)))
 texts_append (first ∷ told) one =
-    omega (arith, texts_append told one, length-append (item_text Two first) (flat_map (item_text Two) (told ++ one ∷ [])), length-append (item_text Two first) (flat_map (item_text Two) told))
+    omega (
+      arith,
+      texts_append told one,
+      length-append (item_text Two first) (flat_map (item_text Two) (told ++ one ∷ [])),
+      length-append (item_text Two first) (flat_map (item_text Two) told),
+    )
 
 -- an item that was written and played stands on the tape, and the desk has played it
 pub told_on : (item : Item) (old new : Booked) (before now : Option (List ℕ)) → Tells item old new before now

@@ -1,5 +1,9 @@
 -- Connections that wait for their OPEN.
-use Rattle.fs_recorder.proofs.{PlaceWords.{Option, ap, length, subst, ℕ, List, ◌≡◌, ◌≤◌, ◌∙◌, Turn, Config, longest_payload, Recording, AtDoor, without_guest, Station, Step, admits, gives, hears_octets, BreaksAt, BreaksSo, DidHear, DidSo, DoesStep, Stands}, Doing.{breaks_more, breaks_where}, Knowing.{admits_told, known_admits, known_octets}, Stepping.{breaks_both, does_both}}
+use Rattle.fs_recorder.proofs.PlaceWords.{Option, ap, length, subst, ℕ, List, ◌≡◌, ◌≤◌, ◌∙◌, Turn, Config, longest_payload, Recording, AtDoor}
+use Rattle.fs_recorder.proofs.PlaceWords.{without_guest, Station, Step, admits, gives, hears_octets, BreaksAt, BreaksSo, DidHear, DidSo, DoesStep}
+use Rattle.fs_recorder.proofs.PlaceWords.{Stands}
+use Rattle.fs_recorder.proofs.{Doing.{breaks_more, breaks_where}, Knowing.{admits_told, known_admits, known_octets}}
+use Rattle.fs_recorder.proofs.Stepping.{breaks_both, does_both}
 
 -- it stands as it did, whatever waits
 pub stands_door : (station : Station) (old : Recording) (door : AtDoor) → Stands station old → Stands station (record old { door = door })

@@ -1,12 +1,18 @@
 -- The clock at a session, and what is answered then.
-use Rattle.fs_recorder.proofs.{Words.{◌≡◌, ◌≢◌, ◌⊎◌, inl, inr, ℕ, ◌==◌, ◌&&◌, ◌||◌, not, Bool, true, false, List, ◌++◌, Option, Some, None, refl, ap, sym, subst, ◌∙◌, eqb-true, eq_itself, AllByRecursion, IsWritable, items_in, Turn, Config, Item, Timed, was_lost, Desked, PlayedBut, StaysPlayed, ExpiresPlayed, ExpiresSo, TicksPeer, expired_after, expired_with, session_at, standing_at_desk, nobody, StandsAs, peer_of, Agrees, AgreesBut, Booked, Deed, Does, behind_answer, is_closed, items_of, told_at, Scribed}}
+use Rattle.fs_recorder.proofs.Words.{◌≡◌, ◌≢◌, ◌⊎◌, inl, inr, ℕ, ◌==◌, ◌&&◌, ◌||◌, not, Bool, true, false, List, ◌++◌, Option, Some, None, refl, ap}
+use Rattle.fs_recorder.proofs.Words.{sym, subst, ◌∙◌, eqb-true, eq_itself, AllByRecursion, IsWritable, items_in, Turn, Config, Item, Timed, was_lost}
+use Rattle.fs_recorder.proofs.Words.{Desked, PlayedBut, StaysPlayed, ExpiresPlayed, ExpiresSo, TicksPeer, expired_after, expired_with, session_at}
+use Rattle.fs_recorder.proofs.Words.{standing_at_desk, nobody, StandsAs, peer_of, Agrees, AgreesBut, Booked, Deed, Does, behind_answer, is_closed}
+use Rattle.fs_recorder.proofs.Words.{items_of, told_at, Scribed}
 use Rattle.std.proofs.Common.{if◌then◌else◌}
-use Rattle.fs_speaker.specs.{declared.{Closed.{Closed, TheVariants.{Fault}}, Standing.{Standing, TheVariants.{Ended, Live as LiveIn}}}, Session.{Live}, State.{standing_by}, Times.{at_moment, tick_at}}
+use Rattle.fs_speaker.specs.declared.{Closed.{Closed, TheVariants.{Fault}}, Standing.{Standing, TheVariants.{Ended, Live as LiveIn}}}
+use Rattle.fs_speaker.specs.{Session.{Live}, State.{standing_by}, Times.{at_moment, tick_at}}
 use Rattle.fs_session.specs.declared.times.Tick.{Tick, TheVariants.{Quiet, Keeps, Expires}}
 use Rattle.fs_desk.specs.HoldTimer.{TickMakes, TicksIn}
 use Rattle.fs_desk.specs.Life.{life}
 
-never_ended : (session session' : Live) (why : Closed) → session.closed ≡ None → session'.closed ≡ Some why → standing_by (Some session') ≡ standing_by (Some session) → ⊥
+never_ended : (session session' : Live) (why : Closed) → session.closed ≡ None → session'.closed ≡ Some why
+    → standing_by (Some session') ≡ standing_by (Some session) → ⊥
 never_ended session session' why alive shut e = ended_not (sym by ∙ e ∙ was)
   where
     ended_not : Ended why ≡ LiveIn session.phase.state → ⊥
@@ -110,7 +116,8 @@ answered_so peer lives deeds old new t t' w w' answers =
       agrees = λ config told agrees. settled peer lives config (told ++ told_at old.scribe.moment (items_of deeds)) new (d.agrees config told agrees);
     }
 
-module _ (peer time : ℕ) (lives : Bool) (deeds : List Deed) (old new : Booked) (desk : Desked) (replies replies' : List ℕ) (t t' : Option (List Turn)) (w w' : Option (List ℕ))
+module _ (peer time : ℕ) (lives : Bool) (deeds : List Deed) (old new : Booked) (desk : Desked) (replies replies' : List ℕ) (t t' : Option (List Turn))
+    (w w' : Option (List ℕ))
     (ticks : TicksPeer peer time old.desk desk replies replies') (stays : StaysPlayed peer old.desk desk) (expires : ExpiresPlayed peer old.desk desk)
     (so : ExpiresSo peer old.desk desk) (config_is : desk.config ≡ old.desk.config) (closes : is_closed (standing_at_desk desk peer) ≡ not lives)
     (answers : (expired : ℕ → Bool) → Does expired (behind_answer lives peer expired) deeds (record { desk = desk; scribe = old.scribe }) new t t' w w') where
@@ -152,11 +159,13 @@ module _ (peer time : ℕ) (lives : Bool) (deeds : List Deed) (old new : Booked)
       }
 
 -- so where tape and desk are seen as one
-pub does_woke : (peer time : ℕ) (lives : Bool) (deeds : List Deed) (old mid new : Booked) (replies replies' : List ℕ) (t t' : Option (List Turn)) (w w' : Option (List ℕ))
+pub does_woke : (peer time : ℕ) (lives : Bool) (deeds : List Deed) (old mid new : Booked) (replies replies' : List ℕ) (t t' : Option (List Turn))
+    (w w' : Option (List ℕ))
     → TicksPeer peer time old.desk mid.desk replies replies' → StaysPlayed peer old.desk mid.desk → ExpiresPlayed peer old.desk mid.desk
     → ExpiresSo peer old.desk mid.desk → mid.desk.config ≡ old.desk.config → mid.scribe ≡ old.scribe
     → is_closed (standing_at_desk mid.desk peer) ≡ not lives
     → ((expired : ℕ → Bool) → Does expired (behind_answer lives peer expired) deeds mid new t t' w w') → Does nobody nobody deeds old new t t' w w'
 does_woke peer time lives deeds old mid new replies replies' t t' w w' ticks stays expires so config_is scribe_is closes answers =
     does_wake peer time lives deeds old new mid.desk replies replies' t t' w w' ticks stays expires so config_is closes
-    (subst (λ (s : Scribed). (expired : ℕ → Bool) → Does expired (behind_answer lives peer expired) deeds (record { desk = mid.desk; scribe = s }) new t t' w w') scribe_is answers)
+    (subst (λ (s : Scribed). (expired : ℕ → Bool)
+    → Does expired (behind_answer lives peer expired) deeds (record { desk = mid.desk; scribe = s }) new t t' w w') scribe_is answers)

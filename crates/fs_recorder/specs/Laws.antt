@@ -2,7 +2,8 @@
 use Rattle.std.specs.{Prelude.{ℕ, List, [], ◌∷◌, ◌++◌, Bool, true, false, not, ◌==◌, ◌≡◌, ◌<◌, ◌≤◌, ◌^◌, ⊤, filter, length}, List.{AllByRecursion, list_any}}
 use Rattle.fs_base.specs.{Gate.{What, ended, gave, made, nothing, taken}, Language.{IsOctets}, declared.config.{Config.{Config}, Peer.{Peer}}}
 use Rattle.fs_input.specs.{Parts.{AllFrom}, Records.{done}}
-use Rattle.fs_tape.specs.{Header.{longest_payload}, Laws.{tape_text}, Tape.{Item, came_up, received, tape_of, was_lost}, declared.magic.Version.TheVariants.{Two}}
+use Rattle.fs_tape.specs.{Header.{longest_payload}, Laws.{tape_text}, Tape.{Item, came_up, received, tape_of, was_lost}}
+use Rattle.fs_tape.specs.declared.magic.Version.TheVariants.{Two}
 use Rattle.fs_desk.specs.Desk.{Desked, Played, standing_at_desk}
 use Rattle.fs_recorder.specs.{Deeds.{Recording}, Steps.{Happening, at_first, recorded, stands_from}, Tapes.{items_in}, Works.{Stands}}
 

@@ -1,10 +1,13 @@
 -- What a recorder does at each event, by what was told before and by which connections speak for which peers.
-use Rattle.std.specs.Prelude.{ℕ, List, [], ◌∷◌, ◌++◌, ◌-◌, ◌==◌, ◌&&◌, Bool, true, false, Option, Some, None, drop, find, filter, length, map, max, not, nat_lt, unwrap_or, is_some, if◌then◌else◌}
+use Rattle.std.specs.Prelude.{ℕ, List, [], ◌∷◌, ◌++◌, ◌-◌, ◌==◌, ◌&&◌, Bool, true, false, Option, Some, None, drop, find, filter, length, map, max}
+use Rattle.std.specs.Prelude.{not, nat_lt, unwrap_or, is_some, if◌then◌else◌}
 use Rattle.fs_base.specs.{Config.{peer_of}, Gate.{Turn, What, came, ended, gave, made, nothing, taken}, declared.config.{Address.{Address}, Config.{Config}}}
 use Rattle.fs_tape.specs.Tape.{Item, Timed, came_up, received, was_lost}
 use Rattle.fs_speaker.specs.{End.{first_point, ticked}, Handed.{Point, hand}, Side.{notice_text, receiver}, declared.State.{State, TheVariants.{Established}}}
 use Rattle.fs_desk.specs.{Desk.{standing_of}, Life.{life}, Limit.{bounded_replies}}
-use Rattle.fs_recorder.specs.{Deeds.{Deed, asked_in, is_closed, items_of, leaves, says, sends, shuts, tells, told_at}, Door.{AtDoor, empty_door, guest_of, is_due, late_lines, open_time, said_as, swept_where_due, with_guest, without_guest}, Seats.{are_told_apart, first_peer, free_by}, declared.{door.Guest.{Guest}, seats.Seat.{Seat}}}
+use Rattle.fs_recorder.specs.Deeds.{Deed, asked_in, is_closed, items_of, leaves, says, sends, shuts, tells, told_at}
+use Rattle.fs_recorder.specs.Door.{AtDoor, empty_door, guest_of, is_due, late_lines, open_time, said_as, swept_where_due, with_guest, without_guest}
+use Rattle.fs_recorder.specs.{Seats.{are_told_apart, first_peer, free_by}, declared.{door.Guest.{Guest}, seats.Seat.{Seat}}}
 
 -- A connection that speaks for a peer, the time in milliseconds when it was taken, and where the session through it stands.
 pub record Place : Type 0 where

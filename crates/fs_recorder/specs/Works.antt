@@ -4,7 +4,9 @@ use Rattle.fs_base.specs.{Gate.{Turn}, Sink.{Grew, GrewPart}}
 use Rattle.fs_tape.specs.{Laws.{IsNumbered, IsWritable}, Tape.{was_lost}}
 use Rattle.fs_speaker.specs.Session.{Live}
 use Rattle.fs_desk.specs.{Desk.{Desked, KeepsOthers, Played, Plays, session_at}, Leaves.{nobody}, Receive.{point_of}}
-use Rattle.fs_recorder.specs.{Books.{Booked}, Door.{AtDoor}, Deeds.{Deed, Does, Recording, asked_in, items_of, text_at}, Steps.{Place, expires, Station, Step, peers_at, place_for, seat_at, seats_one}, Seats.{without}, declared.seats.Seat.{Seat}}
+use Rattle.fs_recorder.specs.{Books.{Booked}, Door.{AtDoor}, Deeds.{Deed, Does, Recording, asked_in, items_of, text_at}}
+use Rattle.fs_recorder.specs.Steps.{Place, expires, Station, Step, peers_at, place_for, seat_at, seats_one}
+use Rattle.fs_recorder.specs.{Seats.{without}, declared.seats.Seat.{Seat}}
 
 -- The session through a place is open, and stands at the place's point.
 pub record IsOpenAt (desk : Desked) (place : Place) : Type 0 where
@@ -97,7 +99,8 @@ BreaksSo limited step old turns turns' before now =
 abbrev pub BreaksQuietly : (limited : Type 0) → (Station → Step) → (old : Recording) → (before now : Option (List ℕ)) → Type 0
 BreaksQuietly limited step old before now = (turns : Option (List Turn)) → BreaksSo limited step old turns turns before now
 
-abbrev pub BreaksIn : (limited : Type 0) → Seat → (Place → Station → Step) → (old : Recording) → (turns turns' : Option (List Turn)) → (before now : Option (List ℕ)) → Type 0
+abbrev pub BreaksIn : (limited : Type 0) → Seat → (Place → Station → Step) → (old : Recording) → (turns turns' : Option (List Turn))
+    → (before now : Option (List ℕ)) → Type 0
 BreaksIn limited seat step old turns turns' before now =
     (station : Station) → Stands station old
     → (place : Place) → place_for seat.peer station.places ≡ Some place → seat_at place ≡ seat

@@ -4,7 +4,16 @@ ghost use Rattle.std.specs.{Prelude.{◌≡◌, ◌≤◌, ◌+◌, ℕ, Bool, t
 ghost use Rattle.fs_base.specs.{Config.{peer_of}, Gate.{FitsIn, taken, what_from}, Outside.{Rose}, Sink.{Grew, GrewPart}};
 ghost use Rattle.fs_tape.specs.{Magic.{magic_of}, Tape.{was_lost}, declared.magic.Version.TheVariants.{Two}};
 ghost use Rattle.fs_desk.specs.Desk.{expired_after, standing_at_desk};
-ghost use Rattle.fs_recorder.specs.{Books.{Agrees, Tells, TellsPart}, Deeds.{AreKnown, Does, IsKnown, StayKnown, answered, asked_in, behind_answer, is_closed, leaves, passing, says, stands_established}, Door.{empty_door, without_guest}, Steps.{admits, checks, checks_peer, comes, door_after, door_with, empty_station, ends, follows, gives, hears, hears_octets, hurries_where_new, is_established, peer_for, peers_in, receives, replaces, seats_one, speaks, sweeps, sweeps_all, takes, vacates, waits, wakes}, Tapes.{begun}, Works.{BreaksAt, BreaksIn, BreaksQuietly, BreaksSo, DidAt, DidHear, DidQuietly, DidSeat, DidSo, Left, Settled, Stands, WakesSo}};
+ghost use Rattle.fs_recorder.specs.Books.{Agrees, Tells, TellsPart};
+ghost use Rattle.fs_recorder.specs.Deeds.{AreKnown, Does, IsKnown, StayKnown, answered, asked_in, behind_answer, is_closed, leaves, passing, says};
+ghost use Rattle.fs_recorder.specs.Deeds.{stands_established};
+ghost use Rattle.fs_recorder.specs.Door.{empty_door, without_guest};
+ghost use Rattle.fs_recorder.specs.Steps.{admits, checks, checks_peer, comes, door_after, door_with, empty_station, ends, follows, gives, hears};
+ghost use Rattle.fs_recorder.specs.Steps.{hears_octets, hurries_where_new, is_established, peer_for, peers_in, receives, replaces, seats_one, speaks};
+ghost use Rattle.fs_recorder.specs.Steps.{sweeps, sweeps_all, takes, vacates, waits, wakes};
+ghost use Rattle.fs_recorder.specs.Tapes.{begun};
+ghost use Rattle.fs_recorder.specs.Works.{BreaksAt, BreaksIn, BreaksQuietly, BreaksSo, DidAt, DidHear, DidQuietly, DidSeat, DidSo, Left, Settled};
+ghost use Rattle.fs_recorder.specs.Works.{Stands, WakesSo};
 
 use crate::books::Books;
 use crate::door::{Door, Guest, has_time, said_as};

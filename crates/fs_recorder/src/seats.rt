@@ -2,7 +2,8 @@
 
 ghost use Rattle.std.specs.{Prelude.{◌≡◌, ◌++◌, ◌∷◌, [], OnOk, not, ◌&&◌, ◌==◌}, List.{list_any}, Option.{option_copied}};
 ghost use Rattle.fs_message.specs.Write.{as_field};
-ghost use Rattle.fs_recorder.specs.Seats.{are_told_apart, first_peer, free_by, free_peer, free_peer_of, is_free, is_same, is_seated, seat_for, seat_of, without};
+ghost use Rattle.fs_recorder.specs.Seats.{are_told_apart, first_peer, free_by, free_peer, free_peer_of, is_free, is_same, is_seated, seat_for};
+ghost use Rattle.fs_recorder.specs.Seats.{seat_of, without};
 
 use fs_base::{Address, Memory, Peer};
 use fs_message::as_in_two;

@@ -1,6 +1,13 @@
 -- A strictly rising list of the numbers that peers have is the list of them that the definition chooses among all numbers.
-use Rattle.fs_reports.proofs.Words.{◌≡◌, ℕ, zero, suc, ◌+◌, ◌<◌, ◌==◌, Bool, true, false, cond, not, List, [], ◌∷◌, ◌++◌, map, length, get_or, Some, is_some, All, Contains, filter, BTreeSet, nat_cmp, refl, sym, ap, ◌∙◌, arith, ⊎_elim, true≢false, eq-eqb, eqb-true, range_with_len, IsStrictlySortedBy-filter, Contains-permutation, IsPermutation-filter_both, sorted_from_strictly_increasing, numbers_below}
-use Rattle.std.{specs.{List.Sorted.{IsStrictlyIncreasing, IsStrictlySortedBy}, BTreeSet.{contains}}, proofs.lemmas.{Cmp.{nat_cmp_total}, List.{Elements.{All-contains, filter_passes, Contains-append_cases}, FromFn.{length-range_with_len, get_or-range_with_len}}, Map.{Lookups.{btree_set_from_contains, exact_unsigned}, Views.{btree_set_contains_iff}}}}
+use Rattle.fs_reports.proofs.Words.{◌≡◌, ℕ, zero, suc, ◌+◌, ◌<◌, ◌==◌, Bool, true, false, cond, not, List, [], ◌∷◌, ◌++◌, map, length, get_or, Some}
+use Rattle.fs_reports.proofs.Words.{is_some, All, Contains, filter, BTreeSet, nat_cmp, refl, sym, ap, ◌∙◌, arith, ⊎_elim, true≢false, eq-eqb}
+use Rattle.fs_reports.proofs.Words.{eqb-true, range_with_len, IsStrictlySortedBy-filter, Contains-permutation, IsPermutation-filter_both}
+use Rattle.fs_reports.proofs.Words.{sorted_from_strictly_increasing, numbers_below}
+use Rattle.std.specs.{List.Sorted.{IsStrictlyIncreasing, IsStrictlySortedBy}, BTreeSet.{contains}}
+use Rattle.std.proofs.lemmas.Cmp.{nat_cmp_total}
+use Rattle.std.proofs.lemmas.List.Elements.{All-contains, filter_passes, Contains-append_cases}
+use Rattle.std.proofs.lemmas.List.FromFn.{length-range_with_len, get_or-range_with_len}
+use Rattle.std.proofs.lemmas.Map.{Lookups.{btree_set_from_contains, exact_unsigned}, Views.{btree_set_contains_iff}}
 use Rattle.fs_base.{proofs.Bools.{same_tests}, specs.{Config.{peer_of}, declared.config.Peer.{Peer}}}
 
 abbrev pub number_of : Peer → ℕ
@@ -59,11 +66,14 @@ same_elements xs ys sorted ordered to from =
     exact_unsigned
 
 pub numbers_are : (xs : List ℕ) (bound : ℕ) (peers : List Peer) → IsStrictlySortedBy nat_cmp xs → All (λ n. n < bound) xs
-    → ((n : ℕ) → Contains xs n → Contains (map number_of peers) n) → ((n : ℕ) → Contains (map number_of peers) n → Contains xs n) → xs ≡ numbers_below bound peers
+    → ((n : ℕ) → Contains xs n → Contains (map number_of peers) n) → ((n : ℕ) → Contains (map number_of peers) n → Contains xs n)
+    → xs ≡ numbers_below bound peers
 unfolding numbers_below
 numbers_are xs bound peers sorted below to from =
     let test : ℕ → Bool = λ n. is_some (peer_of n peers) in
     same_elements xs (filter test (range_with_len 0 bound)) sorted
     (IsStrictlySortedBy-filter nat_cmp test (range_with_len 0 bound) (sorted_from_strictly_increasing (range_with_len 0 bound) (rising bound)))
-    (λ n c. let there = to n c in kept test (range_with_len 0 bound) n (in_range bound n (All-contains (λ m. m < bound) xs n below c)) (has_peer n peers there.0 there.1 there.2))
-    (λ n c. from n (is_among n peers (All-contains (λ m. test m ≡ true) (filter test (range_with_len 0 bound)) n (filter_passes test (range_with_len 0 bound)) c)))
+    (λ n c. let there = to n c in kept test (range_with_len 0 bound) n (in_range bound n (All-contains (λ m. m < bound) xs n below c))
+    (has_peer n peers there.0 there.1 there.2))
+    (λ n c. from n (is_among n peers
+    (All-contains (λ m. test m ≡ true) (filter test (range_with_len 0 bound)) n (filter_passes test (range_with_len 0 bound)) c)))

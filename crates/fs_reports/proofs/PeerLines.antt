@@ -1,5 +1,6 @@
 -- The lines of peers, by the sessions that a desk keeps and by those of the tape's octets.
-use Rattle.fs_reports.proofs.Words.{◌≡◌, ℕ, List, [], ◌∷◌, ◌++◌, refl, ap, ◌∙◌, Desked, Played, standing_of, standing_at_desk, listing_of, listing, desk_text, peer_line, peers_text, numbers_of, family_text}
+use Rattle.fs_reports.proofs.Words.{◌≡◌, ℕ, List, [], ◌∷◌, ◌++◌, refl, ap, ◌∙◌, Desked, Played, standing_of, standing_at_desk, listing_of, listing}
+use Rattle.fs_reports.proofs.Words.{desk_text, peer_line, peers_text, numbers_of, family_text}
 use Rattle.fs_base.specs.declared.{config.Config.{Config}, prefix.Family.TheVariants.{V4, V6}}
 use Rattle.fs_speaker.specs.declared.Standing.{Standing}
 use Rattle.fs_tape.specs.Tape.{Item}

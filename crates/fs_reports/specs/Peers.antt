@@ -1,7 +1,9 @@
 -- The lines of peers.
 use Rattle.std.specs.{Prelude.{ℕ, List, ◌++◌, filter, flat_map, is_some, codes, decimal}, List.{range_with_len}}
 use Rattle.fs_base.specs.{Config.{peer_of}, declared.config.Peer.{Peer}}
-use Rattle.fs_speaker.specs.declared.{State.{State, TheVariants.{WaitOpen, WaitKeep, Established, Closed as IsClosed}}, Closed.TheVariants.{Fault, Notified, NoFamily, Memory}, Standing.{Standing, TheVariants.{Down, Live, Ended}}}
+use Rattle.fs_speaker.specs.declared.State.{State, TheVariants.{WaitOpen, WaitKeep, Established, Closed as IsClosed}}
+use Rattle.fs_speaker.specs.declared.Closed.TheVariants.{Fault, Notified, NoFamily, Memory}
+use Rattle.fs_speaker.specs.declared.Standing.{Standing, TheVariants.{Down, Live, Ended}}
 use Rattle.fs_desk.specs.Desk.{Desked, standing_at_desk}
 
 -- the state of an open session (RFC 4271 section 8.2.2); an open one is never closed

@@ -2,7 +2,8 @@
 use Rattle.std.specs.Prelude.{◌≡◌, ℕ, ◌+◌, List, [], ◌∷◌, ◌++◌, length, Bool, true, false, Result, Ok, Err, codes, decimal}
 use Rattle.hex.specs.Hex.{encode_lower, decode_of}
 use Rattle.fs_base.specs.declared.prefix.Family.{Family}
-use Rattle.fs_nlri.specs.{declared.fault.Reason.{Reason, TheVariants.{Cut, NoType, Order, PrefixLength, Offset, Width, Length}}, Parts.{Ruled}, Rule.{canonical_frame}, Fault.{IsFrameBad}, Feed.{Frames}}
+use Rattle.fs_nlri.specs.declared.fault.Reason.{Reason, TheVariants.{Cut, NoType, Order, PrefixLength, Offset, Width, Length}}
+use Rattle.fs_nlri.specs.{Parts.{Ruled}, Rule.{canonical_frame}, Fault.{IsFrameBad}, Feed.{Frames}}
 
 abbrev pub reason_name : Reason → List ℕ
 reason_name Cut = codes "Cut"

@@ -2,7 +2,9 @@
 use Rattle.std.specs.Prelude.{◌≡◌, ℕ, List, [], ◌++◌, Bool, true, false, codes, decimal}
 use Rattle.hex.specs.Hex.{encode_lower}
 use Rattle.fs_nlri.specs.{Parts.{Ruled}, Rule.{IsRule, canonical_frame}}
-use Rattle.fs_text.specs.{Printed.{text_of}, declared.fault.TextFault.{TextFault, TheVariants.{Bad, TooLong, Memory as NoMemory}}, Text.{AreActions, IsTextFault}}
+use Rattle.fs_text.specs.Printed.{text_of}
+use Rattle.fs_text.specs.declared.fault.TextFault.{TextFault, TheVariants.{Bad, TooLong, Memory as NoMemory}}
+use Rattle.fs_text.specs.Text.{AreActions, IsTextFault}
 use Rattle.fs_reports.specs.Rules.{tail_text}
 
 -- the canonical octets of the rule, and its actions

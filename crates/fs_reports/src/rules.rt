@@ -4,7 +4,8 @@ ghost use Rattle.std.specs.Prelude.{◌≡◌, ◌+◌, ◌++◌, map, option_ma
 ghost use Rattle.hex.specs.Hex.{encode_lower};
 ghost use Rattle.fs_nlri.specs.Rule.{canonical_frame};
 ghost use Rattle.fs_rules.specs.Lent.{shown_held, shown_lent};
-ghost use Rattle.fs_reports.specs.Rules.{actions_text, admitted_line, admitted_lines, family_text, head_text, invalid_line, invalid_lines, invalid_text, number_text, reason_of, tail_text};
+ghost use Rattle.fs_reports.specs.Rules.{actions_text, admitted_line, admitted_lines, family_text, head_text, invalid_line, invalid_lines};
+ghost use Rattle.fs_reports.specs.Rules.{invalid_text, number_text, reason_of, tail_text};
 
 use fs_actions::Actions;
 use fs_base::{Family, Memory};

@@ -1,5 +1,7 @@
 -- Entries that are kept in the order of their keys, as an ordered map has them.
-use Rattle.fs_rules.proofs.Words.{◌≡◌, List, [], ◌∷◌, Bool, true, false, cond, Option, Some, if◌then◌else◌, refl, ap, sym, ◌∙◌, true≢false, match_ordering, ordering_reverse, IsTotalOrder, alike_right, AllByRecursion, IsStrictlySortedBy, lookup, remove_entry, keys_of, insert_entry, is_at, equal_of_is_eq}
+use Rattle.fs_rules.proofs.Words.{◌≡◌, List, [], ◌∷◌, Bool, true, false, cond, Option, Some, if◌then◌else◌, refl, ap, sym, ◌∙◌, true≢false}
+use Rattle.fs_rules.proofs.Words.{match_ordering, ordering_reverse, IsTotalOrder, alike_right, AllByRecursion, IsStrictlySortedBy, lookup}
+use Rattle.fs_rules.proofs.Words.{remove_entry, keys_of, insert_entry, is_at, equal_of_is_eq}
 use Rattle.std.specs.{declared.cmp.Ordering.{Ordering, TheVariants.{Less, Equal, Greater}}, Ordering.{is_eq}}
 
 module _ {K : Type 0} (R : K → K → Ordering) (o : IsTotalOrder R) where
@@ -20,7 +22,8 @@ module _ {K X : Type 0} (R : K → K → Ordering) (o : IsTotalOrder R) where
   swapped true false v w rest h = refl
   swapped false c v w rest h = refl
 
-  pub lookup-insert_entry : (q k : K) (v : X) (es : List (K × X)) → lookup (is_at (R q)) (insert_entry R es k v) ≡ (if is_eq (R q k) then Some v else lookup (is_at (R q)) es)
+  pub lookup-insert_entry : (q k : K) (v : X) (es : List (K × X))
+      → lookup (is_at (R q)) (insert_entry R es k v) ≡ (if is_eq (R q k) then Some v else lookup (is_at (R q)) es)
   lookup-insert_entry q k v [] = refl
   lookup-insert_entry q k v (e ∷ es) = by (R k e.0) refl (lookup-insert_entry q k v es)
     where
@@ -41,7 +44,8 @@ module _ {K X : Type 0} (R : K → K → Ordering) (o : IsTotalOrder R) where
   above_less k q [] h a = tt
   above_less k q (e ∷ es) h a = (IsTotalOrder.trans o k q e.0 h a.0, above_less k q es h a.1)
 
-  above_insert : (p k : K) (v : X) (es : List (K × X)) → R p k ≡ Less → AllByRecursion (λ q. R p q ≡ Less) (keys_of es) → AllByRecursion (λ q. R p q ≡ Less) (keys_of (insert_entry R es k v))
+  above_insert : (p k : K) (v : X) (es : List (K × X)) → R p k ≡ Less → AllByRecursion (λ q. R p q ≡ Less) (keys_of es)
+      → AllByRecursion (λ q. R p q ≡ Less) (keys_of (insert_entry R es k v))
   above_insert p k v [] h a = (h, tt)
   above_insert p k v (e ∷ es) h a = by (R k e.0) (above_insert p k v es h a.1)
     where
@@ -62,11 +66,13 @@ module _ {K X : Type 0} (R : K → K → Ordering) (o : IsTotalOrder R) where
       by Equal h later = s
       by Greater h later = (above_insert e.0 k v es (less_back R o k e.0 h) s.0, later)
 
-  above_remove : (test : K → Bool) (p : K) (es : List (K × X)) → AllByRecursion (λ q. R p q ≡ Less) (keys_of es) → AllByRecursion (λ q. R p q ≡ Less) (keys_of (remove_entry test es))
+  above_remove : (test : K → Bool) (p : K) (es : List (K × X)) → AllByRecursion (λ q. R p q ≡ Less) (keys_of es)
+      → AllByRecursion (λ q. R p q ≡ Less) (keys_of (remove_entry test es))
   above_remove test p [] a = tt
   above_remove test p (e ∷ es) a = by (test e.0) (above_remove test p es a.1)
     where
-      by : (b : Bool) → AllByRecursion (λ q. R p q ≡ Less) (keys_of (remove_entry test es)) → AllByRecursion (λ q. R p q ≡ Less) (keys_of (cond b es (e ∷ remove_entry test es)))
+      by : (b : Bool) → AllByRecursion (λ q. R p q ≡ Less) (keys_of (remove_entry test es))
+          → AllByRecursion (λ q. R p q ≡ Less) (keys_of (cond b es (e ∷ remove_entry test es)))
       by true later = a.1
       by false later = (a.0, later)
 

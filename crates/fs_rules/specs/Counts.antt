@@ -1,5 +1,6 @@
 -- The counts of the routes that each peer holds, and the prefixes at which it gave unicast routes.
-use Rattle.std.specs.{Prelude.{◌≡◌, ℕ, ◌+◌, ◌<◌, ◌^◌, ◌==◌, Bool, true, false, Option, Some, None, List}, BTreeMap.{is_at}, List.{AllByRecursion, Sorted.{IsStrictlySortedBy}}, Map.{keys_of, lookup}, Ordering.{nat_cmp}}
+use Rattle.std.specs.Prelude.{◌≡◌, ℕ, ◌+◌, ◌<◌, ◌^◌, ◌==◌, Bool, true, false, Option, Some, None, List}
+use Rattle.std.specs.{BTreeMap.{is_at}, List.{AllByRecursion, Sorted.{IsStrictlySortedBy}}, Map.{keys_of, lookup}, Ordering.{nat_cmp}}
 use Rattle.fs_base.specs.declared.{config.Config.{Config}, prefix.Prefix.{Prefix}}
 use Rattle.fs_unicast.specs.Unicast.{Route, place_cmp}
 use Rattle.fs_flows.specs.{Kept.{Kept}, Group.{Keeps, routes_of}, Listed.{Prefixes, has, is_among}, Table.{count_in}}

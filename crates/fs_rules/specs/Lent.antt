@@ -1,5 +1,6 @@
 -- What the table lends of its routes.
-use Rattle.std.specs.{Prelude.{ℕ, ◌≡◌, List, [], ◌∷◌, ◌++◌, map, filter}, List.{AllByRecursion}, Ordering.{nat_cmp, ordering_then}, declared.cmp.Ordering.{Ordering, TheVariants.{Less}}}
+use Rattle.std.specs.{Prelude.{ℕ, ◌≡◌, List, [], ◌∷◌, ◌++◌, map, filter}, List.{AllByRecursion}, Ordering.{nat_cmp, ordering_then}}
+use Rattle.std.specs.declared.cmp.Ordering.{Ordering, TheVariants.{Less}}
 use Rattle.fs_base.specs.declared.prefix.Family.{Family}
 use Rattle.fs_nlri.specs.Parts.{Ruled}
 use Rattle.fs_order.specs.Comparison.{rule_cmp}

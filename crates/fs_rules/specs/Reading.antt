@@ -2,7 +2,8 @@
 use Rattle.std.specs.{Prelude.{◌≡◌, ◌<◌, ◌^◌, ℕ, Option, map, filter, length, option_map, slice_get, List, [], ◌∷◌, ◌++◌}, List.{AllByRecursion}}
 use Rattle.fs_base.specs.declared.prefix.{Family.{Family}, Prefix.{Prefix}}
 use Rattle.fs_validate.specs.declared.route.FlowRoute.{FlowRoute}
-use Rattle.fs_flows.specs.{Kept.{Kept}, Changes.{is_to}, Group.{AreSorted, chosen, routes_of}, Groups.{Entry, HasSortedGroups, kept_in}, Table.{Held, IsAdmitted, IsRuleOf, admitted}, Lending.{chosen_in, group_at}}
+use Rattle.fs_flows.specs.{Kept.{Kept}, Changes.{is_to}, Group.{AreSorted, chosen, routes_of}, Groups.{Entry, HasSortedGroups, kept_in}}
+use Rattle.fs_flows.specs.{Table.{Held, IsAdmitted, IsRuleOf, admitted}, Lending.{chosen_in, group_at}}
 use Rattle.fs_rules.specs.{Lists.{listing, judgement, judgements}, Lent.{AreRising, Judged, Listed, held_flows}}
 
 abbrev pub shown_in : {T : Type 0} → (FlowRoute → T) → Family → List Entry → List Kept → List T

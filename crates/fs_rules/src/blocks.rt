@@ -2,7 +2,9 @@
 
 ghost use Rattle.std.specs.Prelude.{◌≡◌, ◌<◌, ◌+◌, ◌^◌, OnOk, length, option_map, slice_get, nat_le, find};
 ghost use Rattle.fs_flows.specs.{Blocks.{flat, AreCut}, Group.{chosen, AreSorted, routes_of}};
-ghost use Rattle.fs_rules.specs.{Lent.{shown_admitted, shown_held, Adds}, Lists.{judgement, routes_chosen, judgements, nth_listing, shown_chosen}, Walk.{matching_from}};
+ghost use Rattle.fs_rules.specs.Lent.{shown_admitted, shown_held, Adds};
+ghost use Rattle.fs_rules.specs.Lists.{judgement, routes_chosen, judgements, nth_listing, shown_chosen};
+ghost use Rattle.fs_rules.specs.Walk.{matching_from};
 
 use crate::lent::{Admitted, HeldFlow, OfKept};
 use crate::lists;

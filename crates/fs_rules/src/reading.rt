@@ -2,7 +2,9 @@
 
 ghost use Rattle.std.specs.Prelude.{◌≡◌, ◌+◌, ◌<◌, ◌^◌, OnOk, length, option_map};
 ghost use Rattle.fs_flows.specs.{Group.{AreSorted, routes_of}, Groups.{HasSortedGroups}, Lending.{group_at, chosen_in}};
-ghost use Rattle.fs_rules.specs.{Lent.{shown_admitted, shown_held, Adds}, Lists.{shown_chosen}, Reading.{shown_in, judgements_in, nth_listing_in, nth_judgement_in}, Walk.{next_match}};
+ghost use Rattle.fs_rules.specs.{Lent.{shown_admitted, shown_held, Adds}, Lists.{shown_chosen}};
+ghost use Rattle.fs_rules.specs.Reading.{shown_in, judgements_in, nth_listing_in, nth_judgement_in};
+ghost use Rattle.fs_rules.specs.Walk.{next_match};
 
 use crate::blocks;
 use crate::lent::{Admitted, HeldFlow, OfKept};

@@ -1,11 +1,15 @@
 //! The table.
 
-ghost use Rattle.std.specs.{Prelude.{◌≡◌, ◌≤◌, ◌+◌, ◌↔◌, false, [], IfOk, OnOk, OnErr, option_map, length, map, filter, slice_get, true, Bool}, List.{AllByRecursion, Sorted.{IsStrictlySortedBy}}, Map.{keys_of}};
+ghost use Rattle.std.specs.Prelude.{◌≡◌, ◌≤◌, ◌+◌, ◌↔◌, false, [], IfOk, OnOk, OnErr, option_map, length, map, filter, slice_get, true, Bool};
+ghost use Rattle.std.specs.{List.{AllByRecursion, Sorted.{IsStrictlySortedBy}}, Map.{keys_of}};
 ghost use Rattle.fs_unicast.specs.{Unicast.{place_cmp, has_path}, Search.{held_by}};
-ghost use Rattle.fs_flows.specs.{Table.{without_route, has_route, without_peer_unicast, without_peer_flows, related_count, related_sum, admitted, IsAdmitted, IsRuleOf, with_flow, with_path, without_path, without_peer, held_count, Held}, Changes.{AdmitsElsewhere, Covers, is_to}};
+ghost use Rattle.fs_flows.specs.Table.{without_route, has_route, without_peer_unicast, without_peer_flows, related_count, related_sum, admitted};
+ghost use Rattle.fs_flows.specs.Table.{IsAdmitted, IsRuleOf, with_flow, with_path, without_path, without_peer, held_count, Held};
+ghost use Rattle.fs_flows.specs.Changes.{AdmitsElsewhere, Covers, is_to};
 ghost use Rattle.fs_base.specs.declared.prefix.Family.{Family};
 ghost use Rattle.fs_nlri.specs.Parts.{Ruled};
-ghost use Rattle.fs_rules.specs.{Lent.{listed, shown_admitted, shown_held, shown_lent, held_flows, AreRising}, Quiet.{StayThroughout, ValiditiesStay}, Reading.{AreTold}, Walk.{next_match}, Counts.{AreAmong}};
+ghost use Rattle.fs_rules.specs.Lent.{listed, shown_admitted, shown_held, shown_lent, held_flows, AreRising};
+ghost use Rattle.fs_rules.specs.{Quiet.{StayThroughout, ValiditiesStay}, Reading.{AreTold}, Walk.{next_match}, Counts.{AreAmong}};
 
 use crate::counts::Counts;
 use crate::latest::Latest;

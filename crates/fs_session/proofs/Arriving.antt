@@ -1,5 +1,11 @@
 -- What an announcing end says, at the receiving end.
-use Rattle.fs_session.proofs.{Words.{◌≡◌, ◌≢◌, ℕ, ◌+◌, ◌^◌, ◌<◌, ◌≤◌, true, nat_le, List, [], ◌∷◌, ◌++◌, length, min, Option, Some, None, Result, Ok, refl, sym, ap, ◌∙◌, arith, append-nil, map, length-append, flat_map, AllByRecursion, nat_tests, Config, Peer, MessageFault, Open, Message, Update, UpdateFault, update_of, attribute_text, long_text, written_attributes, big_bytes, WaitKeep, Established, Sent, Sending, ComesBack, said_by, step_by, body_by, update_by, update_sent, text_sent, Last, at_start, still, with_update, session_by, session_from, receiver, as_update, Machine, Phase, phase, opened, updates, transition_by, terms_of}, SessionSteps.{machine_takes, machine_waits, step_found}}
+use Rattle.fs_session.proofs.Words.{◌≡◌, ◌≢◌, ℕ, ◌+◌, ◌^◌, ◌<◌, ◌≤◌, true, nat_le, List, [], ◌∷◌, ◌++◌, length, min, Option, Some, None, Result, Ok}
+use Rattle.fs_session.proofs.Words.{refl, sym, ap, ◌∙◌, arith, append-nil, map, length-append, flat_map, AllByRecursion, nat_tests, Config, Peer}
+use Rattle.fs_session.proofs.Words.{MessageFault, Open, Message, Update, UpdateFault, update_of, attribute_text, long_text, written_attributes}
+use Rattle.fs_session.proofs.Words.{big_bytes, WaitKeep, Established, Sent, Sending, ComesBack, said_by, step_by, body_by, update_by, update_sent}
+use Rattle.fs_session.proofs.Words.{text_sent, Last, at_start, still, with_update, session_by, session_from, receiver, as_update, Machine, Phase}
+use Rattle.fs_session.proofs.Words.{phase, opened, updates, transition_by, terms_of}
+use Rattle.fs_session.proofs.SessionSteps.{machine_takes, machine_waits, step_found}
 use Rattle.fs_message.{specs.{Header.{allows}, Write.{message_text, open_body}}, proofs.{TextFirst.{text_first}, OpenReadBack.{open_read}}}
 
 -- a message of a text is taken, and the session goes on behind it

@@ -1,5 +1,9 @@
 -- The update of a rule can be written, and with AS numbers of two octets it is no longer than with four.
-use Rattle.fs_session.proofs.Words.{◌≡◌, ℕ, ◌+◌, ◌≤◌, ◌==◌, Bool, true, false, ◌&&◌, nat_le, nat_lt, List, [], ◌∷◌, ◌++◌, length, Result, refl, subst, arith, if◌then◌else◌, length-append, IsTrue, bit_or, flat_map, list_all, nat_tests, leb-true, big_bytes, Config, Peer, Terms, Update, as_text, segments_text, segment, attribute_text, long_text, flags_of, Writes, update_text, written_attributes, local_pref_in, actions_in, reach_text, Sent, Sending, segments_sent, update_by, body_by, is_short, is_sending, terms_of}
+use Rattle.fs_session.proofs.Words.{◌≡◌, ℕ, ◌+◌, ◌≤◌, ◌==◌, Bool, true, false, ◌&&◌, nat_le, nat_lt, List, [], ◌∷◌, ◌++◌, length, Result, refl, subst}
+use Rattle.fs_session.proofs.Words.{arith, if◌then◌else◌, length-append, IsTrue, bit_or, flat_map, list_all, nat_tests, leb-true, big_bytes, Config}
+use Rattle.fs_session.proofs.Words.{Peer, Terms, Update, as_text, segments_text, segment, attribute_text, long_text, flags_of, Writes, update_text}
+use Rattle.fs_session.proofs.Words.{written_attributes, local_pref_in, actions_in, reach_text, Sent, Sending, segments_sent, update_by, body_by}
+use Rattle.fs_session.proofs.Words.{is_short, is_sending, terms_of}
 use Rattle.fs_base.proofs.Bools.{and_both, and_parts}
 use Rattle.fs_attrs.specs.{declared.update.{WriteFault.{WriteFault}, Routes.TheVariants.{Flow}}, Attributes.{attribute}}
 
@@ -19,11 +23,13 @@ one_segment four numbers = omega (arith, length-append (2 ∷ length numbers ∷
 segments_shorter : (numbers : List ℕ) → length (segments_text false (segments_sent numbers)) ≤ length (segments_text true (segments_sent numbers))
 segments_shorter numbers = at (length numbers == 0)
   where
-    at : (none : Bool) → length (segments_text false (if none then [] else segment 2 numbers ∷ [])) ≤ length (segments_text true (if none then [] else segment 2 numbers ∷ []))
+    at : (none : Bool) → length (segments_text false (if none then [] else segment 2 numbers ∷ []))
+        ≤ length (segments_text true (if none then [] else segment 2 numbers ∷ []))
     at true = omega arith
     at false = omega (arith, numbers_shorter numbers, one_segment false numbers, one_segment true numbers)
 
-attribute_long : (kind : ℕ) (value : List ℕ) → length (attribute_text (attribute kind value)) ≡ (if nat_lt 255 (length value) then 4 + length value else 3 + length value)
+attribute_long : (kind : ℕ) (value : List ℕ)
+    → length (attribute_text (attribute kind value)) ≡ (if nat_lt 255 (length value) then 4 + length value else 3 + length value)
 attribute_long kind value = at (nat_lt 255 (length value))
   where
     at : (wide : Bool) → length (if wide then bit_or (flags_of kind) 16 ∷ kind ∷ long_text value else flags_of kind ∷ kind ∷ length value ∷ value)
@@ -40,7 +46,8 @@ grows m n h = at (nat_lt 255 m) (nat_lt 255 n) refl refl
     at false true p q = omega (arith, h)
     at false false p q = omega (arith, h)
 
-attribute_shorter : (kind : ℕ) (one other : List ℕ) → length one ≤ length other → length (attribute_text (attribute kind one)) ≤ length (attribute_text (attribute kind other))
+attribute_shorter : (kind : ℕ) (one other : List ℕ) → length one ≤ length other
+    → length (attribute_text (attribute kind one)) ≤ length (attribute_text (attribute kind other))
 attribute_shorter kind one other h =
     let at = grows (length one) (length other) h in
     omega (arith, attribute_long kind one, attribute_long kind other, at)
@@ -50,7 +57,8 @@ around : (front one other behind : List ℕ) → length one ≤ length other →
 around front one other behind h =
     omega (arith, h, length-append front (one ++ behind), length-append front (other ++ behind), length-append one behind, length-append other behind)
 
-long_shorter : (one other : List ℕ) → length one ≤ length other → length (long_text [] ++ (long_text one ++ [])) ≤ length (long_text [] ++ (long_text other ++ []))
+long_shorter : (one other : List ℕ) → length one ≤ length other
+    → length (long_text [] ++ (long_text one ++ [])) ≤ length (long_text [] ++ (long_text other ++ []))
 long_shorter one other h =
     omega (
       arith,
@@ -73,8 +81,10 @@ body_shorter config peer numbers sent =
     let reach : List ℕ = attribute_text (attribute 14 (reach_text peer.address (Flow sent.rule.family (sent.rule ∷ [])))) in
     let origin : List ℕ = attribute_text (attribute 1 (0 ∷ [])) in
     let behind : List ℕ = flat_map attribute_text (local_pref_in (terms true) 100 ++ ([] ++ actions_in sent.actions)) in
-    let shorter : length (path_text false) ≤ length (path_text true) = attribute_shorter 2 (segments_text false (segments_sent numbers)) (segments_text true (segments_sent numbers)) (segments_shorter numbers) in
-    let inner : length (origin ++ (path_text false ++ behind)) ≤ length (origin ++ (path_text true ++ behind)) = around origin (path_text false) (path_text true) behind shorter in
+    let shorter : length (path_text false) ≤ length (path_text true) =
+    attribute_shorter 2 (segments_text false (segments_sent numbers)) (segments_text true (segments_sent numbers)) (segments_shorter numbers) in
+    let inner : length (origin ++ (path_text false ++ behind)) ≤ length (origin ++ (path_text true ++ behind)) =
+    around origin (path_text false) (path_text true) behind shorter in
     let outer : length (reach ++ (origin ++ (path_text false ++ behind))) ≤ length (reach ++ (origin ++ (path_text true ++ behind))) =
     omega (arith, inner, length-append reach (origin ++ (path_text false ++ behind)), length-append reach (origin ++ (path_text true ++ behind))) in
     long_shorter (flat_map attribute_text (written_attributes (terms false) update)) (flat_map attribute_text (written_attributes (terms true) update)) outer
@@ -82,14 +92,16 @@ body_shorter config peer numbers sent =
 below : (m n k : ℕ) → m ≤ n → nat_le (19 + n) k ≡ true → nat_le (19 + m) k ≡ true
 below m n k less h = grind (arith, nat_tests)
 
-short_by : (config : Config) (peer : Peer) (numbers : List ℕ) (four : Bool) (rules : List Sent) → list_all (is_short (terms_of config peer true) numbers) rules ≡ true
+short_by : (config : Config) (peer : Peer) (numbers : List ℕ) (four : Bool) (rules : List Sent)
+    → list_all (is_short (terms_of config peer true) numbers) rules ≡ true
     → list_all (is_short (terms_of config peer four) numbers) rules ≡ true
 short_by config peer numbers true rules h = h
 short_by config peer numbers false [] h = refl
 short_by config peer numbers false (sent ∷ rules) h =
     let t = and_parts (is_short (terms_of config peer true) numbers sent) (list_all (is_short (terms_of config peer true) numbers) rules) h in
     and_both (is_short (terms_of config peer false) numbers sent) (list_all (is_short (terms_of config peer false) numbers) rules)
-    (below (length (body_by (terms_of config peer false) numbers sent)) (length (body_by (terms_of config peer true) numbers sent)) 4096 (body_shorter config peer numbers sent) t.0)
+    (below (length (body_by (terms_of config peer false) numbers sent)) (length (body_by (terms_of config peer true) numbers sent)) 4096
+    (body_shorter config peer numbers sent) t.0)
     (short_by config peer numbers false rules t.1)
 
 -- each rule's UPDATE fits, however many octets an AS number has

@@ -1,4 +1,8 @@
-use Rattle.fs_session.proofs.Words.{◌≡◌, ◌⊎◌, inl, inr, ℕ, List, [], ◌∷◌, ◌++◌, Option, Some, None, Result, Ok, Err, refl, ap, sym, ◌∙◌, subst, parts_of, parts_end, parts_step, MessageFault, Message, first_message, wrong_at, message_shrinks, message_stable, fault_stays, Update, Closed, Times, at_moment, taken_in, Machine, Phase, faulted, transition_by, Step, waits, takes, stops, step_at, rest_step, step_by, Handed, Point, point, handed, shuts, rests, with_taken, runs, runs_by, hand}
+use Rattle.fs_session.proofs.Words.{◌≡◌, ◌⊎◌, inl, inr, ℕ, List, [], ◌∷◌, ◌++◌, Option, Some, None, Result, Ok, Err, refl, ap, sym, ◌∙◌, subst}
+use Rattle.fs_session.proofs.Words.{parts_of, parts_end, parts_step, MessageFault, Message, first_message, wrong_at, message_shrinks, message_stable}
+use Rattle.fs_session.proofs.Words.{fault_stays, Update, Closed, Times, at_moment, taken_in, Machine, Phase, faulted, transition_by, Step, waits}
+use Rattle.fs_session.proofs.Words.{takes, stops, step_at, rest_step, step_by, Handed, Point, point, handed, shuts, rests, with_taken, runs, runs_by}
+use Rattle.fs_session.proofs.Words.{hand}
 
 -- One step, and all that an end comes to: what a call does with the octets in hand is what comes first of them all.
 
@@ -42,7 +46,11 @@ unfolding runs
 runs_step machine now times message messages waiting wrong = at (transition_by machine now message)
   where
     at : (made : Transition)
-        → elim made [ Err why ↦ shuts machine now times why | Ok next ↦ with_taken (machine.answer now.state) next.1 (runs machine next.0 (taken_in now.state times) messages waiting wrong) ]
+        → elim made [
+          | Err why ↦ shuts machine now times why
+          | Ok next ↦ with_taken (machine.answer now.state) next.1
+              (runs machine next.0 (taken_in now.state times) messages waiting wrong)
+        ]
         ≡ ran machine now times made (λ next. runs machine next (taken_in now.state times) messages waiting wrong)
     at (Ok next) = refl
     at (Err why) = refl
@@ -58,20 +66,25 @@ pub runs_each : (machine : Machine) (waiting : List ℕ) (wrong : Option Message
     → ((now : Phase) (times : Times) → P now [] (rests machine now times waiting wrong))
     → ((now : Phase) (times : Times) (message : Message) (messages : List Message) (why : Closed) → transition_by machine now message ≡ Err why
     → P now (message ∷ messages) (shuts machine now times why))
-    → ((now next : Phase) (update : Option Update) (message : Message) (messages : List Message) (later : Handed) → transition_by machine now message ≡ Ok (next, update)
+    → ((now next : Phase) (update : Option Update) (message : Message) (messages : List Message) (later : Handed)
+    → transition_by machine now message ≡ Ok (next, update)
     → P next messages later → P now (message ∷ messages) (with_taken (machine.answer now.state) update later))
     → (messages : List Message) (now : Phase) (times : Times) → P now messages (runs machine now times messages waiting wrong)
 runs_each machine waiting wrong P none shut more [] now times = subst (P now []) (sym (runs_none machine now times waiting wrong)) (none now times)
 runs_each machine waiting wrong P none shut more (message ∷ messages) now times =
-    subst (P now (message ∷ messages)) (sym (runs_step machine now times message messages waiting wrong)) (by (λ next. runs_each machine waiting wrong P none shut more messages next (taken_in now.state times)) (transition_by machine now message) refl)
+    subst (P now (message ∷ messages)) (sym (runs_step machine now times message messages waiting wrong))
+    (by (λ next. runs_each machine waiting wrong P none shut more messages next (taken_in now.state times))
+    (transition_by machine now message) refl)
   where
-    by : ((next : Phase) → P next messages (runs machine next (taken_in now.state times) messages waiting wrong)) → (made : Transition) → transition_by machine now message ≡ made
+    by : ((next : Phase) → P next messages (runs machine next (taken_in now.state times) messages waiting wrong)) → (made : Transition)
+        → transition_by machine now message ≡ made
         → P now (message ∷ messages) (ran machine now times made (λ next. runs machine next (taken_in now.state times) messages waiting wrong))
     by rest (Ok next) t = more now next.0 next.1 message messages (runs machine next.0 (taken_in now.state times) messages waiting wrong) t (rest next.0)
     by rest (Err why) t = shut now times message messages why t
 
 runs_first : (machine : Machine) (now : Phase) (times : Times) (octets : List ℕ) (found : Message × List ℕ) → first_message octets ≡ Some found
-    → runs_by machine now times octets ≡ ran machine now times (transition_by machine now found.0) (λ next. runs_by machine next (taken_in now.state times) found.1)
+    → runs_by machine now times octets
+    ≡ ran machine now times (transition_by machine now found.0) (λ next. runs_by machine next (taken_in now.state times) found.1)
 runs_first machine now times octets found h =
     ap (λ (parts : List Message × List ℕ). runs machine now times parts.0 parts.1 (wrong_at parts.1)) (parts_step first_message message_shrinks octets found h)
     ∙ runs_step machine now times found.0 (parts_of first_message found.1).0 (parts_of first_message found.1).1 (wrong_at (parts_of first_message found.1).1)
@@ -86,7 +99,8 @@ runs_rest machine now times octets h =
 pub runs_begun : (machine : Machine) (now : Phase) (times : Times) (octets : List ℕ) (P : Handed → Type 0) → P (handed (point octets now times None) [] [])
     → ((why : Closed) → P (shuts machine now times why))
     → ((message : Message) (behind : List ℕ) (next : Phase) (update : Option Update) → first_message octets ≡ Some (message, behind)
-    → transition_by machine now message ≡ Ok (next, update) → P (with_taken (machine.answer now.state) update (runs_by machine next (taken_in now.state times) behind)))
+    → transition_by machine now message ≡ Ok (next, update)
+    → P (with_taken (machine.answer now.state) update (runs_by machine next (taken_in now.state times) behind)))
     → P (runs_by machine now times octets)
 runs_begun machine now times octets P still shut more = by (first_message octets) refl
   where
@@ -106,7 +120,8 @@ runs_begun machine now times octets P still shut more = by (first_message octets
 -- A message is taken at the front: it is answered, and then what stands behind it is run.
 pub runs_takes : (machine : Machine) (now next : Phase) (times : Times) (update : Option Update) (octets behind more : List ℕ)
     → step_by machine now octets ≡ takes next update behind
-    → runs_by machine now times (octets ++ more) ≡ with_taken (machine.answer now.state) update (runs_by machine next (taken_in now.state times) (behind ++ more))
+    → runs_by machine now times (octets ++ more)
+    ≡ with_taken (machine.answer now.state) update (runs_by machine next (taken_in now.state times) (behind ++ more))
 runs_takes machine now next times update octets behind more h =
     let s : Shows machine now octets (takes next update behind) = subst (λ (step : Step). Shows machine now octets step) h (told machine now octets) in
     runs_first machine now times (octets ++ more) (s.0, behind ++ more) (message_stable octets more (s.0, behind) s.1)
@@ -153,5 +168,6 @@ pub open_hand : (machine : Machine) (moment : ℕ) (now : Point) (piece : List �
     → hand machine moment now piece ≡ runs_by machine now.phase (at_moment moment now.times) (now.waiting ++ piece)
 open_hand machine moment now piece e = ap (hand_by machine moment now piece) e
 
-pub closed_hand : (machine : Machine) (moment : ℕ) (now : Point) (piece : List ℕ) (why : Closed) → now.closed ≡ Some why → hand machine moment now piece ≡ handed now [] []
+pub closed_hand : (machine : Machine) (moment : ℕ) (now : Point) (piece : List ℕ) (why : Closed) → now.closed ≡ Some why
+    → hand machine moment now piece ≡ handed now [] []
 closed_hand machine moment now piece why e = ap (hand_by machine moment now piece) e

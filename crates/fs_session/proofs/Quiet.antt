@@ -1,5 +1,8 @@
 -- The announcing end takes no update of any message.
-use Rattle.fs_session.proofs.{Words.{◌≡◌, ◌⊎◌, inl, inr, ℕ, List, ◌++◌, Option, None, Result, Ok, Err, refl, sym, subst, Config, Message, pending, Update, Closed, Needs, Phase, transition_by, announcer, skips_update, Lined, Step, waits, takes, stops, step_by, step_in, DoesAt, FeedsAt, counted, without_update}, MessageRuns.{Transition, Shows, told}, Transitions.{each_transition}}
+use Rattle.fs_session.proofs.Words.{◌≡◌, ◌⊎◌, inl, inr, ℕ, List, ◌++◌, Option, None, Result, Ok, Err, refl, sym, subst, Config, Message, pending}
+use Rattle.fs_session.proofs.Words.{Update, Closed, Needs, Phase, transition_by, announcer, skips_update, Lined, Step, waits, takes, stops, step_by}
+use Rattle.fs_session.proofs.Words.{step_in, DoesAt, FeedsAt, counted, without_update}
+use Rattle.fs_session.proofs.{MessageRuns.{Transition, Shows, told}, Transitions.{each_transition}}
 
 abbrev NoUpdate : Transition → Type 0
 NoUpdate (Ok next) = next.1 ≡ None

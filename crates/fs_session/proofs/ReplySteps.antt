@@ -1,6 +1,9 @@
 -- One step and all that is replied: what a call replies to the octets at hand is what the replies to the whole list begin
 -- with, whatever follows.
-use Rattle.fs_session.proofs.{Words.{◌≡◌, ℕ, List, [], ◌++◌, Option, None, ap, sym, ◌∙◌, Config, Peer, parts_end, Message, first_message, wrong_at, Update, Closed, Machine, Phase, no_times, taken_in, waits, takes, stops, Handed, reply_to, reply_at, receiver, step_of, reply_rest, replies, replies_by, replies_from}, MessageRuns.{runs_takes, runs_stops, runs_waits}, SessionSteps.{replies_none, replies_seen}}
+use Rattle.fs_session.proofs.Words.{◌≡◌, ℕ, List, [], ◌++◌, Option, None, ap, sym, ◌∙◌, Config, Peer, parts_end, Message, first_message, wrong_at}
+use Rattle.fs_session.proofs.Words.{Update, Closed, Machine, Phase, no_times, taken_in, waits, takes, stops, Handed, reply_to, reply_at, receiver}
+use Rattle.fs_session.proofs.Words.{step_of, reply_rest, replies, replies_by, replies_from}
+use Rattle.fs_session.proofs.{MessageRuns.{runs_takes, runs_stops, runs_waits}, SessionSteps.{replies_none, replies_seen}}
 pub use Rattle.fs_session.proofs.MessageRuns.{Shows, told, wrong_first}
 
 pub replies_rest : (machine : Machine) (now : Phase) (octets : List ℕ) → first_message octets ≡ None
@@ -21,7 +24,8 @@ module _ (config : Config) (peer : Peer) (now : Phase) where
       ∙ ap (λ (z : List ℕ). reply_to config now.state ++ z) (sym (replies_seen machine next (taken_in now.state no_times) (behind ++ more)))
 
   -- The octets close the session: that is answered, and nothing behind them is.
-  pub replies_stops : (why : Closed) (octets more : List ℕ) → step_of config peer now octets ≡ stops why → replies_from config peer now (octets ++ more) ≡ reply_at why
+  pub replies_stops : (why : Closed) (octets more : List ℕ) → step_of config peer now octets ≡ stops why
+      → replies_from config peer now (octets ++ more) ≡ reply_at why
   replies_stops why octets more h =
       replies_seen machine now no_times (octets ++ more) ∙ ap (λ (z : Handed). z.text) (runs_stops machine now no_times why octets more h)
 

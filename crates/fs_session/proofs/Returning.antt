@@ -1,5 +1,8 @@
 -- The UPDATE of a rule is read as the update that announces it.
-use Rattle.fs_session.proofs.Words.{◌≡◌, ℕ, ◌+◌, ◌<◌, ◌≤◌, ◌==◌, ◌^◌, Bool, true, false, not, ◌&&◌, nat_le, List, [], ◌∷◌, Ok, All, length, if◌then◌else◌, refl, arith, AllByRecursion, list_all, leb-true, nat_tests, Terms, AreNumbers, is_written_segment, segment, update_of, IsSound, Sent, AreSendable, IsSent, RulesComeBack, body_by, is_short, path_by, segments_sent, update_by, terms_of}
+use Rattle.fs_session.proofs.Words.{◌≡◌, ℕ, ◌+◌, ◌<◌, ◌≤◌, ◌==◌, ◌^◌, Bool, true, false, not, ◌&&◌, nat_le, List, [], ◌∷◌, Ok, All, length}
+use Rattle.fs_session.proofs.Words.{if◌then◌else◌, refl, arith, AllByRecursion, list_all, leb-true, nat_tests, Terms, AreNumbers, is_written_segment}
+use Rattle.fs_session.proofs.Words.{segment, update_of, IsSound, Sent, AreSendable, IsSent, RulesComeBack, body_by, is_short, path_by, segments_sent}
+use Rattle.fs_session.proofs.Words.{update_by, terms_of}
 use Rattle.std.proofs.lemmas.List.Elements.{All-cons, All-from_recursion, All-nil}
 use Rattle.fs_base.proofs.Covers.{family_itself}
 use Rattle.fs_nlri.specs.Rule.{IsRule}
@@ -55,4 +58,5 @@ update_read terms numbers sent four numbered is short =
     read_back terms (update_by terms numbers sent) (writable terms numbers sent numbered.few) (sound terms numbers sent numbered is) small (rw four refl)
 
 pub comes_back : RulesComeBack
-comes_back config peer sending numbered sent is short = record { short = short; read = update_read (terms_of config peer true) sending.as_path sent refl numbered is short }
+comes_back config peer sending numbered sent is short =
+    record { short = short; read = update_read (terms_of config peer true) sending.as_path sent refl numbered is short }

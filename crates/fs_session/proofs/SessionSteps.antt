@@ -1,6 +1,11 @@
 -- One step and the whole: what a call does with the octets at hand is what the session of the whole list begins with,
 -- whatever follows. Without the moments an end takes the session's updates, answers its replies, and comes to its end.
-use Rattle.fs_session.proofs.{Words.{◌≡◌, ℕ, List, [], ◌∷◌, ◌++◌, Option, Some, None, Ok, Err, refl, ap, sym, ◌∙◌, Config, Peer, parts_of, parts_end, MessageFault, Message, first_message, wrong_at, Update, Closed, Times, no_times, taken_in, Machine, Phase, transition_by, waits, takes, stops, step_at, rest_step, step_by, receiver, at_fault, Handed, Point, rests, runs, runs_by, with_taken, reply_rest, replies, replies_by, Last, still, closed, with_update, rest_closes, plays, session_by, session_from, step_of}, MessageRuns.{runs_each, runs_takes, runs_stops, runs_waits}}
+use Rattle.fs_session.proofs.Words.{◌≡◌, ℕ, List, [], ◌∷◌, ◌++◌, Option, Some, None, Ok, Err, refl, ap, sym, ◌∙◌, Config, Peer, parts_of, parts_end}
+use Rattle.fs_session.proofs.Words.{MessageFault, Message, first_message, wrong_at, Update, Closed, Times, no_times, taken_in, Machine, Phase}
+use Rattle.fs_session.proofs.Words.{transition_by, waits, takes, stops, step_at, rest_step, step_by, receiver, at_fault, Handed, Point, rests, runs}
+use Rattle.fs_session.proofs.Words.{runs_by, with_taken, reply_rest, replies, replies_by, Last, still, closed, with_update, rest_closes, plays}
+use Rattle.fs_session.proofs.Words.{session_by, session_from, step_of}
+use Rattle.fs_session.proofs.MessageRuns.{runs_each, runs_takes, runs_stops, runs_waits}
 pub use Rattle.fs_session.proofs.MessageRuns.{Transition}
 
 abbrev pub going : Transition → (Phase → List Update × Last) → List Update × Last
@@ -64,7 +69,8 @@ pub runs_seen : (machine : Machine) (messages : List Message) (now : Phase) (tim
     → (plays machine now messages wrong ≡ seen (runs machine now times messages waiting wrong))
     × (replies machine now messages wrong ≡ (runs machine now times messages waiting wrong).text)
 runs_seen machine messages now times waiting wrong =
-    runs_each machine waiting wrong (λ now messages made. (plays machine now messages wrong ≡ seen made) × (replies machine now messages wrong ≡ made.text)) (none wrong)
+    runs_each machine waiting wrong (λ now messages made. (plays machine now messages wrong ≡ seen made)
+    × (replies machine now messages wrong ≡ made.text)) (none wrong)
     (λ now times message messages why t. (
       plays_step machine now message messages wrong ∙ ap (λ (made : Transition). going made (λ next. plays machine next messages wrong)) t,
       replies_step machine now message messages wrong ∙ ap (λ (made : Transition). answered machine now made (λ next. replies machine next messages wrong)) t,
@@ -78,7 +84,8 @@ runs_seen machine messages now times waiting wrong =
     messages now times
   where
     none : (wrong : Option MessageFault) (now : Phase) (times : Times)
-        → (plays machine now [] wrong ≡ seen (rests machine now times waiting wrong)) × (replies machine now [] wrong ≡ (rests machine now times waiting wrong).text)
+        → (plays machine now [] wrong ≡ seen (rests machine now times waiting wrong))
+        × (replies machine now [] wrong ≡ (rests machine now times waiting wrong).text)
     none None now times = (plays_none machine now None, replies_none machine now None)
     none (Some fault) now times = (plays_none machine now (Some fault), replies_none machine now (Some fault))
 
@@ -90,7 +97,8 @@ pub replies_seen : (machine : Machine) (now : Phase) (times : Times) (octets : L
 replies_seen machine now times octets =
     (runs_seen machine (parts_of first_message octets).0 now times (parts_of first_message octets).1 (wrong_at (parts_of first_message octets).1)).1
 
-pub runs_updates : (machine : Machine) (now : Phase) (times : Times) (octets : List ℕ) → (runs_by machine now times octets).updates ≡ (session_by machine now octets).0
+pub runs_updates : (machine : Machine) (now : Phase) (times : Times) (octets : List ℕ)
+    → (runs_by machine now times octets).updates ≡ (session_by machine now octets).0
 runs_updates machine now times octets = sym (ap (λ (z : List Update × Last). z.0) (session_seen machine now times octets))
 
 pub runs_text : (machine : Machine) (now : Phase) (times : Times) (octets : List ℕ) → (runs_by machine now times octets).text ≡ replies_by machine now octets
@@ -109,7 +117,8 @@ pub machine_takes : (machine : Machine) (now next : Phase) (update : Option Upda
 machine_takes machine now next update octets behind more h =
     let later : Handed = runs_by machine next (taken_in now.state no_times) (behind ++ more) in
     session_seen machine now no_times (octets ++ more) ∙ ap seen (runs_takes machine now next no_times update octets behind more h)
-    ∙ sym (ap (with_update update) (session_seen machine next (taken_in now.state no_times) (behind ++ more)) ∙ with_seen (machine.answer now.state) update later)
+    ∙ sym (ap (with_update update) (session_seen machine next (taken_in now.state no_times) (behind ++ more))
+    ∙ with_seen (machine.answer now.state) update later)
 
 -- The octets close the session: nothing behind them counts.
 pub machine_stops : (machine : Machine) (now : Phase) (why : Closed) (octets more : List ℕ)

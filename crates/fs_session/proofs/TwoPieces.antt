@@ -1,5 +1,11 @@
 -- Octets that are handed in two pieces, at whatever moments, give what they give at once.
-use Rattle.fs_session.proofs.{Words.{◌≡◌, ℕ, List, [], ◌∷◌, ◌++◌, Option, Some, None, Ok, Err, refl, sym, ap, ◌∙◌, append_assoc, append-nil, parts_of, parts_append, MessageFault, Message, first_message, wrong_at, message_shrinks, message_stable, fault_stays, Update, Times, no_times, at_moment, Machine, Phase, transition_by, at_fault, Last, rest_closes, with_update, plays, session_by, reply_rest, replies, replies_by, Handed, Point, point, rests, runs, runs_by, with_taken, hand}, MessageRuns.{Transition, open_hand, runs_each, wrong_first}, SessionSteps.{going, plays_step, session_rest, answered, replies_step, last_of, session_seen, replies_seen, runs_updates}, ReplySteps.{replies_rest}}
+use Rattle.fs_session.proofs.Words.{◌≡◌, ℕ, List, [], ◌∷◌, ◌++◌, Option, Some, None, Ok, Err, refl, sym, ap, ◌∙◌, append_assoc, append-nil, parts_of}
+use Rattle.fs_session.proofs.Words.{parts_append, MessageFault, Message, first_message, wrong_at, message_shrinks, message_stable, fault_stays}
+use Rattle.fs_session.proofs.Words.{Update, Times, no_times, at_moment, Machine, Phase, transition_by, at_fault, Last, rest_closes, with_update}
+use Rattle.fs_session.proofs.Words.{plays, session_by, reply_rest, replies, replies_by, Handed, Point, point, rests, runs, runs_by, with_taken, hand}
+use Rattle.fs_session.proofs.MessageRuns.{Transition, open_hand, runs_each, wrong_first}
+use Rattle.fs_session.proofs.SessionSteps.{going, plays_step, session_rest, answered, replies_step, last_of, session_seen, replies_seen, runs_updates}
+use Rattle.fs_session.proofs.ReplySteps.{replies_rest}
 
 module _ (machine : Machine) (more : List ℕ) (later : ℕ) where
   -- the messages and the fault of a rest with more octets behind it
@@ -23,7 +29,8 @@ module _ (machine : Machine) (more : List ℕ) (later : ℕ) where
   both_rest : (now : Phase) (times : Times) (rest : List ℕ) (wrong : Option MessageFault) → wrong_at rest ≡ wrong
       → (session_by machine now (rest ++ more) ≡ both_seen (rests machine now times rest wrong))
       × (replies_by machine now (rest ++ more) ≡ both_texts (rests machine now times rest wrong))
-  both_rest now times rest None h = (session_seen machine now (at_moment later times) (rest ++ more), replies_seen machine now (at_moment later times) (rest ++ more))
+  both_rest now times rest None h =
+      (session_seen machine now (at_moment later times) (rest ++ more), replies_seen machine now (at_moment later times) (rest ++ more))
   both_rest now times rest (Some fault) h =
       let stays = fault_stays rest more fault h in
       let none = wrong_first (rest ++ more) fault stays in (
@@ -39,7 +46,11 @@ module _ (machine : Machine) (more : List ℕ) (later : ℕ) where
       (λ now messages made. (plays machine now (messages ++ next_messages rest) (next_wrong rest) ≡ both_seen made)
       × (replies machine now (messages ++ next_messages rest) (next_wrong rest) ≡ both_texts made))
       (λ now times. both_rest now times rest (wrong_at rest) refl)
-      (λ now times message messages why t. (step now message messages (Err why) t, answer now message messages (Err why) t ∙ sym (append-nil (at_fault machine.farewell why))))
+      (λ now times message messages why t. (
+        step now message messages (Err why) t,
+        answer now message messages (Err why) t
+            ∙ sym (append-nil (at_fault machine.farewell why)),
+      ))
       (λ now next update message messages first t join. (
         step now message messages (Ok (next, update)) t ∙ ap (with_update update) join.0 ∙ more_seen (machine.answer now.state) update first,
         answer now message messages (Ok (next, update)) t ∙ ap (λ (z : List ℕ). machine.answer now.state ++ z) join.1
@@ -48,20 +59,23 @@ module _ (machine : Machine) (more : List ℕ) (later : ℕ) where
       messages now times
     where
       step : (now : Phase) (message : Message) (messages : List Message) (made : Transition) → transition_by machine now message ≡ made
-          → plays machine now ((message ∷ messages) ++ next_messages rest) (next_wrong rest) ≡ going made (λ next. plays machine next (messages ++ next_messages rest) (next_wrong rest))
+          → plays machine now ((message ∷ messages) ++ next_messages rest) (next_wrong rest)
+          ≡ going made (λ next. plays machine next (messages ++ next_messages rest) (next_wrong rest))
       step now message messages made t =
           plays_step machine now message (messages ++ next_messages rest) (next_wrong rest)
           ∙ ap (λ (u : Transition). going u (λ next. plays machine next (messages ++ next_messages rest) (next_wrong rest))) t
 
       answer : (now : Phase) (message : Message) (messages : List Message) (made : Transition) → transition_by machine now message ≡ made
-          → replies machine now ((message ∷ messages) ++ next_messages rest) (next_wrong rest) ≡ answered machine now made (λ next. replies machine next (messages ++ next_messages rest) (next_wrong rest))
+          → replies machine now ((message ∷ messages) ++ next_messages rest) (next_wrong rest)
+          ≡ answered machine now made (λ next. replies machine next (messages ++ next_messages rest) (next_wrong rest))
       answer now message messages made t =
           replies_step machine now message (messages ++ next_messages rest) (next_wrong rest)
           ∙ ap (λ (u : Transition). answered machine now u (λ next. replies machine next (messages ++ next_messages rest) (next_wrong rest))) t
 
   -- octets, and then more
   pub both_by : (now : Phase) (times : Times) (octets : List ℕ)
-      → (session_by machine now (octets ++ more) ≡ both_seen (runs_by machine now times octets)) × (replies_by machine now (octets ++ more) ≡ both_texts (runs_by machine now times octets))
+      → (session_by machine now (octets ++ more) ≡ both_seen (runs_by machine now times octets))
+      × (replies_by machine now (octets ++ more) ≡ both_texts (runs_by machine now times octets))
   both_by now times octets =
       let parts = parts_append first_message message_shrinks message_stable octets more in
       let join = both_join (parts_of first_message octets).0 now times (parts_of first_message octets).1 in (

@@ -3,7 +3,10 @@ use Rattle.std.specs.Prelude.{◌≡◌, ℕ, ◌+◌, Bool, true, false, if◌t
 use Rattle.fs_base.specs.declared.config.{Config.{Config}, Peer.{Peer}}
 use Rattle.fs_message.specs.Write.{message_text, open_body}
 use Rattle.fs_attrs.specs.declared.update.Update.{Update}
-use Rattle.fs_session.specs.{declared.{state.{State.{State, TheVariants.{Established}}, Closed.{Closed, TheVariants.{Memory}}}, sending.{Sent.{Sent}, Sending.{Sending}}, side.Needs.{Needs}}, Transition.{Machine}, Side.{announcer}, Line.{Lined, lined, state_in, FeedsAt, Ticks}, Sending.{is_sending, needs_of, text_sent}}
+use Rattle.fs_session.specs.declared.state.{State.{State, TheVariants.{Established}}, Closed.{Closed, TheVariants.{Memory}}}
+use Rattle.fs_session.specs.declared.{sending.{Sent.{Sent}, Sending.{Sending}}, side.Needs.{Needs}}
+use Rattle.fs_session.specs.{Transition.{Machine}, Side.{announcer}, Line.{Lined, lined, state_in, FeedsAt, Ticks}}
+use Rattle.fs_session.specs.Sending.{is_sending, needs_of, text_sent}
 
 -- Whose end it is and what it is to send, what it keeps of the other's octets, whether its OPEN was written, and how
 -- many of the rules were.

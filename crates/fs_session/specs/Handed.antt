@@ -4,7 +4,8 @@ use Rattle.std.specs.Prelude.{ℕ, List, [], ◌∷◌, ◌++◌, Option, Some, 
 use Rattle.fs_base.specs.Parts.{parts_of}
 use Rattle.fs_message.specs.{declared.fault.MessageFault.{MessageFault}, Stream.{Message, first_message, wrong_at}}
 use Rattle.fs_attrs.specs.declared.update.Update.{Update}
-use Rattle.fs_session.specs.{declared.{state.Closed.{Closed}, times.Times.{Times}}, Times.{at_moment, taken_in}, Side.{at_fault}, Transition.{Machine, Phase, faulted, transition_by}}
+use Rattle.fs_session.specs.{declared.{state.Closed.{Closed}, times.Times.{Times}}, Times.{at_moment, taken_in}, Side.{at_fault}}
+use Rattle.fs_session.specs.Transition.{Machine, Phase, faulted, transition_by}
 
 -- An end: the octets that wait for the end of their message, its phase and moments, and how it closed.
 pub record Point : Type 0 where

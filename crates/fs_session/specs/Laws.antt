@@ -6,7 +6,13 @@ use Rattle.fs_nlri.specs.Rule.{IsRule}
 use Rattle.fs_actions.specs.Actions.{IsActions}
 use Rattle.fs_message.specs.Write.{message_text}
 use Rattle.fs_attrs.specs.{declared.update.Update.{Update}, Update.{update_of}}
-use Rattle.fs_session.specs.{declared.{state.{State.TheVariants.{Established}, Closed.{Closed}}, sending.{Sent.{Sent}, Sending.{Sending}}, times.Times.{Times}}, Announcer.{open_sent}, Handed.{Point, point, handed, shuts, with_taken, runs_by, hand}, Line.{waits, takes, stops, step_by}, Replies.{replies_by}, Sending.{body_by, is_short, update_sent, text_sent}, Session.{at_start, still, closed, with_update, session_by, session_from}, Times.{taken_in}, Transition.{Machine, Phase, phase, terms_of}}
+use Rattle.fs_session.specs.declared.state.{State.TheVariants.{Established}, Closed.{Closed}}
+use Rattle.fs_session.specs.declared.{sending.{Sent.{Sent}, Sending.{Sending}}, times.Times.{Times}}
+use Rattle.fs_session.specs.Announcer.{open_sent}
+use Rattle.fs_session.specs.Handed.{Point, point, handed, shuts, with_taken, runs_by, hand}
+use Rattle.fs_session.specs.{Line.{waits, takes, stops, step_by}, Replies.{replies_by}, Sending.{body_by, is_short, update_sent, text_sent}}
+use Rattle.fs_session.specs.Session.{at_start, still, closed, with_update, session_by, session_from}
+use Rattle.fs_session.specs.{Times.{taken_in}, Transition.{Machine, Phase, phase, terms_of}}
 
 -- A message that is taken is the session's first, whatever follows; the session goes on behind it.
 abbrev pub TakesFirst : Type 0

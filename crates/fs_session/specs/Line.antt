@@ -1,9 +1,13 @@
 -- What either end of a session keeps of the other's octets, and what its calls do: a piece that is fed, a tick of the
 -- clock, and a closing of our own.
 use Rattle.std.specs.Prelude.{◌≡◌, ℕ, ◌≤◌, false, ⊤, List, [], ◌++◌, length, drop, Option, Some, None, Result, Ok, Err, IfSome}
-use Rattle.fs_message.specs.{declared.fault.MessageFault.{MessageFault}, Stream.{first_message, wrong_at}, Write.{message_text}, Deframer.{Framing, framing, pending}}
+use Rattle.fs_message.specs.{declared.fault.MessageFault.{MessageFault}, Stream.{first_message, wrong_at}, Write.{message_text}}
+use Rattle.fs_message.specs.Deframer.{Framing, framing, pending}
 use Rattle.fs_attrs.specs.declared.update.Update.{Update}
-use Rattle.fs_session.specs.{declared.{state.{State.{State, TheVariants.{WaitOpen, Closed as IsClosed}}, Closed.{Closed, TheVariants.{Memory, Fault}}}, times.{Times.{Times}, Tick.{Tick, TheVariants.{Quiet, Keeps, Expires}}}}, Times.{no_times, at_moment, taken_in, written_now, tick_at}, Transition.{Machine, Phase, phase, faulted, transition_by}, Side.{notice_text, at_fault}}
+use Rattle.fs_session.specs.declared.state.{State.{State, TheVariants.{WaitOpen, Closed as IsClosed}}, Closed.{Closed, TheVariants.{Memory, Fault}}}
+use Rattle.fs_session.specs.declared.times.{Times.{Times}, Tick.{Tick, TheVariants.{Quiet, Keeps, Expires}}}
+use Rattle.fs_session.specs.{Times.{no_times, at_moment, taken_in, written_now, tick_at}, Transition.{Machine, Phase, phase, faulted, transition_by}}
+use Rattle.fs_session.specs.Side.{notice_text, at_fault}
 
 -- The octets of the message begun, the phase, the moments, and how it closed.
 pub record Lined : Type 0 where

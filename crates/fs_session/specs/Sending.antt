@@ -1,5 +1,6 @@
 -- What an announcing end is to send: the rules of a file, under one path, to the peer that it speaks for.
-use Rattle.std.specs.{Prelude.{ℕ, ◌+◌, ◌==◌, Bool, true, false, ◌&&◌, nat_le, nat_lt, if◌then◌else◌, List, [], ◌∷◌, length, find, Option, Some, None}, List.{list_all, list_any}}
+use Rattle.std.specs.Prelude.{ℕ, ◌+◌, ◌==◌, Bool, true, false, ◌&&◌, nat_le, nat_lt, if◌then◌else◌, List, [], ◌∷◌, length, find, Option, Some, None}
+use Rattle.std.specs.List.{list_all, list_any}
 use Rattle.fs_base.specs.{declared.{config.{Config.{Config}, Peer.{Peer}}, path.{Path.{Path}, Segment.{Segment}}}, Bits.{afi_of}}
 use Rattle.fs_message.specs.Write.{message_text}
 use Rattle.fs_attrs.specs.{declared.update.{Terms.{Terms}, Update.{Update}, Routes.TheVariants.{Flow}}, Segments.{segment}, Write.{update_text}}

@@ -4,7 +4,9 @@ use Rattle.std.specs.Prelude.{◌≡◌, ℕ, false, List, [], ◌∷◌, ◌++�
 use Rattle.fs_base.specs.{declared.config.{Config.{Config}, Peer.{Peer}}, Config.{peer_of}, Parts.{parts_of}}
 use Rattle.fs_message.specs.{declared.fault.MessageFault.{MessageFault}, Stream.{Message, first_message, wrong_at}, Deframer.{Framing, pending}}
 use Rattle.fs_attrs.specs.declared.update.Update.{Update}
-use Rattle.fs_session.specs.{declared.{state.{State.{State, TheVariants.{WaitOpen, Closed as IsClosed}}, Closed.{Closed}}, times.Times.{Times}}, Transition.{Machine, Phase, phase, faulted, transition_by}, Side.{receiver}, Line.{Lined, lined, fresh, Step, step_by, DoesAt, FeedsAt, answer_of}}
+use Rattle.fs_session.specs.declared.{state.{State.{State, TheVariants.{WaitOpen, Closed as IsClosed}}, Closed.{Closed}}, times.Times.{Times}}
+use Rattle.fs_session.specs.{Transition.{Machine, Phase, phase, faulted, transition_by}, Side.{receiver}}
+use Rattle.fs_session.specs.Line.{Lined, lined, fresh, Step, step_by, DoesAt, FeedsAt, answer_of}
 
 abbrev pub at_start : Phase
 at_start = phase WaitOpen false 0

@@ -3,7 +3,9 @@ use Rattle.std.specs.Prelude.{◌≡◌, ℕ, Bool, false, not, ◌&&◌, ◌||�
 use Rattle.fs_base.specs.declared.config.{Config.{Config}, Peer.{Peer}}
 use Rattle.fs_message.specs.{declared.open_.Open.{Open}, Write.{message_text, open_body}}
 use Rattle.fs_attrs.specs.{declared.update.{Update.{Update}, UpdateFault.{UpdateFault, TheVariants.{Memory as NoMemory}}}, Update.{update_of}}
-use Rattle.fs_session.specs.{declared.{state.{State.{State, TheVariants.{WaitOpen}}, Closed.{Closed, TheVariants.{Memory, Fault}}}, side.{Side.{Side, TheVariants.{Receiver, Announcer}}, Needs.{Needs}}}, Transition.{Machine, terms_of}}
+use Rattle.fs_session.specs.declared.state.{State.{State, TheVariants.{WaitOpen}}, Closed.{Closed, TheVariants.{Memory, Fault}}}
+use Rattle.fs_session.specs.declared.side.{Side.{Side, TheVariants.{Receiver, Announcer}}, Needs.{Needs}}
+use Rattle.fs_session.specs.Transition.{Machine, terms_of}
 
 -- What the receiving end answers: to an OPEN our OPEN and a KEEPALIVE, to a fault a NOTIFICATION.
 abbrev pub reply_to : Config → State → List ℕ

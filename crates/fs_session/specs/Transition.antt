@@ -1,9 +1,12 @@
 -- What one message does at either end of a session: the table of states (RFC 4271, sections 6 and 8.2.2).
 use Rattle.std.specs.Prelude.{◌≡◌, ℕ, ◌==◌, Bool, not, min, if◌then◌else◌, List, Option, None, Result, Ok, Err, ⊤}
 use Rattle.fs_base.specs.declared.config.{Config.{Config}, Peer.{Peer}}
-use Rattle.fs_message.specs.{declared.{fault.MessageFault.{MessageFault}, notice.Notice.{Notice}, open_.Open.{Open}}, Stream.{Message}, Open.{open_of}, Notice.{notice_of}}
-use Rattle.fs_attrs.specs.declared.update.{Terms.{Terms}, Update.{Update}, UpdateFault.{UpdateFault, TheVariants.{List as ListFault, Network, Optional, Memory as NoMemory}}}
-use Rattle.fs_session.specs.declared.state.{State.{State, TheVariants.{WaitOpen, WaitKeep, Established, Closed as IsClosed}}, Closed.{Closed, TheVariants.{Fault, Notified, NoFamily, Memory}}}
+use Rattle.fs_message.specs.declared.{fault.MessageFault.{MessageFault}, notice.Notice.{Notice}, open_.Open.{Open}}
+use Rattle.fs_message.specs.{Stream.{Message}, Open.{open_of}, Notice.{notice_of}}
+use Rattle.fs_attrs.specs.declared.update.{Terms.{Terms}, Update.{Update}}
+use Rattle.fs_attrs.specs.declared.update.UpdateFault.{UpdateFault, TheVariants.{List as ListFault, Network, Optional, Memory as NoMemory}}
+use Rattle.fs_session.specs.declared.state.State.{State, TheVariants.{WaitOpen, WaitKeep, Established, Closed as IsClosed}}
+use Rattle.fs_session.specs.declared.state.Closed.{Closed, TheVariants.{Fault, Notified, NoFamily, Memory}}
 pub use Rattle.fs_session.specs.declared.transition.Phase.{Phase}
 
 -- What an end of a session is given: the AS that the other end is to have and the hold time that it offers, whether

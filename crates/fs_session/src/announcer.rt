@@ -35,7 +35,9 @@ impl<'a> Model for Announcer<'a> {
 
 impl<'a> Announcer<'a> {
     ghost use Rattle.std.specs.Prelude.{◌≡◌, ◌<◌, ◌≤◌, length, false, IfOk, IfSome};
-    ghost use Rattle.fs_session.specs.{Announcer.{announcing, with_line, machine_in, counted, without_update, StaysEnded, StartsOpen, SaysOpen, FeedsEnd, TicksEnd, CanSend}, Line.{fresh, state_in, closed_after}, Sending.{needs_of, sender_of}, Transition.{terms_of}};
+    ghost use Rattle.fs_session.specs.Announcer.{announcing, with_line, machine_in, counted, without_update, StaysEnded, StartsOpen, SaysOpen};
+    ghost use Rattle.fs_session.specs.Announcer.{FeedsEnd, TicksEnd, CanSend};
+    ghost use Rattle.fs_session.specs.{Line.{fresh, state_in, closed_after}, Sending.{needs_of, sender_of}, Transition.{terms_of}};
 
     /// The end of the peer with the lowest number, before its OPEN.
     pub fn new(alloc: Global, config: &'a Config, sending: Sending) -> Result<Announcer<'a>, Memory>

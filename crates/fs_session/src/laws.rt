@@ -1,6 +1,7 @@
 //! Laws of the definitions.
 
-ghost use Rattle.fs_session.specs.Laws.{TakesFirst, StopsLast, WaitsThere, RulesArrive, RulesComeBack, HandsOn, HandsLast, HandsNothing, HandsUpdates, HandsReplies, HandsBoth, HandsBothReplies, FrontsFirst};
+ghost use Rattle.fs_session.specs.Laws.{TakesFirst, StopsLast, WaitsThere, RulesArrive, RulesComeBack, HandsOn, HandsLast, HandsNothing};
+ghost use Rattle.fs_session.specs.Laws.{HandsUpdates, HandsReplies, HandsBoth, HandsBothReplies, FrontsFirst};
 
 /// The steps that either end of a session takes, one after the other, make the session of all octets, however these
 /// were cut: a step that takes a message is the session's first, whatever follows; one that closes is its last; and

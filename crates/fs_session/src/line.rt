@@ -30,7 +30,9 @@ impl Model for Line {
 
 impl Line {
     ghost use Rattle.std.specs.Prelude.{◌≡◌, ◌<◌, ◌≤◌, length, IfOk};
-    ghost use Rattle.fs_session.specs.{Announcer.{out_of_memory}, Line.{fresh, state_in, closed_after, StaysOver, FeedsOpen, TicksOpen, CeasesOpen}, Side.{machine_of}};
+    ghost use Rattle.fs_session.specs.Announcer.{out_of_memory};
+    ghost use Rattle.fs_session.specs.Line.{fresh, state_in, closed_after, StaysOver, FeedsOpen, TicksOpen, CeasesOpen};
+    ghost use Rattle.fs_session.specs.Side.{machine_of};
 
     /// Before the first octet.
     pub fn new(alloc: Global) -> Result<Line, Memory>

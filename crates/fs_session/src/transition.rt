@@ -2,7 +2,8 @@
 
 ghost use Rattle.std.specs.Prelude.{◌≡◌, ◌+◌, length, IsTrue};
 ghost use Rattle.fs_message.specs.{Header.{allows}, Deframer.{frame_of}, Notice.{notice_of}};
-ghost use Rattle.fs_session.specs.{declared.state.State.TheVariants.{Established}, Side.{machine_of}, Transition.{transition_by, at_wait_open, at_wait_keep, at_established, opened, notified, closing_of, IsTransition}};
+ghost use Rattle.fs_session.specs.{declared.state.State.TheVariants.{Established}, Side.{machine_of}};
+ghost use Rattle.fs_session.specs.Transition.{transition_by, at_wait_open, at_wait_keep, at_established, opened, notified, closing_of, IsTransition};
 
 use crate::side::Side;
 use crate::state::{Closed, State};

@@ -1,4 +1,5 @@
-use Rattle.fs_shadow.proofs.Words.{◌≡◌, ℕ, zero, suc, ◌+◌, ◌<◌, ◌≤◌, Bool, true, false, refl, sym, subst, arith, inl, inr, list_all, range_with_len, and_from, and_parts, cases_eq, cases_lt, true≢false, same_tests, all_below, implies}
+use Rattle.fs_shadow.proofs.Words.{◌≡◌, ℕ, zero, suc, ◌+◌, ◌<◌, ◌≤◌, Bool, true, false, refl, sym, subst, arith, inl, inr, list_all, range_with_len}
+use Rattle.fs_shadow.proofs.Words.{and_from, and_parts, cases_eq, cases_lt, true≢false, same_tests, all_below, implies}
 
 -- A test that passes each number below a bound.
 
@@ -14,7 +15,8 @@ range_from test a (suc n) all k low high = elim (cases_eq a k) [
 range_to : (test : ℕ → Bool) (a n : ℕ) → ((k : ℕ) → a ≤ k → k < a + n → test k ≡ true) → list_all test (range_with_len a n) ≡ true
 range_to test a zero each = refl
 range_to test a (suc n) each =
-    and_from (test a) (list_all test (range_with_len (a + 1) n)) (each a (omega arith) (omega arith)) (range_to test (a + 1) n (λ k low high. each k (omega arith) (omega arith)))
+    and_from (test a) (list_all test (range_with_len (a + 1) n)) (each a (omega arith) (omega arith))
+    (range_to test (a + 1) n (λ k low high. each k (omega arith) (omega arith)))
 
 pub each_below : (bound : ℕ) (test : ℕ → Bool) → all_below bound test ≡ true → (n : ℕ) → n < bound → test n ≡ true
 unfolding all_below
@@ -25,7 +27,8 @@ unfolding all_below
 below_from bound test each = range_to test 0 bound (λ k low high. each k (omega arith))
 
 -- what such a test is, where something else decides the same
-pub below_is : (r : Bool) (bound : ℕ) (test : ℕ → Bool) → (r ≡ true → (n : ℕ) → n < bound → test n ≡ true) → (((n : ℕ) → n < bound → test n ≡ true) → r ≡ true) → r ≡ all_below bound test
+pub below_is : (r : Bool) (bound : ℕ) (test : ℕ → Bool) → (r ≡ true → (n : ℕ) → n < bound → test n ≡ true)
+    → (((n : ℕ) → n < bound → test n ≡ true) → r ≡ true) → r ≡ all_below bound test
 below_is r bound test to from = same_tests r (all_below bound test) (λ h. below_from bound test (to h)) (λ h. from (each_below bound test h))
 
 pub implied : (one other : Bool) → (one ≡ true → other ≡ true) → implies one other ≡ true

@@ -1,5 +1,12 @@
 -- Prefixes compared by the bits that they know.
-use Rattle.fs_shadow.proofs.{Words.{◌≡◌, ℕ, ◌+◌, ◌-◌, ◌*◌, ◌/◌, ◌%◌, ◌^◌, ◌<◌, ◌≤◌, ◌==◌, Bool, true, false, ◌&&◌, ◌||◌, if◌then◌else◌, nat_le, nat_lt, refl, sym, ap, subst, ◌∙◌, arith, inl, inr, ◌⊎◌, and_parts, cases_Bool, cases_lt, eq-eqb, eqb-false, eqb-true, le-leb, lt-leb, ltb-false, ltb-true, or_cases, or_parts, pow-add, mul_assoc, Family, V4, V6, Prefix, afi_of, cleared, width_of, covers, V4Body, V6Body, IsSoundBody, is_prefix_of, Known, bits_lie_in, all_below, body_lies_in, implies, highest_with, lowest_with}, Known.{counted, known_v4, known_v6, ordered, same_multiple, shift_dropped}, Lying.{Knows, by_ends, inner_bits, no_bits}, Patterns.{begins_within, bits_at, ends_within, first_of, highest_has, lowest_has, shifted}}
+use Rattle.fs_shadow.proofs.Words.{◌≡◌, ℕ, ◌+◌, ◌-◌, ◌*◌, ◌/◌, ◌%◌, ◌^◌, ◌<◌, ◌≤◌, ◌==◌, Bool, true, false, ◌&&◌, ◌||◌, if◌then◌else◌, nat_le, nat_lt}
+use Rattle.fs_shadow.proofs.Words.{refl, sym, ap, subst, ◌∙◌, arith, inl, inr, ◌⊎◌, and_parts, cases_Bool, cases_lt, eq-eqb, eqb-false, eqb-true}
+use Rattle.fs_shadow.proofs.Words.{le-leb, lt-leb, ltb-false, ltb-true, or_cases, or_parts, pow-add, mul_assoc, Family, V4, V6, Prefix, afi_of}
+use Rattle.fs_shadow.proofs.Words.{cleared, width_of, covers, V4Body, V6Body, IsSoundBody, is_prefix_of, Known, bits_lie_in, all_below, body_lies_in}
+use Rattle.fs_shadow.proofs.Words.{implies, highest_with, lowest_with}
+use Rattle.fs_shadow.proofs.Known.{counted, known_v4, known_v6, ordered, same_multiple, shift_dropped}
+use Rattle.fs_shadow.proofs.Lying.{Knows, by_ends, inner_bits, no_bits}
+use Rattle.fs_shadow.proofs.Patterns.{begins_within, bits_at, ends_within, first_of, highest_has, lowest_has, shifted}
 
 both_same : (a b c : Bool) → a ≡ c → b ≡ c → c ≡ (a && b)
 both_same true true c h k = sym h
@@ -12,7 +19,8 @@ module _ (w : ℕ) (inner outer : ℕ → Bool) (o n k v p m j u : ℕ) (knows :
 
   -- no bit is known
   pub by_none : m ≡ 0 → true ≡ all_below (2 ^ w) (λ x. implies (inner x) (outer x))
-  by_none none = both_same (outer (lowest_with k v)) (outer (highest_with o n k v)) true (at (lowest_with k v)) (at (highest_with o n k v)) ∙ by_ends w inner outer o n k v p m j u knows known
+  by_none none = both_same (outer (lowest_with k v)) (outer (highest_with o n k v)) true (at (lowest_with k v)) (at (highest_with o n k v))
+      ∙ by_ends w inner outer o n k v p m j u knows known
     where
       small : u < 2 ^ 0
       small = subst (λ i. u < 2 ^ i) none known.small
@@ -35,7 +43,8 @@ module _ (w : ℕ) (inner outer : ℕ → Bool) (o n k v p m j u : ℕ) (knows :
 
   -- one of them isn't
   pub by_less : 0 < m → (p < o) ⊎ (j < k) → false ≡ all_below (2 ^ w) (λ x. implies (inner x) (outer x))
-  by_less some beyond = sym (elim (cases_Bool (outer (lowest_with k v) && outer (highest_with o n k v))) [ inl both ↦ absurd (refuted both) | inr none ↦ none ]) ∙ by_ends w inner outer o n k v p m j u knows known
+  by_less some beyond = sym (elim (cases_Bool (outer (lowest_with k v) && outer (highest_with o n k v)))
+      [ inl both ↦ absurd (refuted both) | inr none ↦ none ]) ∙ by_ends w inner outer o n k v p m j u knows known
     where
       refuted : (outer (lowest_with k v) && outer (highest_with o n k v)) ≡ true → ⊥
       refuted both =
@@ -69,7 +78,8 @@ same_first w m o a n p b x y own other short first last clear also =
     from = counted x (w - x) a (subst (λ q. a ≡ cleared q x a) whole clear)
 
     up : a * 2 ^ (p - o) ≡ a / 2 ^ (w - x) * 2 ^ ((w - x) + (p - o))
-    up = ap (λ q. q * 2 ^ (p - o)) from ∙ mul_assoc (a / 2 ^ (w - x)) (2 ^ (w - x)) (2 ^ (p - o)) ∙ ap (λ q. a / 2 ^ (w - x) * q) (sym (pow-add 2 (w - x) (p - o)))
+    up = ap (λ q. q * 2 ^ (p - o)) from ∙ mul_assoc (a / 2 ^ (w - x)) (2 ^ (w - x)) (2 ^ (p - o))
+        ∙ ap (λ q. a / 2 ^ (w - x) * q) (sym (pow-add 2 (w - x) (p - o)))
 
     place : w - y ≡ ((w - x) + (p - o)) + ((w - n) - (w - m))
     place = omega arith
@@ -77,21 +87,26 @@ same_first w m o a n p b x y own other short first last clear also =
     moved : bits_at y (w - y) (a * 2 ^ (p - o)) ≡ bits_at y ((w - n) - (w - m)) (a / 2 ^ (w - x))
     moved = (λ i. bits_at y (place i) (up i)) ∙ shifted y ((w - x) + (p - o)) ((w - n) - (w - m)) (a / 2 ^ (w - x))
 
-pub v4_same : (f g : Family) (m a n b : ℕ) → IsSoundBody (V4Body f m a) → IsSoundBody (V4Body g n b) → n ≤ m → (cleared 32 n a == b) ≡ body_lies_in 1 (V4Body f m a) (V4Body g n b)
+pub v4_same : (f g : Family) (m a n b : ℕ) → IsSoundBody (V4Body f m a) → IsSoundBody (V4Body g n b) → n ≤ m
+    → (cleared 32 n a == b) ≡ body_lies_in 1 (V4Body f m a) (V4Body g n b)
 v4_same f g m a n b sound also last =
     (let e : a ≡ a * 2 ^ 0 = omega arith in ap (λ q. cleared 32 n q == b) e)
     ∙ same_first 32 m 0 a n 0 b m n (omega arith) (omega arith) sound.1 (omega arith) last sound.2 also.2
-    ∙ by_same 32 (λ x. is_prefix_of (V4Body f m a) (V4 x)) (λ x. is_prefix_of (V4Body g n b) (V4 x)) 0 m (32 - m) (a / 2 ^ (32 - m)) 0 n (32 - n) (b / 2 ^ (32 - n))
+    ∙ by_same 32 (λ x. is_prefix_of (V4Body f m a) (V4 x)) (λ x. is_prefix_of (V4Body g n b) (V4 x)) 0 m (32 - m) (a / 2 ^ (32 - m)) 0 n (32 - n)
+    (b / 2 ^ (32 - n))
     (known_v4 f m a sound) (known_v4 g n b also) (omega arith) (omega arith)
 
-pub v4_less : (f g : Family) (m a n b : ℕ) → IsSoundBody (V4Body f m a) → IsSoundBody (V4Body g n b) → m < n → false ≡ body_lies_in 1 (V4Body f m a) (V4Body g n b)
+pub v4_less : (f g : Family) (m a n b : ℕ) → IsSoundBody (V4Body f m a) → IsSoundBody (V4Body g n b) → m < n
+    → false ≡ body_lies_in 1 (V4Body f m a) (V4Body g n b)
 v4_less f g m a n b sound also less =
-    by_less 32 (λ x. is_prefix_of (V4Body f m a) (V4 x)) (λ x. is_prefix_of (V4Body g n b) (V4 x)) 0 m (32 - m) (a / 2 ^ (32 - m)) 0 n (32 - n) (b / 2 ^ (32 - n))
+    by_less 32 (λ x. is_prefix_of (V4Body f m a) (V4 x)) (λ x. is_prefix_of (V4Body g n b) (V4 x)) 0 m (32 - m) (a / 2 ^ (32 - m)) 0 n (32 - n)
+    (b / 2 ^ (32 - n))
     (known_v4 f m a sound) (known_v4 g n b also) (omega arith) (inr (let s : n ≤ 32 = also.1 in omega arith))
 
 pub v6_none : (m o a n p b : ℕ) → IsSoundBody (V6Body m o a) → IsSoundBody (V6Body n p b) → n ≡ 0 → true ≡ body_lies_in 1 (V6Body m o a) (V6Body n p b)
 v6_none m o a n p b sound also none =
-    by_none 128 (λ x. is_prefix_of (V6Body m o a) (V6 x)) (λ x. is_prefix_of (V6Body n p b) (V6 x)) o (m - o) (128 - m) (a / 2 ^ (128 - (m - o))) p (n - p) (128 - n) (b / 2 ^ (128 - (n - p)))
+    by_none 128 (λ x. is_prefix_of (V6Body m o a) (V6 x)) (λ x. is_prefix_of (V6Body n p b) (V6 x)) o (m - o) (128 - m) (a / 2 ^ (128 - (m - o))) p
+    (n - p) (128 - n) (b / 2 ^ (128 - (n - p)))
     (known_v6 m o a sound) (known_v6 n p b also) (omega arith)
 
 -- bits are known unless the length is 0
@@ -102,21 +117,25 @@ some_known n p b sound some = at sound.0.1
     at (inl less) = less
     at (inr none) = absurd (some none.0)
 
-pub v6_less : (m o a n p b : ℕ) → IsSoundBody (V6Body m o a) → IsSoundBody (V6Body n p b) → (n ≡ 0 → ⊥) → (p < o) ⊎ (m < n) → false ≡ body_lies_in 1 (V6Body m o a) (V6Body n p b)
+pub v6_less : (m o a n p b : ℕ) → IsSoundBody (V6Body m o a) → IsSoundBody (V6Body n p b) → (n ≡ 0 → ⊥) → (p < o) ⊎ (m < n)
+    → false ≡ body_lies_in 1 (V6Body m o a) (V6Body n p b)
 v6_less m o a n p b sound also some beyond =
-    by_less 128 (λ x. is_prefix_of (V6Body m o a) (V6 x)) (λ x. is_prefix_of (V6Body n p b) (V6 x)) o (m - o) (128 - m) (a / 2 ^ (128 - (m - o))) p (n - p) (128 - n) (b / 2 ^ (128 - (n - p)))
+    by_less 128 (λ x. is_prefix_of (V6Body m o a) (V6 x)) (λ x. is_prefix_of (V6Body n p b) (V6 x)) o (m - o) (128 - m) (a / 2 ^ (128 - (m - o))) p
+    (n - p) (128 - n) (b / 2 ^ (128 - (n - p)))
     (known_v6 m o a sound) (known_v6 n p b also) (let l : p < n = some_known n p b also some in omega arith) (at beyond)
   where
     at : (p < o) ⊎ (m < n) → (p < o) ⊎ (128 - n < 128 - m)
     at (inl before) = inl before
     at (inr behind) = inr (let s : n ≤ 128 = also.0.0 in omega arith)
 
-pub v6_same : (m o a n p b : ℕ) → IsSoundBody (V6Body m o a) → IsSoundBody (V6Body n p b) → o ≤ p → n ≤ m → (cleared 128 (n - p) (a * 2 ^ (p - o)) == b) ≡ body_lies_in 1 (V6Body m o a) (V6Body n p b)
+pub v6_same : (m o a n p b : ℕ) → IsSoundBody (V6Body m o a) → IsSoundBody (V6Body n p b) → o ≤ p → n ≤ m
+    → (cleared 128 (n - p) (a * 2 ^ (p - o)) == b) ≡ body_lies_in 1 (V6Body m o a) (V6Body n p b)
 v6_same m o a n p b sound also first last =
     (let inner : o ≤ m = ordered m o sound.0 in
     let outer : p ≤ n = ordered n p also.0 in
     same_first 128 m o a n p b (m - o) (n - p) (omega arith) (omega arith) sound.0.0 first last sound.1 also.1)
-    ∙ by_same 128 (λ x. is_prefix_of (V6Body m o a) (V6 x)) (λ x. is_prefix_of (V6Body n p b) (V6 x)) o (m - o) (128 - m) (a / 2 ^ (128 - (m - o))) p (n - p) (128 - n) (b / 2 ^ (128 - (n - p)))
+    ∙ by_same 128 (λ x. is_prefix_of (V6Body m o a) (V6 x)) (λ x. is_prefix_of (V6Body n p b) (V6 x)) o (m - o) (128 - m) (a / 2 ^ (128 - (m - o))) p
+    (n - p) (128 - n) (b / 2 ^ (128 - (n - p)))
     (known_v6 m o a sound) (known_v6 n p b also) first (omega arith)
 
 -- as the code tells it
@@ -141,7 +160,8 @@ v6_covers x y sound also = at (y.length == 0) refl
     same = cleared 128 (y.length - y.offset) (x.pattern * 2 ^ (y.offset - x.offset) % 2 ^ 128) == y.pattern
 
     beyond : (nat_lt y.offset x.offset || nat_lt x.length y.length) ≡ true → (y.offset < x.offset) ⊎ (x.length < y.length)
-    beyond h = elim (or_cases (nat_lt y.offset x.offset) (nat_lt x.length y.length) h) [ inl before ↦ inl (ltb-true y.offset x.offset before) | inr behind ↦ inr (ltb-true x.length y.length behind) ]
+    beyond h = elim (or_cases (nat_lt y.offset x.offset) (nat_lt x.length y.length) h)
+        [ inl before ↦ inl (ltb-true y.offset x.offset before) | inr behind ↦ inr (ltb-true x.length y.length behind) ]
 
     by : (y.length ≡ 0 → ⊥) → (c : Bool) → (nat_lt y.offset x.offset || nat_lt x.length y.length) ≡ c
         → (if c then false else same) ≡ body_lies_in 1 (V6Body x.length x.offset x.pattern) (V6Body y.length y.offset y.pattern)
@@ -154,6 +174,7 @@ v6_covers x y sound also = at (y.length == 0) refl
         ∙ v6_same x.length x.offset x.pattern y.length y.offset y.pattern sound also first last
 
     at : (c : Bool) → (y.length == 0) ≡ c
-        → (if c then true else if nat_lt y.offset x.offset || nat_lt x.length y.length then false else same) ≡ body_lies_in 1 (V6Body x.length x.offset x.pattern) (V6Body y.length y.offset y.pattern)
+        → (if c then true else if nat_lt y.offset x.offset || nat_lt x.length y.length then false else same)
+        ≡ body_lies_in 1 (V6Body x.length x.offset x.pattern) (V6Body y.length y.offset y.pattern)
     at true e = v6_none x.length x.offset x.pattern y.length y.offset y.pattern sound also (eqb-true y.length 0 e)
     at false e = by (eqb-false y.length 0 e) (nat_lt y.offset x.offset || nat_lt x.length y.length) refl

@@ -1,7 +1,14 @@
 -- Which rules may contain which by their destinations: of rules in order an earlier contains a later one only where all
 -- between them have their destination too, or where its destination is all addresses.
 use Rattle.std.proofs.Common.{pow_pos}
-use Rattle.fs_shadow.{proofs.{Words.{◌≡◌, ℕ, zero, suc, ◌+◌, ◌-◌, ◌*◌, ◌^◌, ◌<◌, ◌≤◌, ◌==◌, ◌⊎◌, inl, inr, Bool, true, false, not, ◌&&◌, ◌||◌, nat_lt, cond, Option, Some, None, List, [], ◌∷◌, get_or, length, refl, sym, ap, subst, ◌∙◌, arith, list_all, list_any, slice_get, and_parts, and_right, cases_Bool, cases_eq, cases_lt, eq-eqb, eqb-true, ltb-true, or_cases, true≢false, none-some, same_Some, slice_get_within, Family, cleared, width_of, Body, V4Body, V6Body, ListBody, Part, Listed, IsOfFamily, span_by, span_of, spans_of, each_got, body_lies_in, may_lie_in, part_lies_in, AreInOrder, begins_anew, lie_apart, takes_all}, ByBits.{v4_less, v4_same, v6_less, v6_same}}, specs.Contains.{contains}}
+use Rattle.fs_shadow.proofs.Words.{◌≡◌, ℕ, zero, suc, ◌+◌, ◌-◌, ◌*◌, ◌^◌, ◌<◌, ◌≤◌, ◌==◌, ◌⊎◌, inl, inr, Bool, true, false, not, ◌&&◌, ◌||◌, nat_lt}
+use Rattle.fs_shadow.proofs.Words.{cond, Option, Some, None, List, [], ◌∷◌, get_or, length, refl, sym, ap, subst, ◌∙◌, arith, list_all, list_any}
+use Rattle.fs_shadow.proofs.Words.{slice_get, and_parts, and_right, cases_Bool, cases_eq, cases_lt, eq-eqb, eqb-true, ltb-true, or_cases, true≢false}
+use Rattle.fs_shadow.proofs.Words.{none-some, same_Some, slice_get_within, Family, cleared, width_of, Body, V4Body, V6Body, ListBody, Part, Listed}
+use Rattle.fs_shadow.proofs.Words.{IsOfFamily, span_by, span_of, spans_of, each_got, body_lies_in, may_lie_in, part_lies_in, AreInOrder, begins_anew}
+use Rattle.fs_shadow.proofs.Words.{lie_apart, takes_all}
+use Rattle.fs_shadow.proofs.ByBits.{v4_less, v4_same, v6_less, v6_same}
+use Rattle.fs_shadow.specs.Contains.{contains}
 use Rattle.fs_base.{specs.declared.prefix.Family.TheVariants.{V4, V6}, proofs.Blocks.{IsBlock, block_inside, block_of}}
 use Rattle.fs_nlri.{specs.{Forms.{form_of}, Rule.{AreNormal, IsNormalAt, destination_body, destination_in}}, proofs.Destination.{IsMade, destination_first}}
 use Rattle.fs_order.specs.Laws.{last_shown}
@@ -42,11 +49,13 @@ v6_first m a n b h k (inl none) =
     let within : a + 2 ^ (128 - m) ≤ 2 ^ 128 = block.within in
     (omega (arith, all.0), omega (arith, all.1, within))
 v6_first m a n b h k (inr same) =
-    let inner : (b ≤ a) × (a + 2 ^ (128 - m) ≤ b + 2 ^ (128 - n)) = block_inside 128 n b m a (block_of 128 n b k.0 k.1) (block_of 128 m a h.0 h.1) same.0 same.1 in
+    let inner : (b ≤ a) × (a + 2 ^ (128 - m) ≤ b + 2 ^ (128 - n)) =
+    block_inside 128 n b m a (block_of 128 n b k.0 k.1) (block_of 128 m a h.0 h.1) same.0 same.1 in
     (inner.0, omega (arith, inner.1))
 
 -- the bits that an outer prefix without an offset knows
-v6_bits : (m o a n b : ℕ) → IsNormalAt (form_of V6 1) (V6Body m o a) → IsNormalAt (form_of V6 1) (V6Body n 0 b) → body_lies_in 1 (V6Body m o a) (V6Body n 0 b) ≡ true
+v6_bits : (m o a n b : ℕ) → IsNormalAt (form_of V6 1) (V6Body m o a) → IsNormalAt (form_of V6 1) (V6Body n 0 b)
+    → body_lies_in 1 (V6Body m o a) (V6Body n 0 b) ≡ true
     → (n ≡ 0) ⊎ ((o ≡ 0) × (n ≤ m) × (cleared 128 n (a * 2 ^ (0 - o)) ≡ b))
 v6_bits m o a n b h k lies = elim (cases_eq n 0) [
   | inl none ↦ inl none
@@ -61,7 +70,8 @@ v6_bits m o a n b h k lies = elim (cases_eq n 0) [
   ]
 ]
 
-v6_within : (m o a n b : ℕ) → IsNormalAt (form_of V6 1) (V6Body m o a) → IsNormalAt (form_of V6 1) (V6Body n 0 b) → body_lies_in 1 (V6Body m o a) (V6Body n 0 b) ≡ true
+v6_within : (m o a n b : ℕ) → IsNormalAt (form_of V6 1) (V6Body m o a) → IsNormalAt (form_of V6 1) (V6Body n 0 b)
+    → body_lies_in 1 (V6Body m o a) (V6Body n 0 b) ≡ true
     → Within (span_by (destination_body (V6Body m o a))) (b, b + 2 ^ (128 - n) - 1) (2 ^ 128)
 v6_within m o a n b h k lies = at (o == 0) refl (v6_bits m o a n b h k lies)
   where
@@ -85,13 +95,16 @@ v6_within m o a n b h k lies = at (o == 0) refl (v6_bits m o a n b h k lies)
         (all.0, omega (arith, all.1))
     at false e (inr (f, l, g)) = absurd (true≢false (sym (eq-eqb o 0 f) ∙ e))
 
-body_within : (family : Family) (x y : Body) (d : Family × ℕ × ℕ) → IsNormalAt (form_of family 1) x → IsNormalAt (form_of family 1) y → destination_body x ≡ Some d → body_lies_in 1 y x ≡ true
+body_within : (family : Family) (x y : Body) (d : Family × ℕ × ℕ) → IsNormalAt (form_of family 1) x → IsNormalAt (form_of family 1) y
+    → destination_body x ≡ Some d → body_lies_in 1 y x ≡ true
     → Within (span_by (destination_body y)) (d.1, last_shown d) (2 ^ width_of family)
 body_within V4 (V4Body g n b) (V4Body f m a) d k h e lies =
     subst (λ (t : Family × ℕ × ℕ). Within (Some (a, last_shown (f, a, m))) (t.1, last_shown t) (2 ^ 32)) (same_Some (g, b, n) d e)
     (subst (λ x. Within (Some (a, last_shown (x, a, m))) (b, last_shown (g, b, n)) (2 ^ 32)) (sym h.0)
     (subst (λ x. Within (Some (a, last_shown (V4, a, m))) (b, last_shown (x, b, n)) (2 ^ 32)) (sym k.0)
-    (v4_within m a n b (h.1, h.2) (k.1, k.2) (subst (λ x. body_lies_in 1 (V4Body V4 m a) (V4Body x n b) ≡ true) k.0 (subst (λ x. body_lies_in 1 (V4Body x m a) (V4Body g n b) ≡ true) h.0 lies)))))
+    (v4_within m a n b (h.1, h.2) (k.1, k.2)
+    (subst (λ x. body_lies_in 1 (V4Body V4 m a) (V4Body x n b) ≡ true) k.0
+    (subst (λ x. body_lies_in 1 (V4Body x m a) (V4Body g n b) ≡ true) h.0 lies)))))
 body_within V4 (V4Body g n b) (V6Body m o a) d k h e lies = absurd h
 body_within V4 (V4Body g n b) (ListBody ps) d k h e lies = absurd h
 body_within V4 (V6Body n p b) y d k h e lies = absurd k
@@ -107,11 +120,13 @@ body_within V6 (V6Body n p b) (V6Body m o a) d k h e lies = at (p == 0) refl e
     at true z g =
         let zero_is : p ≡ 0 = eqb-true p 0 z in
         subst (λ (t : Family × ℕ × ℕ). Within (span_by (destination_body (V6Body m o a))) (t.1, last_shown t) (2 ^ 128)) (same_Some (V6, b, n) d g)
-        (v6_within m o a n b h (subst (λ q. IsNormalAt (form_of V6 1) (V6Body n q b)) zero_is k) (subst (λ q. body_lies_in 1 (V6Body m o a) (V6Body n q b) ≡ true) zero_is lies))
+        (v6_within m o a n b h (subst (λ q. IsNormalAt (form_of V6 1) (V6Body n q b)) zero_is k)
+        (subst (λ q. body_lies_in 1 (V6Body m o a) (V6Body n q b) ≡ true) zero_is lies))
 
 -- a destination lies in the first component alone
 one_kind : (kind : ℕ) → may_lie_in kind 1 ≡ true → kind ≡ 1
-one_kind kind may = elim (or_cases (kind == 1) ((1 == 4) && ((kind == 5) || (kind == 6))) may) [ inl same ↦ eqb-true kind 1 same | inr port ↦ absurd (true≢false (sym port)) ]
+one_kind kind may = elim (or_cases (kind == 1) ((1 == 4) && ((kind == 5) || (kind == 6))) may)
+    [ inl same ↦ eqb-true kind 1 same | inr port ↦ absurd (true≢false (sym port)) ]
 
 abbrev in_kind : Part → Part → Bool
 in_kind x inner = may_lie_in inner.kind 1 && body_lies_in 1 inner.body x.body
@@ -121,11 +136,13 @@ none_later family last x [] above normal some = true≢false (sym some)
 none_later family last x (y ∷ ys) above normal some =
     let risen : last < y.kind = normal.0 in
     elim (or_cases (in_kind x y) (list_any (in_kind x) ys) some) [
-      | inl here ↦ let one : y.kind ≡ 1 = one_kind y.kind (and_parts (may_lie_in y.kind 1) (body_lies_in 1 y.body x.body) here).0 in omega (arith, one, risen, above)
+      | inl here ↦ let one : y.kind ≡ 1 = one_kind y.kind (and_parts (may_lie_in y.kind 1) (body_lies_in 1 y.body x.body) here).0 in
+          omega (arith, one, risen, above)
       | inr later ↦ none_later family y.kind x ys (omega (arith, risen, above)) normal.2 later
     ]
 
-first_within : (family : Family) (x : Part) (d : Family × ℕ × ℕ) (ys : List Part) → IsNormalAt (form_of family 1) x.body → AreNormal family 0 ys → destination_body x.body ≡ Some d
+first_within : (family : Family) (x : Part) (d : Family × ℕ × ℕ) (ys : List Part) → IsNormalAt (form_of family 1) x.body → AreNormal family 0 ys
+    → destination_body x.body ≡ Some d
     → list_any (in_kind x) ys ≡ true → Within (span_by (destination_in ys)) (d.1, last_shown d) (2 ^ width_of family)
 first_within family x d [] k normal e some = absurd (true≢false (sym some))
 first_within family x d (y ∷ ys) k normal e some =
@@ -135,22 +152,26 @@ first_within family x d (y ∷ ys) k normal e some =
       | inr later ↦ absurd (none_later family y.kind x ys (omega (arith, risen)) normal.2 later)
     ]
   where
-    found : (may_lie_in y.kind 1 ≡ true) × (body_lies_in 1 y.body x.body ≡ true) → Within (span_by (destination_in (y ∷ ys))) (d.1, last_shown d) (2 ^ width_of family)
+    found : (may_lie_in y.kind 1 ≡ true) × (body_lies_in 1 y.body x.body ≡ true)
+        → Within (span_by (destination_in (y ∷ ys))) (d.1, last_shown d) (2 ^ width_of family)
     found h =
         let one : y.kind ≡ 1 = one_kind y.kind h.0 in
-        let is : destination_in (y ∷ ys) ≡ destination_body y.body = destination_first family y ys normal ∙ ap (λ q. cond (q == 1) (destination_body y.body) None) one in
+        let is : destination_in (y ∷ ys) ≡ destination_body y.body = destination_first family y ys normal
+        ∙ ap (λ q. cond (q == 1) (destination_body y.body) None) one in
         subst (λ o. Within (span_by o) (d.1, last_shown d) (2 ^ width_of family)) (sym is)
         (body_within family x.body y.body d k (subst (λ q. IsNormalAt (form_of family q) y.body) one normal.1) e h.1)
 
 parts_within : (family : Family) (xs ys : List Part) (d : Family × ℕ × ℕ) → AreNormal family 0 xs → AreNormal family 0 ys → destination_in xs ≡ Some d
-    → list_all (λ outer. list_any (λ inner. part_lies_in inner outer) ys) xs ≡ true → Within (span_by (destination_in ys)) (d.1, last_shown d) (2 ^ width_of family)
+    → list_all (λ outer. list_any (λ inner. part_lies_in inner outer) ys) xs ≡ true
+    → Within (span_by (destination_in ys)) (d.1, last_shown d) (2 ^ width_of family)
 parts_within family [] ys d normal also e all = absurd (none-some d e)
 parts_within family (x ∷ xs) ys d normal also e all = at (x.kind == 1) refl (sym (destination_first family x xs normal) ∙ e)
   where
     any : list_any (λ inner. part_lies_in inner x) ys ≡ true
     any = (and_parts (list_any (λ inner. part_lies_in inner x) ys) (list_all (λ outer. list_any (λ inner. part_lies_in inner outer) ys) xs) all).0
 
-    at : (c : Bool) → (x.kind == 1) ≡ c → cond c (destination_body x.body) None ≡ Some d → Within (span_by (destination_in ys)) (d.1, last_shown d) (2 ^ width_of family)
+    at : (c : Bool) → (x.kind == 1) ≡ c → cond c (destination_body x.body) None ≡ Some d
+        → Within (span_by (destination_in ys)) (d.1, last_shown d) (2 ^ width_of family)
     at false c g = absurd (none-some d g)
     at true c g =
         let one : x.kind ≡ 1 = eqb-true x.kind 1 c in
@@ -208,7 +229,8 @@ rule_at (x ∷ xs) (suc i) below = rule_at xs i (omega (arith, below))
 
 -- none of the first rules takes all packets of one from a number on
 abbrev pub AreApart : List Listed → (start number : ℕ) → Type 0
-AreApart rules start number = (i j : ℕ) (a b : Listed) → i < start → number ≤ j → slice_get rules i ≡ Some a → slice_get rules j ≡ Some b → takes_all a b ≡ false
+AreApart rules start number = (i j : ℕ) (a b : Listed) → i < start → number ≤ j → slice_get rules i ≡ Some a → slice_get rules j ≡ Some b
+    → takes_all a b ≡ false
 
 differ : (p q : ℕ × ℕ) → p.0 ≡ q.0 → p.1 ≡ q.1 → lie_apart (Some p) (Some q) ≡ true → ⊥
 differ p q e f h = true≢false (sym h ∙ (λ i. not (eq-eqb p.0 q.0 e i) || not (eq-eqb p.1 q.1 f i)))
@@ -235,7 +257,8 @@ module _ (rules : List Listed) (order : AreInOrder rules) where
   ]
 
   module _ (n : ℕ) (inside : n < length rules) (some : 0 < n) (anew : lie_apart (get_or spans (n - 1) None) (get_or spans n None) ≡ true)
-      (i j : ℕ) (a b : Listed) (less : i < n) (from : n ≤ j) (below : j < length rules) (at_i : slice_get rules i ≡ Some a) (at_j : slice_get rules j ≡ Some b) where
+      (i j : ℕ) (a b : Listed) (less : i < n) (from : n ≤ j) (below : j < length rules) (at_i : slice_get rules i ≡ Some a)
+      (at_j : slice_get rules j ≡ Some b) where
     before : i ≤ n - 1
     before = omega (arith, less, some)
 
@@ -261,7 +284,10 @@ module _ (rules : List Listed) (order : AreInOrder rules) where
     -- a destination of its own
     same_ends : (s t p q : ℕ × ℕ) → span_of a.rule ≡ Some s → span_of b.rule ≡ Some t → get_or spans (n - 1) None ≡ Some p → get_or spans n None ≡ Some q
         → (s.0 ≤ t.0) × (t.1 ≤ s.1) → (p.0 ≡ q.0) × (p.1 ≡ q.1)
-    same_ends s t p q e f g h within = (omega (arith, within.0, to_t.1 (omega (arith, t_ends.0, within.1, to_q, first.0)), between, inner), omega (arith, first.0, to_q, to_t.0, within.1))
+    same_ends s t p q e f g h within = (
+      omega (arith, within.0, to_t.1 (omega (arith, t_ends.0, within.1, to_q, first.0)), between, inner),
+      omega (arith, first.0, to_q, to_t.0, within.1),
+    )
       where
         first : (s.1 ≤ p.1) × (p.0 ≤ s.1 → p.0 ≤ s.0)
         first = to_p s p e g
@@ -306,7 +332,8 @@ module _ (rules : List Listed) (order : AreInOrder rules) where
     none_held holds = by_first (span_of a.rule) refl
       where
         within : (s : ℕ × ℕ) → span_of a.rule ≡ Some s → Within (span_of b.rule) s (2 ^ width_of order.family)
-        within s e = rule_within order.family a b s (each_got (IsOfFamily order.family) rules i a order.each at_i) (each_got (IsOfFamily order.family) rules j b order.each at_j) holds e
+        within s e = rule_within order.family a b s (each_got (IsOfFamily order.family) rules i a order.each at_i)
+            (each_got (IsOfFamily order.family) rules j b order.each at_j) holds e
 
         by_both : (s p q : ℕ × ℕ) → span_of a.rule ≡ Some s → get_or spans (n - 1) None ≡ Some p → get_or spans n None ≡ Some q → (o : Option (ℕ × ℕ))
             → span_of b.rule ≡ o → Within o s (2 ^ width_of order.family)
@@ -314,7 +341,8 @@ module _ (rules : List Listed) (order : AreInOrder rules) where
         by_both s p q e g h (Some t) f w apart = let same : (p.0 ≡ q.0) × (p.1 ≡ q.1) = same_ends s t p q e f g h w in differ p q same.0 same.1 apart
         by_both s p q e g h None f w apart = let same : (p.0 ≡ q.0) × (p.1 ≡ q.1) = all_ends s p q e g h w in differ p q same.0 same.1 apart
 
-        by_next : (s p : ℕ × ℕ) → span_of a.rule ≡ Some s → get_or spans (n - 1) None ≡ Some p → (o : Option (ℕ × ℕ)) → get_or spans n None ≡ o → lie_apart (Some p) o ≡ true → ⊥
+        by_next : (s p : ℕ × ℕ) → span_of a.rule ≡ Some s → get_or spans (n - 1) None ≡ Some p → (o : Option (ℕ × ℕ)) → get_or spans n None ≡ o
+            → lie_apart (Some p) o ≡ true → ⊥
         by_next s p e g (Some q) h apart = by_both s p q e g h (span_of b.rule) refl (within s e) apart
         by_next s p e g None h apart =
             let bare : span_of b.rule ≡ None = sym last_is ∙ order.nesting.bare n j from h in

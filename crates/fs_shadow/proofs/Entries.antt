@@ -1,33 +1,47 @@
 -- The entries of an index: in order, and those of one key from a place on.
-use Rattle.fs_shadow.proofs.Words.{◌≡◌, ℕ, zero, suc, ◌+◌, ◌-◌, ◌<◌, ◌≤◌, ◌==◌, ◌⊎◌, inl, inr, Bool, true, false, ◌&&◌, if◌then◌else◌, nat_le, nat_lt, Some, List, [], ◌∷◌, get_or, length, take, drop, refl, sym, ap, subst, ◌∙◌, arith, list_any, slice_get, cases_lt, eq-eqb, eqb-true, leb-true, lt-ltb, ltb-true, ltb-false, or_cases, true≢false, none-some, same_Some, length-drop, take_all, and_both, or_first, or_second, Outline, IsFirst, IsIndexOf, entries_from, first_entry, is_entry, key_of, outline_takes_all, rank, takes_as, takes_before}
+use Rattle.fs_shadow.proofs.Words.{◌≡◌, ℕ, zero, suc, ◌+◌, ◌-◌, ◌<◌, ◌≤◌, ◌==◌, ◌⊎◌, inl, inr, Bool, true, false, ◌&&◌, if◌then◌else◌, nat_le, nat_lt}
+use Rattle.fs_shadow.proofs.Words.{Some, List, [], ◌∷◌, get_or, length, take, drop, refl, sym, ap, subst, ◌∙◌, arith, list_any, slice_get, cases_lt}
+use Rattle.fs_shadow.proofs.Words.{eq-eqb, eqb-true, leb-true, lt-ltb, ltb-true, ltb-false, or_cases, true≢false, none-some, same_Some, length-drop}
+use Rattle.fs_shadow.proofs.Words.{take_all, and_both, or_first, or_second, Outline, IsFirst, IsIndexOf, entries_from, first_entry, is_entry, key_of}
+use Rattle.fs_shadow.proofs.Words.{outline_takes_all, rank, takes_as, takes_before}
 use Rattle.std.specs.List.Sorted.{IsNonDecreasingBy, IsPartitionPoint}
 use Rattle.fs_base.proofs.Bools.{and_parts}
 
 -- each rule has an entry
-entry_in : (p : ℕ) (outlines : List Outline) (i : ℕ) (o : Outline) → slice_get outlines i ≡ Some o → list_any (is_entry (key_of o.measures.items) (p + i)) (entries_from p outlines) ≡ true
+entry_in : (p : ℕ) (outlines : List Outline) (i : ℕ) (o : Outline) → slice_get outlines i ≡ Some o
+    → list_any (is_entry (key_of o.measures.items) (p + i)) (entries_from p outlines) ≡ true
 entry_in p [] i o e = absurd (none-some o e)
 entry_in p (x ∷ xs) zero o e =
-    or_first (is_entry (key_of o.measures.items) (p + 0) (key_of x.measures.items, p)) (list_any (is_entry (key_of o.measures.items) (p + 0)) (entries_from (p + 1) xs))
+    or_first (is_entry (key_of o.measures.items) (p + 0) (key_of x.measures.items, p))
+    (list_any (is_entry (key_of o.measures.items) (p + 0)) (entries_from (p + 1) xs))
     (and_both (key_of x.measures.items == key_of o.measures.items) (p == p + 0)
     (eq-eqb (key_of x.measures.items) (key_of o.measures.items) (ap (λ (y : Outline). key_of y.measures.items) (same_Some x o e)))
     (eq-eqb p (p + 0) (omega arith)))
 entry_in p (x ∷ xs) (suc i) o e =
-    or_second (is_entry (key_of o.measures.items) (p + suc i) (key_of x.measures.items, p)) (list_any (is_entry (key_of o.measures.items) (p + suc i)) (entries_from (p + 1) xs))
-    (subst (λ k. list_any (is_entry (key_of o.measures.items) k) (entries_from (p + 1) xs) ≡ true) (let e : p + 1 + i ≡ p + suc i = omega arith in e) (entry_in (p + 1) xs i o e))
+    or_second (is_entry (key_of o.measures.items) (p + suc i) (key_of x.measures.items, p))
+    (list_any (is_entry (key_of o.measures.items) (p + suc i)) (entries_from (p + 1) xs))
+    (subst (λ k. list_any (is_entry (key_of o.measures.items) k) (entries_from (p + 1) xs) ≡ true) (let e : p + 1 + i ≡ p + suc i = omega arith in
+    e) (entry_in (p + 1) xs i o e))
 
 pub has_entry : (outlines : List Outline) (index : List (ℕ × ℕ)) (i : ℕ) (o : Outline) → IsIndexOf outlines index → slice_get outlines i ≡ Some o
     → list_any (is_entry (key_of o.measures.items) i) index ≡ true
-has_entry outlines index i o is e = is.has (key_of o.measures.items) i ∙ subst (λ k. list_any (is_entry (key_of o.measures.items) k) (entries_from 0 outlines) ≡ true) (let z : 0 + i ≡ i = omega arith in z) (entry_in 0 outlines i o e)
+has_entry outlines index i o is e = is.has (key_of o.measures.items) i
+    ∙ subst (λ k. list_any (is_entry (key_of o.measures.items) k) (entries_from 0 outlines) ≡ true) (let z : 0 + i ≡ i = omega arith in
+    z) (entry_in 0 outlines i o e)
 
 -- entries in order, from a rank on
 abbrev pub AreRising : ℕ → List (ℕ × ℕ) → Type 0
 AreRising low [] = Unit {0}
 AreRising low (entry ∷ entries) = (low ≤ rank entry.0 entry.1) × AreRising (rank entry.0 entry.1) entries
 
-rising : (low : ℕ) (es : List (ℕ × ℕ)) → ((k : ℕ) (d : ℕ × ℕ) → k < length es → low ≤ rank (get_or es k d).0 (get_or es k d).1) → IsNonDecreasingBy (λ e. rank e.0 e.1) es → AreRising low es
+rising : (low : ℕ) (es : List (ℕ × ℕ)) → ((k : ℕ) (d : ℕ × ℕ) → k < length es → low ≤ rank (get_or es k d).0 (get_or es k d).1)
+    → IsNonDecreasingBy (λ e. rank e.0 e.1) es → AreRising low es
 rising low [] from rises = tt
-rising low (e ∷ es) from rises =
-    (from 0 e (omega arith), rising (rank e.0 e.1) es (λ k d below. rises 0 (suc k) d (omega arith) (omega (arith, below))) (λ i j d order below. rises (suc i) (suc j) d (omega (arith, order)) (omega (arith, below))))
+rising low (e ∷ es) from rises = (
+  from 0 e (omega arith),
+  rising (rank e.0 e.1) es (λ k d below. rises 0 (suc k) d (omega arith) (omega (arith, below)))
+      (λ i j d order below. rises (suc i) (suc j) d (omega (arith, order)) (omega (arith, below))),
+)
 
 -- entries behind those whose rank is lower
 pub rising_from : (low from : ℕ) (es : List (ℕ × ℕ)) → IsNonDecreasingBy (λ e. rank e.0 e.1) es
@@ -35,10 +49,12 @@ pub rising_from : (low from : ℕ) (es : List (ℕ × ℕ)) → IsNonDecreasingB
 rising_from low zero es rises over = rising low es (λ k d below. over k d (omega arith) below) rises
 rising_from low (suc from) [] rises over = tt
 rising_from low (suc from) (e ∷ es) rises over =
-    rising_from low from es (λ i j d order below. rises (suc i) (suc j) d (omega (arith, order)) (omega (arith, below))) (λ k d most below. over (suc k) d (omega (arith, most)) (omega (arith, below)))
+    rising_from low from es (λ i j d order below. rises (suc i) (suc j) d (omega (arith, order)) (omega (arith, below)))
+    (λ k d most below. over (suc k) d (omega (arith, most)) (omega (arith, below)))
 
 -- an entry is the first, or one behind it
-in_entries : (key place : ℕ) (e : ℕ × ℕ) (es : List (ℕ × ℕ)) → list_any (is_entry key place) (e ∷ es) ≡ true → ((e.0 ≡ key) × (e.1 ≡ place)) ⊎ (list_any (is_entry key place) es ≡ true)
+in_entries : (key place : ℕ) (e : ℕ × ℕ) (es : List (ℕ × ℕ)) → list_any (is_entry key place) (e ∷ es) ≡ true
+    → ((e.0 ≡ key) × (e.1 ≡ place)) ⊎ (list_any (is_entry key place) es ≡ true)
 in_entries key place e es h = elim (or_cases (is_entry key place e) (list_any (is_entry key place) es) h) [
   | inl here ↦ let p = and_parts (e.0 == key) (e.1 == place) here in inl (eqb-true e.0 key p.0, eqb-true e.1 place p.1)
   | inr later ↦ inr later
@@ -49,11 +65,13 @@ rank_from : (low key place : ℕ) (es : List (ℕ × ℕ)) → AreRising low es 
 rank_from low key place [] rises h = absurd (true≢false (sym h))
 rank_from low key place (e ∷ es) rises h = elim (in_entries key place e es h) [
   | inl same ↦ let r : low ≤ rank e.0 e.1 = rises.0 in subst (λ k. low ≤ rank k place) same.0 (subst (λ k. low ≤ rank e.0 k) same.1 r)
-  | inr later ↦ let r : low ≤ rank e.0 e.1 = rises.0 in let s : rank e.0 e.1 ≤ rank key place = rank_from (rank e.0 e.1) key place es rises.1 later in omega (arith, r, s)
+  | inr later ↦ let r : low ≤ rank e.0 e.1 = rises.0 in let s : rank e.0 e.1 ≤ rank key place = rank_from (rank e.0 e.1) key place es rises.1 later in
+      omega (arith, r, s)
 ]
 
 -- what stands behind those of a lower rank
-pub dropped_has : (key place low from : ℕ) (es : List (ℕ × ℕ)) → ((k : ℕ) (d : ℕ × ℕ) → k < from → k < length es → rank (get_or es k d).0 (get_or es k d).1 < low) → low ≤ rank key place
+pub dropped_has : (key place low from : ℕ) (es : List (ℕ × ℕ))
+    → ((k : ℕ) (d : ℕ × ℕ) → k < from → k < length es → rank (get_or es k d).0 (get_or es k d).1 < low) → low ≤ rank key place
     → list_any (is_entry key place) es ≡ true → list_any (is_entry key place) (drop from es) ≡ true
 dropped_has key place low zero es under most h = h
 dropped_has key place low (suc from) [] under most h = h
@@ -99,7 +117,8 @@ module _ (outlines : List Outline) (later : Outline) (key end : ℕ) where
       no_lower q h = rank_from (rank e.0 e.1) key q (e ∷ es) ((let z : rank e.0 e.1 ≤ rank e.0 e.1 = omega arith in z), rises.1) h
 
       over_end : nat_le (rank key end) (rank e.0 e.1) ≡ true → IsFound outlines later key end (e ∷ es) end
-      over_end h = ends (e ∷ es) (λ q less i. let r : rank e.0 e.1 ≤ rank key q = no_lower q i in let s : rank key end ≤ rank e.0 e.1 = leb-true (rank key end) (rank e.0 e.1) h in omega (arith, r, s, less))
+      over_end h = ends (e ∷ es) (λ q less i. let r : rank e.0 e.1 ≤ rank key q = no_lower q i in let s : rank key end ≤ rank e.0 e.1 =
+          leb-true (rank key end) (rank e.0 e.1) h in omega (arith, r, s, less))
 
       here : taking ≡ true → IsFound outlines later key end (e ∷ es) e.1
       here h =
@@ -125,7 +144,8 @@ module _ (outlines : List Outline) (later : Outline) (key end : ℕ) where
           this : (q : ℕ) → q < rest → e.0 ≡ key → e.1 ≡ q → takes_as (slice_get outlines q) later ≡ false
           this q less same at =
               let w = f.within in
-              let b : ((e.0 == key) && nat_lt e.1 end) ≡ true = and_both (e.0 == key) (nat_lt e.1 end) (eq-eqb e.0 key same) (lt-ltb e.1 end (let z : e.1 < end = omega (arith, less, at, w) in z)) in
+              let b : ((e.0 == key) && nat_lt e.1 end) ≡ true =
+              and_both (e.0 == key) (nat_lt e.1 end) (eq-eqb e.0 key same) (lt-ltb e.1 end (let z : e.1 < end = omega (arith, less, at, w) in z)) in
               subst (λ k. takes_as (slice_get outlines k) later ≡ false) at (sym (ap (λ (x : Bool). x && takes_as (slice_get outlines e.1) later) b) ∙ h)
 
           none : (q : ℕ) → q < rest → list_any (is_entry key q) (e ∷ es) ≡ true → takes_as (slice_get outlines q) later ≡ false
@@ -158,7 +178,8 @@ first_of outlines index later key start end from is order parted = record {
     place = first_entry outlines later key end (drop from index)
 
     rises : AreRising (rank key start) (drop from index)
-    rises = rising_from (rank key start) from index is.rising (λ k d most below. ltb-false (rank (get_or index k d).0 (get_or index k d).1) (rank key start) (parted.1 k d most below))
+    rises = rising_from (rank key start) from index is.rising
+        (λ k d most below. ltb-false (rank (get_or index k d).0 (get_or index k d).1) (rank key start) (parted.1 k d most below))
 
     f : IsFound outlines later key end (drop from index) place
     f = finds outlines later key end (rank key start) (drop from index) rises
@@ -169,13 +190,16 @@ first_of outlines index later key start end from is order parted = record {
       | inr most ↦ omega (arith, most, order)
     ]
 
-    none : (q : ℕ) (o : Outline) → start ≤ q → q < place → slice_get outlines q ≡ Some o → (key_of o.measures.items == key) ≡ true → outline_takes_all o later ≡ false
+    none : (q : ℕ) (o : Outline) → start ≤ q → q < place → slice_get outlines q ≡ Some o → (key_of o.measures.items == key) ≡ true
+        → outline_takes_all o later ≡ false
     none q o after less at asked =
         let same : key_of o.measures.items ≡ key = eqb-true (key_of o.measures.items) key asked in
         let has : list_any (is_entry key q) index ≡ true = subst (λ k. list_any (is_entry k q) index ≡ true) same (has_entry outlines index q o is at) in
         let most : rank key start ≤ rank key q = omega (arith, after) in
         let still : list_any (is_entry key q) (drop from index) ≡ true =
-        dropped_has key q (rank key start) from index (λ k d under below. ltb-true (rank (get_or index k d).0 (get_or index k d).1) (rank key start) (parted.0 k d (omega arith) under)) most has in
+        dropped_has key q (rank key start) from index
+        (λ k d under below. ltb-true (rank (get_or index k d).0 (get_or index k d).1) (rank key start) (parted.0 k d (omega arith) under)) most
+        has in
         sym (ap (λ x. takes_as x later) at) ∙ f.none q less still
 
 -- the rule of an entry, where it is one of the key and before the end

@@ -1,5 +1,9 @@
 -- When all numbers that have some bits have some others too: by their ends, and by the bits.
-use Rattle.fs_shadow.proofs.{Words.{◌≡◌, ℕ, ◌+◌, ◌-◌, ◌*◌, ◌/◌, ◌^◌, ◌<◌, ◌≤◌, ◌==◌, Bool, true, ◌&&◌, sym, ap, subst, ◌∙◌, arith, inl, inr, and_from, and_parts, cases_lt, eq-eqb, eqb-true, pow-add, pow_pos, shl_below, add-mul, mod-one, mul-le-mul_right, all_below, implies, highest_with, lowest_with}, Below.{below_is, follows, implied}, Patterns.{begins_within, bits_at, bits_of_bits, ends_within, highest_has, lowest_has}}
+use Rattle.fs_shadow.proofs.Words.{◌≡◌, ℕ, ◌+◌, ◌-◌, ◌*◌, ◌/◌, ◌^◌, ◌<◌, ◌≤◌, ◌==◌, Bool, true, ◌&&◌, sym, ap, subst, ◌∙◌, arith, inl, inr, and_from}
+use Rattle.fs_shadow.proofs.Words.{and_parts, cases_lt, eq-eqb, eqb-true, pow-add, pow_pos, shl_below, add-mul, mod-one, mul-le-mul_right, all_below}
+use Rattle.fs_shadow.proofs.Words.{implies, highest_with, lowest_with}
+use Rattle.fs_shadow.proofs.Below.{below_is, follows, implied}
+use Rattle.fs_shadow.proofs.Patterns.{begins_within, bits_at, bits_of_bits, ends_within, highest_has, lowest_has}
 
 -- a test of numbers of w bits passes those that have these bits: n of them above the k lowest, below the o highest
 pub record Knows (w : ℕ) (test : ℕ → Bool) (o n k v : ℕ) : Type 0 where
@@ -32,7 +36,8 @@ highest_below w o n k v width small =
     let all : w ≡ (o + n) + k = omega (arith, width) in
     let p : 0 < 2 ^ o = pow_pos o in
     let q : 0 < 2 ^ k = pow_pos k in
-    let a : (2 ^ o - 1) * 2 ^ n + v < 2 ^ (o + n) = subst (λ j. (2 ^ o - 1) * 2 ^ n + v < j) (sym (pow-add 2 o n)) (row (2 ^ o - 1) (2 ^ n) v (2 ^ o) (omega arith) small) in
+    let a : (2 ^ o - 1) * 2 ^ n + v < 2 ^ (o + n) =
+    subst (λ j. (2 ^ o - 1) * 2 ^ n + v < j) (sym (pow-add 2 o n)) (row (2 ^ o - 1) (2 ^ n) v (2 ^ o) (omega arith) small) in
     subst (λ j. highest_with o n k v < j) (sym (ap (λ j. 2 ^ j) all ∙ pow-add 2 (o + n) k))
     (row ((2 ^ o - 1) * 2 ^ n + v) (2 ^ k) (2 ^ k - 1) (2 ^ (o + n)) a (omega arith))
 
@@ -80,7 +85,8 @@ module _ (w : ℕ) (inner outer : ℕ → Bool) (o n k v p m j u : ℕ) (knows :
           let h = and_parts (outer (lowest_with k v)) (outer (highest_with o n k v)) both in
           implied (inner x) (outer x)
           (λ e. passes w p m j u x outer known
-          (agree (passed w p m j u (lowest_with k v) outer known h.0) (passed w p m j u (highest_with o n k v) outer known h.1) x (passed w o n k v x inner knows e)))
+          (agree (passed w p m j u (lowest_with k v) outer known h.0) (passed w p m j u (highest_with o n k v) outer known h.1) x
+          (passed w o n k v x inner knows e)))
 
       at : ((x : ℕ) → x < 2 ^ w → implies (inner x) (outer x) ≡ true) → (x : ℕ) → x < 2 ^ w → bits_at n k x ≡ v → outer x ≡ true
       at each x below e = follows (inner x) (outer x) (each x below) (passes w o n k v x inner knows e)

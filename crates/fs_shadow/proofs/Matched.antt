@@ -1,5 +1,11 @@
 -- A packet that matches what lies in something matches that too: lists, prefixes, components, rules.
-use Rattle.fs_shadow.proofs.{Words.{◌<◌, ◌≡◌, ℕ, ◌^◌, ◌==◌, Bool, true, false, cond, ◌||◌, Option, Some, None, List, [], ◌∷◌, refl, sym, subst, ◌∙◌, inl, inr, arith, list_all, list_any, and_from, and_parts, eq-eqb, eqb-true, or_cases, or_left, or_right, true≢false, or_false, or_weaker, Family, V4, V6, afi_of, compares, holds, Body, V4Body, V6Body, ListBody, Part, Viewed, body_matches, holds_of, is_prefix_of, list_matches, part_matches, IsSmall, IsSmallAddress, IsSmallField, are_same_pairs, body_lies_in, implies, is_same_pair, list_lies_in, may_lie_in, numbers_lie_in, part_lies_in, tests_bits, ContainedMatches}, Below.{each_below, follows}}
+use Rattle.fs_shadow.proofs.Words.{◌<◌, ◌≡◌, ℕ, ◌^◌, ◌==◌, Bool, true, false, cond, ◌||◌, Option, Some, None, List, [], ◌∷◌, refl, sym, subst, ◌∙◌}
+use Rattle.fs_shadow.proofs.Words.{inl, inr, arith, list_all, list_any, and_from, and_parts, eq-eqb, eqb-true, or_cases, or_left, or_right}
+use Rattle.fs_shadow.proofs.Words.{true≢false, or_false, or_weaker, Family, V4, V6, afi_of, compares, holds, Body, V4Body, V6Body, ListBody, Part}
+use Rattle.fs_shadow.proofs.Words.{Viewed, body_matches, holds_of, is_prefix_of, list_matches, part_matches, IsSmall, IsSmallAddress, IsSmallField}
+use Rattle.fs_shadow.proofs.Words.{are_same_pairs, body_lies_in, implies, is_same_pair, list_lies_in, may_lie_in, numbers_lie_in, part_lies_in}
+use Rattle.fs_shadow.proofs.Words.{tests_bits, ContainedMatches}
+use Rattle.fs_shadow.proofs.Below.{each_below, follows}
 use Rattle.fs_base.specs.declared.config.Address.{Address}
 
 no_truth : {P : Type 0} → false ≡ true → P
@@ -16,7 +22,8 @@ second_way true a b x y e g h = absurd (true≢false e)
 second_way false a b x y e g h = g h
 
 -- a field that the inner list holds of is one that the outer list holds of
-field_holds : (inner outer : List (ℕ × ℕ)) (field : Option ℕ) → IsSmallField field → numbers_lie_in inner outer ≡ true → holds_of inner field ≡ true → holds_of outer field ≡ true
+field_holds : (inner outer : List (ℕ × ℕ)) (field : Option ℕ) → IsSmallField field → numbers_lie_in inner outer ≡ true → holds_of inner field ≡ true
+    → holds_of outer field ≡ true
 field_holds inner outer None small lies h = no_truth h
 field_holds inner outer (Some n) small lies h =
     follows (holds (compares n) inner) (holds (compares n) outer)
@@ -98,14 +105,17 @@ body_implied view small kind (ListBody inner) (V6Body n p b) lies h = no_truth l
 port_implied : (view : Viewed) → IsSmall view → (inner outer : Body) → body_lies_in 4 inner outer ≡ true
     → (body_matches view 5 inner || body_matches view 6 inner) ≡ true → body_matches view 4 outer ≡ true
 port_implied view small (ListBody inner) (ListBody outer) lies h =
-    or_weaker _ _ _ _ (field_holds inner outer view.source_port small.source_port lies) (field_holds inner outer view.destination_port small.destination_port lies)
-    (elim (or_cases (holds_of inner view.destination_port) (holds_of inner view.source_port) h) [ inl first ↦ or_right _ _ first | inr second ↦ or_left _ _ second ])
+    or_weaker _ _ _ _ (field_holds inner outer view.source_port small.source_port lies)
+    (field_holds inner outer view.destination_port small.destination_port lies)
+    (elim (or_cases (holds_of inner view.destination_port) (holds_of inner view.source_port) h)
+    [ inl first ↦ or_right _ _ first | inr second ↦ or_left _ _ second ])
 port_implied view small (V4Body f m a) outer lies h = no_truth h
 port_implied view small (V6Body m o a) outer lies h = no_truth h
 port_implied view small (ListBody inner) (V4Body g n b) lies h = no_truth lies
 port_implied view small (ListBody inner) (V6Body n p b) lies h = no_truth lies
 
-part_implied : (view : Viewed) → IsSmall view → (inner outer : Part) → part_lies_in inner outer ≡ true → part_matches view inner ≡ true → part_matches view outer ≡ true
+part_implied : (view : Viewed) → IsSmall view → (inner outer : Part) → part_lies_in inner outer ≡ true → part_matches view inner ≡ true
+    → part_matches view outer ≡ true
 part_implied view small inner outer lies h = elim (or_cases (inner.kind == outer.kind) _ parts.0) [
   | inl same ↦
       body_implied view small outer.kind inner.body outer.body parts.1
@@ -139,13 +149,16 @@ all_implied : (view : Viewed) → IsSmall view → (parts outers : List Part) �
     → list_all (part_matches view) parts ≡ true → list_all (part_matches view) outers ≡ true
 all_implied view small parts [] each h = refl
 all_implied view small parts (outer ∷ outers) each h =
-    let both = and_parts (list_any (λ inner. part_lies_in inner outer) parts) (list_all (λ other. list_any (λ inner. part_lies_in inner other) parts) outers) each in
-    and_from (part_matches view outer) (list_all (part_matches view) outers) (any_implied view small outer parts both.0 h) (all_implied view small parts outers both.1 h)
+    let both = and_parts (list_any (λ inner. part_lies_in inner outer) parts)
+    (list_all (λ other. list_any (λ inner. part_lies_in inner other) parts) outers) each in
+    and_from (part_matches view outer) (list_all (part_matches view) outers) (any_implied view small outer parts both.0 h)
+    (all_implied view small parts outers both.1 h)
 
 pub contained_matches : ContainedMatches
 contained_matches a b view small lies h =
     let inside = and_parts (afi_of a.family == afi_of b.family) (list_all (λ outer. list_any (λ inner. part_lies_in inner outer) b.parts) a.parts) lies in
     let met = and_parts (afi_of b.family == afi_of view.family) (list_all (part_matches view) b.parts) h in
     and_from (afi_of a.family == afi_of view.family) (list_all (part_matches view) a.parts)
-    (eq-eqb (afi_of a.family) (afi_of view.family) (eqb-true (afi_of a.family) (afi_of b.family) inside.0 ∙ eqb-true (afi_of b.family) (afi_of view.family) met.0))
+    (eq-eqb (afi_of a.family) (afi_of view.family) (eqb-true (afi_of a.family) (afi_of b.family) inside.0
+    ∙ eqb-true (afi_of b.family) (afi_of view.family) met.0))
     (all_implied view small b.parts a.parts inside.1 met.1)

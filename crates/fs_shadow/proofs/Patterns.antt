@@ -1,5 +1,7 @@
 -- Bits of numbers, n of them above the k lowest: when those at one place tell those at another.
-use Rattle.fs_shadow.proofs.Words.{◌≡◌, ℕ, ◌+◌, ◌-◌, ◌*◌, ◌/◌, ◌%◌, ◌^◌, ◌<◌, ◌≤◌, inl, inr, sym, ap, subst, ◌∙◌, arith, field_of, mod_below, mod_low, pow-add, pow_pos, shl-shr, shr-shr, shr_high, add-mul, div-eq_of_lt, mod-eq_of_lt, mul_assoc, mul-mod_left, zero-div, cases_lt, cleared, highest_with, lowest_with}
+use Rattle.fs_shadow.proofs.Words.{◌≡◌, ℕ, ◌+◌, ◌-◌, ◌*◌, ◌/◌, ◌%◌, ◌^◌, ◌<◌, ◌≤◌, inl, inr, sym, ap, subst, ◌∙◌, arith, field_of, mod_below, mod_low}
+use Rattle.fs_shadow.proofs.Words.{pow-add, pow_pos, shl-shr, shr-shr, shr_high, add-mul, div-eq_of_lt, mod-eq_of_lt, mul_assoc, mul-mod_left}
+use Rattle.fs_shadow.proofs.Words.{zero-div, cases_lt, cleared, highest_with, lowest_with}
 use Rattle.std.proofs.Math.Pow.{mod-mod-pow}
 
 -- the n bits above the k lowest
@@ -84,13 +86,15 @@ high_odd i k u = ap (λ q. q / 2 ^ k % 2) split ∙ ap (λ q. q % 2) (shr_high (
     split =
         let a : u * 2 ^ ((i + 1) + k) ≡ u * 2 ^ (i + 1) * 2 ^ k = ap (λ q. u * q) (pow-add 2 (i + 1) k) ∙ sym (mul_assoc u (2 ^ (i + 1)) (2 ^ k)) in
         let b : 2 ^ ((i + 1) + k) - 1 ≡ (2 ^ (i + 1) - 1) * 2 ^ k + (2 ^ k - 1) = ones_split (i + 1) k in
-        let c : (u * 2 ^ (i + 1) + (2 ^ (i + 1) - 1)) * 2 ^ k ≡ u * 2 ^ (i + 1) * 2 ^ k + (2 ^ (i + 1) - 1) * 2 ^ k = add-mul (u * 2 ^ (i + 1)) (2 ^ (i + 1) - 1) (2 ^ k) in
+        let c : (u * 2 ^ (i + 1) + (2 ^ (i + 1) - 1)) * 2 ^ k ≡ u * 2 ^ (i + 1) * 2 ^ k + (2 ^ (i + 1) - 1) * 2 ^ k =
+        add-mul (u * 2 ^ (i + 1)) (2 ^ (i + 1) - 1) (2 ^ k) in
         omega arith
 
 -- bits that begin above the highest that is known
 top_zero : (n k s v : ℕ) → v < 2 ^ n → v * 2 ^ k / 2 ^ ((k + n) + s) % 2 ≡ 0
 top_zero n k s v small =
-    ap (λ q. q % 2) (sym (shr-shr (v * 2 ^ k) (k + n) s) ∙ ap (λ q. q / 2 ^ s) (sym (shr-shr (v * 2 ^ k) k n) ∙ ap (λ q. q / 2 ^ n) (shl-shr v k) ∙ div-eq_of_lt small) ∙ zero-div (2 ^ s))
+    ap (λ q. q % 2) (sym (shr-shr (v * 2 ^ k) (k + n) s)
+    ∙ ap (λ q. q / 2 ^ s) (sym (shr-shr (v * 2 ^ k) k n) ∙ ap (λ q. q / 2 ^ n) (shl-shr v k) ∙ div-eq_of_lt small) ∙ zero-div (2 ^ s))
 
 top_one : (o n k s v : ℕ) → v < 2 ^ n → highest_with ((o + 1) + s) n k v / 2 ^ ((k + n) + s) % 2 ≡ 1
 top_one o n k s v small =
@@ -120,15 +124,18 @@ ends_within o n k v m j some same = elim (cases_lt j k) [ inl less ↦ absurd (a
     at i e =
         differ (bits_at m j (lowest_with k v) % 2) (bits_at m j (highest_with o n k v) % 2)
         (parity m j (lowest_with k v) some ∙ ap (λ q. v * 2 ^ q / 2 ^ j % 2) e ∙ low_even i j v)
-        (parity m j (highest_with o n k v) some ∙ ap (λ q. (((2 ^ o - 1) * 2 ^ n + v) * 2 ^ q + (2 ^ q - 1)) / 2 ^ j % 2) e ∙ high_odd i j ((2 ^ o - 1) * 2 ^ n + v))
+        (parity m j (highest_with o n k v) some ∙ ap (λ q. (((2 ^ o - 1) * 2 ^ n + v) * 2 ^ q + (2 ^ q - 1)) / 2 ^ j % 2) e
+        ∙ high_odd i j ((2 ^ o - 1) * 2 ^ n + v))
         (ap (λ q. q % 2) same)
 
-pub begins_within : (o n k v p m j : ℕ) → v < 2 ^ n → 0 < m → o + (n + k) ≡ p + (m + j) → bits_at m j (lowest_with k v) ≡ bits_at m j (highest_with o n k v) → o ≤ p
+pub begins_within : (o n k v p m j : ℕ) → v < 2 ^ n → 0 < m → o + (n + k) ≡ p + (m + j)
+    → bits_at m j (lowest_with k v) ≡ bits_at m j (highest_with o n k v) → o ≤ p
 begins_within o n k v p m j small some width same = elim (cases_lt p o) [ inl less ↦ absurd (at (o - p - 1) (omega arith) (omega arith)) | inr most ↦ most ]
   where
     at : (s : ℕ) → o ≡ (p + 1) + s → j + (m - 1) ≡ (k + n) + s → ⊥
     at s e f =
         differ (bits_at m j (lowest_with k v) / 2 ^ (m - 1)) (bits_at m j (highest_with o n k v) / 2 ^ (m - 1))
         (top m j (lowest_with k v) some ∙ ap (λ q. v * 2 ^ k / 2 ^ q % 2) f ∙ top_zero n k s v small)
-        (top m j (highest_with o n k v) some ∙ ap (λ q. highest_with o n k v / 2 ^ q % 2) f ∙ ap (λ q. highest_with q n k v / 2 ^ ((k + n) + s) % 2) e ∙ top_one p n k s v small)
+        (top m j (highest_with o n k v) some ∙ ap (λ q. highest_with o n k v / 2 ^ q % 2) f ∙ ap (λ q. highest_with q n k v / 2 ^ ((k + n) + s) % 2) e
+        ∙ top_one p n k s v small)
         (ap (λ q. q / 2 ^ (m - 1)) same)

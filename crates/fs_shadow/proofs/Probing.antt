@@ -1,5 +1,13 @@
 -- Which rules may take all packets of another by the single numbers that they ask for, and where these stand in order.
-use Rattle.fs_shadow.{proofs.{Words.{◌≡◌, ℕ, zero, suc, ◌+◌, ◌-◌, ◌^◌, ◌<◌, ◌≤◌, ◌==◌, inl, inr, Bool, true, false, not, ◌&&◌, if◌then◌else◌, Option, Some, None, List, [], ◌∷◌, get_or, length, max, take, drop, refl, sym, ap, subst, ◌∙◌, arith, AllByRecursion, list_all, list_any, slice_get, cases_Bool, cases_lt, eq-eqb, or_cases, true≢false, none-some, afi_of, or_first, or_second, compares, holds, contains, Extent, Numbers, Bits, Measure, Outline, implies, may_lie_in, Part, Listed, each_got, AreMeasuresOf, IsMeasureOf, IsTold, TakesIn, TakesOne, extent_lies_in, has_probe, is_probed, key_in, measure_lies_in, number_or_none, AreOutlinesOf, IsFirst, IsOutlineOf, first_taker, is_asked, is_number, key_of, outline_takes_all, probes, takes_as}, Below.{each_below, follows}}, specs.declared.extents.Extent.TheVariants.{V4, V6}}
+use Rattle.fs_shadow.proofs.Words.{◌≡◌, ℕ, zero, suc, ◌+◌, ◌-◌, ◌^◌, ◌<◌, ◌≤◌, ◌==◌, inl, inr, Bool, true, false, not, ◌&&◌, if◌then◌else◌, Option}
+use Rattle.fs_shadow.proofs.Words.{Some, None, List, [], ◌∷◌, get_or, length, max, take, drop, refl, sym, ap, subst, ◌∙◌, arith, AllByRecursion}
+use Rattle.fs_shadow.proofs.Words.{list_all, list_any, slice_get, cases_Bool, cases_lt, eq-eqb, or_cases, true≢false, none-some, afi_of, or_first}
+use Rattle.fs_shadow.proofs.Words.{or_second, compares, holds, contains, Extent, Numbers, Bits, Measure, Outline, implies, may_lie_in, Part, Listed}
+use Rattle.fs_shadow.proofs.Words.{each_got, AreMeasuresOf, IsMeasureOf, IsTold, TakesIn, TakesOne, extent_lies_in, has_probe, is_probed, key_in}
+use Rattle.fs_shadow.proofs.Words.{measure_lies_in, number_or_none, AreOutlinesOf, IsFirst, IsOutlineOf, first_taker, is_asked, is_number, key_of}
+use Rattle.fs_shadow.proofs.Words.{outline_takes_all, probes, takes_as}
+use Rattle.fs_shadow.proofs.Below.{each_below, follows}
+use Rattle.fs_shadow.specs.declared.extents.Extent.TheVariants.{V4, V6}
 use Rattle.fs_base.proofs.Bools.{and_parts}
 
 -- the key
@@ -7,7 +15,8 @@ use Rattle.fs_base.proofs.Bools.{and_parts}
 -- what lies in an extent with one number has none but that
 held_is : (e f : Extent) (w n : ℕ) → extent_lies_in e f ≡ true → TakesIn e w → TakesOne f → TakesIn f n → w ≡ n
 held_is (Numbers xs) (Numbers ys) w n lies held one has =
-    one w n held.0 has.0 (follows (contains xs w) (contains ys w) (each_below (2 ^ 64) (λ k. implies (contains xs k) (contains ys k)) lies w held.0) held.1) has.1
+    one w n held.0 has.0 (follows (contains xs w) (contains ys w) (each_below (2 ^ 64) (λ k. implies (contains xs k) (contains ys k)) lies w held.0)
+    held.1) has.1
 held_is (Numbers xs) (V4 y) w n lies held one has = absurd one
 held_is (Numbers xs) (V6 y) w n lies held one has = absurd one
 held_is (Numbers xs) (Bits y) w n lies held one has = absurd one
@@ -26,7 +35,8 @@ has_held (V6 x) (Numbers ys) held lies one probed none = true≢false (sym lies)
 has_held (Bits x) (Numbers ys) held lies one probed none = true≢false (sym lies)
 
 -- one pair holds of a number where its comparison does
-pub one_holds : (k : ℕ) (pairs : List (ℕ × ℕ)) → 1 ≤ length pairs → length pairs < 2 → holds (compares k) pairs ≡ true → compares k (get_or pairs 0 (0, 0)) ≡ true
+pub one_holds : (k : ℕ) (pairs : List (ℕ × ℕ)) → 1 ≤ length pairs → length pairs < 2 → holds (compares k) pairs ≡ true
+    → compares k (get_or pairs 0 (0, 0)) ≡ true
 one_holds k [] least below h = absurd (omega (arith, least))
 one_holds k (p ∷ q ∷ ps) least below h = absurd (omega (arith, below))
 one_holds k (p ∷ []) least below h = elim (or_cases (compares k p && true) false h) [
@@ -48,7 +58,8 @@ measure_probes inner outer n told also single has probed lies = at inner.held re
         let same : w ≡ n = held_is inner.extent outer.extent w n p.1 (told.held w e) (also.single single) (also.held n has) in
         ap (is_number n) e ∙ eq-eqb w n same
 
-any_probes : (outer : Measure) (n : ℕ) (inner : List Measure) → AllByRecursion IsTold inner → IsTold outer → outer.single ≡ true → outer.held ≡ Some n → list_all is_probed inner ≡ true
+any_probes : (outer : Measure) (n : ℕ) (inner : List Measure) → AllByRecursion IsTold inner → IsTold outer → outer.single ≡ true → outer.held ≡ Some n
+    → list_all is_probed inner ≡ true
     → list_any (λ m. measure_lies_in m outer) inner ≡ true → list_any (probes n) inner ≡ true
 any_probes outer n [] told also single has probed lies = lies
 any_probes outer n (m ∷ ms) told also single has probed lies =
@@ -85,16 +96,21 @@ asked_for (m ∷ ms) inner told also probed all =
     ]
 
 -- a rule that takes all packets of another is asked for
-pub takers_asked : (earlier later : Outline) → AllByRecursion IsTold earlier.measures.items → AllByRecursion IsTold later.measures.items → list_all is_probed later.measures.items ≡ true
+pub takers_asked : (earlier later : Outline) → AllByRecursion IsTold earlier.measures.items → AllByRecursion IsTold later.measures.items
+    → list_all is_probed later.measures.items ≡ true
     → outline_takes_all earlier later ≡ true → is_asked later.measures.items (key_of earlier.measures.items) ≡ true
 takers_asked earlier later told also probed takes =
-    let p = and_parts (not earlier.goes_on) ((afi_of earlier.family == afi_of later.family) && list_all (λ outer. list_any (λ inner. measure_lies_in inner outer) later.measures.items) earlier.measures.items) takes in
-    let q = and_parts (afi_of earlier.family == afi_of later.family) (list_all (λ outer. list_any (λ inner. measure_lies_in inner outer) later.measures.items) earlier.measures.items) p.1 in
+    let p = and_parts (not earlier.goes_on)
+    ((afi_of earlier.family == afi_of later.family)
+    && list_all (λ outer. list_any (λ inner. measure_lies_in inner outer) later.measures.items) earlier.measures.items) takes in
+    let q = and_parts (afi_of earlier.family == afi_of later.family)
+    (list_all (λ outer. list_any (λ inner. measure_lies_in inner outer) later.measures.items) earlier.measures.items) p.1 in
     asked_for earlier.measures.items later.measures.items told also probed q.1
 
 -- the first that takes all packets
 
-pub found : (later : Outline) (place s : ℕ) (window : List Outline) → s ≤ place → ((i : ℕ) (o : Outline) → slice_get window i ≡ Some o → s + i < place → outline_takes_all o later ≡ false)
+pub found : (later : Outline) (place s : ℕ) (window : List Outline) → s ≤ place
+    → ((i : ℕ) (o : Outline) → slice_get window i ≡ Some o → s + i < place → outline_takes_all o later ≡ false)
     → takes_as (slice_get window (place - s)) later ≡ true → first_taker s window later ≡ Some place
 found later place s [] from none takes = absurd (true≢false (sym takes))
 found later place s (o ∷ os) from none takes = elim (cases_lt s place) [
@@ -103,11 +119,13 @@ found later place s (o ∷ os) from none takes = elim (cases_lt s place) [
       ∙ found later place (s + 1) os (omega (arith, less)) (λ i x e l. none (suc i) x e (omega (arith, l)))
       (subst (λ k. takes_as (slice_get (o ∷ os) k) later ≡ true) (let e : place - s ≡ suc (place - (s + 1)) = omega (arith, less) in e) takes)
   | inr most ↦
-      ap (λ (b : Bool). if b then Some s else first_taker (s + 1) os later) (subst (λ k. takes_as (slice_get (o ∷ os) k) later ≡ true) (let e : place - s ≡ 0 = omega (arith, most) in e) takes)
+      ap (λ (b : Bool). if b then Some s else first_taker (s + 1) os later)
+      (subst (λ k. takes_as (slice_get (o ∷ os) k) later ≡ true) (let e : place - s ≡ 0 = omega (arith, most) in e) takes)
       ∙ ap Some (let e : s ≡ place = omega (arith, most, from) in e)
 ]
 
-pub none_found : (later : Outline) (s : ℕ) (window : List Outline) → ((i : ℕ) (o : Outline) → slice_get window i ≡ Some o → outline_takes_all o later ≡ false) → first_taker s window later ≡ None
+pub none_found : (later : Outline) (s : ℕ) (window : List Outline)
+    → ((i : ℕ) (o : Outline) → slice_get window i ≡ Some o → outline_takes_all o later ≡ false) → first_taker s window later ≡ None
 none_found later s [] none = refl
 none_found later s (o ∷ os) none =
     ap (λ (b : Bool). if b then Some s else first_taker (s + 1) os later) (none 0 o refl)
@@ -143,26 +161,31 @@ measures_told [] (m ∷ ms) all = absurd all
 measures_told (p ∷ ps) [] all = absurd all
 measures_told (p ∷ ps) (m ∷ ms) all = (let h : IsMeasureOf p m = all.0 in h.told, measures_told ps ms all.1)
 
-pub all_told : (rules : List Listed) (outlines : List Outline) → AreOutlinesOf rules outlines → AllByRecursion (λ x. AllByRecursion IsTold x.measures.items) outlines
+pub all_told : (rules : List Listed) (outlines : List Outline) → AreOutlinesOf rules outlines
+    → AllByRecursion (λ x. AllByRecursion IsTold x.measures.items) outlines
 all_told [] [] all = tt
 all_told [] (o ∷ os) all = absurd all
 all_told (r ∷ rs) [] all = absurd all
 all_told (r ∷ rs) (o ∷ os) all = (let h : IsOutlineOf r o = all.0 in measures_told r.rule.parts o.measures.items h.measures, all_told rs os all.1)
 
-module _ (outlines : List Outline) (later : Outline) (start number place : ℕ) (told : AllByRecursion (λ x. AllByRecursion IsTold x.measures.items) outlines) (also : AllByRecursion IsTold later.measures.items)
+module _ (outlines : List Outline) (later : Outline) (start number place : ℕ)
+    (told : AllByRecursion (λ x. AllByRecursion IsTold x.measures.items) outlines) (also : AllByRecursion IsTold later.measures.items)
     (probed : list_all is_probed later.measures.items ≡ true) (first : IsFirst outlines later (is_asked later.measures.items) start number place) where
-  none_before : (i : ℕ) (o : Outline) → slice_get (take (number - start) (drop start outlines)) i ≡ Some o → start + i < place → outline_takes_all o later ≡ false
+  none_before : (i : ℕ) (o : Outline) → slice_get (take (number - start) (drop start outlines)) i ≡ Some o → start + i < place
+      → outline_takes_all o later ≡ false
   none_before i o e less =
       let w = window_at start number i outlines o e in
       elim (cases_Bool (outline_takes_all o later)) [
-        | inl takes ↦ first.none (start + i) o (omega arith) less w.1 (takers_asked o later (each_got (λ x. AllByRecursion IsTold x.measures.items) outlines (start + i) o told w.1) also probed takes)
+        | inl takes ↦ first.none (start + i) o (omega arith) less w.1
+            (takers_asked o later (each_got (λ x. AllByRecursion IsTold x.measures.items) outlines (start + i) o told w.1) also probed takes)
         | inr none ↦ none
       ]
 
   pub first_found : place < number → first_taker start (take (number - start) (drop start outlines)) later ≡ Some place
   first_found less =
       found later place start (take (number - start) (drop start outlines)) first.from none_before
-      (ap (λ o. takes_as o later) (taken_same (number - start) (place - start) (drop start outlines) (let f = first.from in omega (arith, less, f)) ∙ dropped_same start (place - start) outlines
+      (ap (λ o. takes_as o later) (taken_same (number - start) (place - start) (drop start outlines) (let f = first.from in omega (arith, less, f))
+      ∙ dropped_same start (place - start) outlines
       ∙ ap (slice_get outlines) (let f = first.from in let e : start + (place - start) ≡ place = omega (arith, f) in e))
       ∙ first.takes less)
 

@@ -1,5 +1,10 @@
 -- The report, rule by rule: of each the first of the earlier rules that may contain it.
-use Rattle.fs_shadow.proofs.{Words.{◌≡◌, ℕ, zero, suc, ◌+◌, ◌-◌, ◌<◌, ◌≤◌, Bool, true, false, Some, List, [], ◌∷◌, ◌++◌, if◌then◌else◌, get_or, length, take, drop, refl, sym, ap, subst, ◌∙◌, arith, slice_get, get_or_from_slice_get, none-some, same_Some, slice_get_within, append-nil, drop_all, drop_more, length-take-le, take_all, take_more, Listed, spans_of, each_dropped, each_taken, Outline, AreInOrder, AreOutlinesOf, IsOutlineOf, begins_anew, first_taker, covered_by, first_taking, report_behind, takes_all}, Destinations.{AreApart, anew_apart}, Measuring.{taker_says}}
+use Rattle.fs_shadow.proofs.Words.{◌≡◌, ℕ, zero, suc, ◌+◌, ◌-◌, ◌<◌, ◌≤◌, Bool, true, false, Some, List, [], ◌∷◌, ◌++◌, if◌then◌else◌, get_or, length}
+use Rattle.fs_shadow.proofs.Words.{take, drop, refl, sym, ap, subst, ◌∙◌, arith, slice_get, get_or_from_slice_get, none-some, same_Some}
+use Rattle.fs_shadow.proofs.Words.{slice_get_within, append-nil, drop_all, drop_more, length-take-le, take_all, take_more, Listed, spans_of}
+use Rattle.fs_shadow.proofs.Words.{each_dropped, each_taken, Outline, AreInOrder, AreOutlinesOf, IsOutlineOf, begins_anew, first_taker, covered_by}
+use Rattle.fs_shadow.proofs.Words.{first_taking, report_behind, takes_all}
+use Rattle.fs_shadow.proofs.{Destinations.{AreApart, anew_apart}, Measuring.{taker_says}}
 use Rattle.std.proofs.lemmas.List.{append_assoc}
 
 -- the search may begin behind those that don't take all packets of the rule
@@ -25,7 +30,8 @@ drop_taken (suc s) (suc n) [] = sym (take_all (suc n - suc s) [] (omega arith))
 drop_taken (suc s) (suc n) (r ∷ rs) = drop_taken s n rs ∙ ap (λ k. take k (drop s rs)) (let e : n - s ≡ suc n - suc s = omega arith in e)
 
 -- the first of the rules that may take all packets of the rule of a number
-pub taker_is : (rules : List Listed) (outlines : List Outline) (start number : ℕ) (later : Listed) (o : Outline) → AreOutlinesOf rules outlines → IsOutlineOf later o → AreApart rules start number
+pub taker_is : (rules : List Listed) (outlines : List Outline) (start number : ℕ) (later : Listed) (o : Outline) → AreOutlinesOf rules outlines
+    → IsOutlineOf later o → AreApart rules start number
     → slice_get rules number ≡ Some later
     → first_taker start (take (number - start) (drop start outlines)) o ≡ first_taking 0 (take number rules) later
 taker_is rules outlines start number later o all one apart at =
@@ -41,7 +47,8 @@ pub record HasRule (rules : List Listed) (number : ℕ) (o : Outline) : Type 0 w
   pub is : slice_get rules number ≡ Some rule
   pub outline : IsOutlineOf rule o
 
-pub outlined_at : (rules : List Listed) (outlines : List Outline) (number : ℕ) (o : Outline) → AreOutlinesOf rules outlines → slice_get outlines number ≡ Some o → HasRule rules number o
+pub outlined_at : (rules : List Listed) (outlines : List Outline) (number : ℕ) (o : Outline) → AreOutlinesOf rules outlines
+    → slice_get outlines number ≡ Some o → HasRule rules number o
 outlined_at [] [] number o all e = absurd (none-some o e)
 outlined_at [] (x ∷ xs) number o all e = absurd all
 outlined_at (r ∷ rs) [] number o all e = absurd all
@@ -67,7 +74,8 @@ report_more rules n a e =
     one = take_more rules n a within ∙ ap (λ x. take n rules ++ x ∷ []) is
 
 -- what the loop does with the rule of a number
-pub report_step : (rules : List Listed) (outlines : List Outline) (start n : ℕ) (o : Outline) (pairs new whole : List (ℕ × ℕ)) → AreOutlinesOf rules outlines → slice_get outlines n ≡ Some o
+pub report_step : (rules : List Listed) (outlines : List Outline) (start n : ℕ) (o : Outline) (pairs new whole : List (ℕ × ℕ))
+    → AreOutlinesOf rules outlines → slice_get outlines n ≡ Some o
     → AreApart rules start n → new ≡ pairs ++ covered_by n (first_taker start (take (n - start) (drop start outlines)) o)
     → pairs ++ report_behind (take n rules) (drop n rules) ≡ whole → new ++ report_behind (take (n + 1) rules) (drop (n + 1) rules) ≡ whole
 report_step rules outlines start n o pairs new whole all at apart e rest =
@@ -82,12 +90,14 @@ report_step rules outlines start n o pairs new whole all at apart e rest =
     found_is : first_taker start (take (n - start) (drop start outlines)) o ≡ first_taking 0 (take n rules) h.rule
     found_is = taker_is rules outlines start n h.rule o all h.outline apart h.is
 
-pub report_ends : (rules : List Listed) (n : ℕ) (pairs whole : List (ℕ × ℕ)) → length rules ≤ n → pairs ++ report_behind (take n rules) (drop n rules) ≡ whole → pairs ≡ whole
+pub report_ends : (rules : List Listed) (n : ℕ) (pairs whole : List (ℕ × ℕ)) → length rules ≤ n
+    → pairs ++ report_behind (take n rules) (drop n rules) ≡ whole → pairs ≡ whole
 report_ends rules n pairs whole most rest =
     sym (append-nil pairs) ∙ ap (λ rs. pairs ++ report_behind (take n rules) rs) (sym (drop_all n rules most)) ∙ rest
 
 -- where the stretch begins now
-pub stretch_apart : (rules : List Listed) (start n : ℕ) → AreInOrder rules → n < length rules → AreApart rules start n → AreApart rules (if begins_anew (spans_of rules) n then n else start) n
+pub stretch_apart : (rules : List Listed) (start n : ℕ) → AreInOrder rules → n < length rules → AreApart rules start n
+    → AreApart rules (if begins_anew (spans_of rules) n then n else start) n
 stretch_apart rules start n order inside apart = at (begins_anew (spans_of rules) n) refl
   where
     at : (b : Bool) → begins_anew (spans_of rules) n ≡ b → AreApart rules (if b then n else start) n

@@ -1,5 +1,10 @@
 -- A rule of which an earlier one takes all packets is walked by none.
-use Rattle.fs_shadow.{proofs.{Words.{◌≡◌, ◌≢◌, ℕ, zero, suc, ◌+◌, ◌<◌, Bool, true, false, not, Option, Some, None, List, [], ◌∷◌, ◌++◌, if◌then◌else◌, length, refl, sym, ap, subst, ◌∙◌, inl, inr, arith, append_assoc, AllByRecursion, slice_get, and_parts, cases_Bool, not-true, true≢false, none-some, same_Some, Viewed, is_match, IsSmall, Listed, covered_by, first_taking, report_behind, takes_all, ConfirmedNeverWalks, CoveredNeverWalks, NeverWalks}, Matched.{contained_matches}}, specs.Contains.{contains}}
+use Rattle.fs_shadow.proofs.Words.{◌≡◌, ◌≢◌, ℕ, zero, suc, ◌+◌, ◌<◌, Bool, true, false, not, Option, Some, None, List, [], ◌∷◌, ◌++◌, if◌then◌else◌}
+use Rattle.fs_shadow.proofs.Words.{length, refl, sym, ap, subst, ◌∙◌, inl, inr, arith, append_assoc, AllByRecursion, slice_get, and_parts, cases_Bool}
+use Rattle.fs_shadow.proofs.Words.{not-true, true≢false, none-some, same_Some, Viewed, is_match, IsSmall, Listed, covered_by, first_taking}
+use Rattle.fs_shadow.proofs.Words.{report_behind, takes_all, ConfirmedNeverWalks, CoveredNeverWalks, NeverWalks}
+use Rattle.fs_shadow.proofs.Matched.{contained_matches}
+use Rattle.fs_shadow.specs.Contains.{contains}
 use Rattle.fs_base.proofs.Lists.{each_append}
 use Rattle.fs_rules.specs.Walk.{goes_on, walk_from, walk_of}
 
@@ -26,11 +31,13 @@ module _ (view : Viewed) where
       step number (is_match rule.rule view) (goes_on rule.actions) (place, rule.actions) (walk_from (place + 1) view rules)
       (λ h e. omega (arith, less, e)) (λ h g. rest) (λ h. rest)
 
-  numbered : (rules : List Listed) (place k : ℕ) → Without (place + 1 + k) (walk_from (place + 1) view rules) → Without (place + suc k) (walk_from (place + 1) view rules)
+  numbered : (rules : List Listed) (place k : ℕ) → Without (place + 1 + k) (walk_from (place + 1) view rules)
+      → Without (place + suc k) (walk_from (place + 1) view rules)
   numbered rules place k = subst (λ n. Without n (walk_from (place + 1) view rules)) (let e : place + 1 + k ≡ place + suc k = omega arith in e)
 
   -- a rule that doesn't match isn't walked
-  unmatched : (rules : List Listed) (place k : ℕ) (later : Listed) → slice_get rules k ≡ Some later → is_match later.rule view ≡ false → Without (place + k) (walk_from place view rules)
+  unmatched : (rules : List Listed) (place k : ℕ) (later : Listed) → slice_get rules k ≡ Some later → is_match later.rule view ≡ false
+      → Without (place + k) (walk_from place view rules)
   unmatched [] place k later at none = tt
   unmatched (rule ∷ rules) place zero later at none =
       let rest : Without (place + 0) (walk_from (place + 1) view rules) = above rules (place + 0) (place + 1) (omega arith) in
@@ -41,21 +48,25 @@ module _ (view : Viewed) where
       step (place + suc k) (is_match rule.rule view) (goes_on rule.actions) (place, rule.actions) (walk_from (place + 1) view rules)
       (λ h e. omega (arith, e)) (λ h g. rest) (λ h. rest)
 
-  missed : (earlier later : Listed) → (is_match later.rule view ≡ true → is_match earlier.rule view ≡ true) → is_match earlier.rule view ≡ false → is_match later.rule view ≡ false
+  missed : (earlier later : Listed) → (is_match later.rule view ≡ true → is_match earlier.rule view ≡ true) → is_match earlier.rule view ≡ false
+      → is_match later.rule view ≡ false
   missed earlier later all h = elim (cases_Bool (is_match later.rule view)) [ inl met ↦ absurd (true≢false (sym (all met) ∙ h)) | inr none ↦ none ]
 
   -- nor is one of which an earlier rule, which ends the walk, matches all packets
   ended : (rules : List Listed) (place j k : ℕ) (earlier later : Listed) → j < k → slice_get rules j ≡ Some earlier → slice_get rules k ≡ Some later
-      → goes_on earlier.actions ≡ false → (is_match later.rule view ≡ true → is_match earlier.rule view ≡ true) → Without (place + k) (walk_from place view rules)
+      → goes_on earlier.actions ≡ false → (is_match later.rule view ≡ true → is_match earlier.rule view ≡ true)
+      → Without (place + k) (walk_from place view rules)
   ended [] place j k earlier later less at_j at_k ends all = tt
   ended (rule ∷ rules) place j zero earlier later less at_j at_k ends all = absurd (omega (arith, less))
   ended (rule ∷ rules) place zero (suc k) earlier later less at_j at_k ends all =
       let same : rule ≡ earlier = same_Some rule earlier at_j in
       step (place + suc k) (is_match rule.rule view) (goes_on rule.actions) (place, rule.actions) (walk_from (place + 1) view rules)
       (λ h e. omega (arith, e)) (λ h g. absurd (true≢false (sym g ∙ ap (λ (r : Listed). goes_on r.actions) same ∙ ends)))
-      (λ h. numbered rules place k (unmatched rules (place + 1) k later at_k (missed earlier later all (sym (ap (λ (r : Listed). is_match r.rule view) same) ∙ h))))
+      (λ h. numbered rules place k (unmatched rules (place + 1) k later at_k
+      (missed earlier later all (sym (ap (λ (r : Listed). is_match r.rule view) same) ∙ h))))
   ended (rule ∷ rules) place (suc j) (suc k) earlier later less at_j at_k ends all =
-      let rest : Without (place + suc k) (walk_from (place + 1) view rules) = numbered rules place k (ended rules (place + 1) j k earlier later (omega (arith, less)) at_j at_k ends all) in
+      let rest : Without (place + suc k) (walk_from (place + 1) view rules) =
+      numbered rules place k (ended rules (place + 1) j k earlier later (omega (arith, less)) at_j at_k ends all) in
       step (place + suc k) (is_match rule.rule view) (goes_on rule.actions) (place, rule.actions) (walk_from (place + 1) view rules)
       (λ h e. omega (arith, e)) (λ h g. rest) (λ h. rest)
 
@@ -73,7 +84,8 @@ record Takes (place : ℕ) (rules : List Listed) (later : Listed) (found : ℕ) 
   at : slice_get rules j ≡ Some earlier
   takes : takes_all earlier later ≡ true
 
-behind : (place : ℕ) (rule : Listed) (rules : List Listed) (later : Listed) (found : ℕ) → Takes (place + 1) rules later found → Takes place (rule ∷ rules) later found
+behind : (place : ℕ) (rule : Listed) (rules : List Listed) (later : Listed) (found : ℕ) → Takes (place + 1) rules later found
+    → Takes place (rule ∷ rules) later found
 behind place rule rules later found t = record {
   j = suc t.j;
   is = t.is ∙ (let e : place + 1 + t.j ≡ place + suc t.j = omega arith in e);
@@ -114,7 +126,8 @@ module _ (view : Viewed) (small : IsSmall view) (all : List Listed) where
   each : (front rules : List Listed) → front ++ rules ≡ all → AllByRecursion Never (report_behind front rules)
   each front [] whole = tt
   each front (rule ∷ rules) whole =
-      each_append Never (covered_by (length front) (first_taking 0 front rule)) (report_behind (front ++ rule ∷ []) rules) (first (first_taking 0 front rule) refl)
+      each_append Never (covered_by (length front) (first_taking 0 front rule)) (report_behind (front ++ rule ∷ []) rules)
+      (first (first_taking 0 front rule) refl)
       (each (front ++ rule ∷ []) rules (append_assoc front (rule ∷ []) rules ∙ whole)) where
         first : (o : Option ℕ) → first_taking 0 front rule ≡ o → AllByRecursion Never (covered_by (length front) o)
         first None e = tt

@@ -1,5 +1,6 @@
 -- When a rule contains another: each component of the one has a component of the other that lies in it.
-use Rattle.std.specs.{Prelude.{ℕ, ◌^◌, ◌==◌, Bool, false, not, ◌&&◌, ◌||◌, List, if◌then◌else◌}, List.{list_all, list_any, range_with_len}, Cmp.Lexicographic.{pointwise}}
+use Rattle.std.specs.Prelude.{ℕ, ◌^◌, ◌==◌, Bool, false, not, ◌&&◌, ◌||◌, List, if◌then◌else◌}
+use Rattle.std.specs.{List.{list_all, list_any, range_with_len}, Cmp.Lexicographic.{pointwise}}
 use Rattle.fs_base.specs.{declared.config.Address.{Address, TheVariants.{V4, V6}}, Bits.{afi_of}}
 use Rattle.fs_ops.specs.Evaluation.{compares, holds}
 use Rattle.fs_nlri.specs.Parts.{Body, V4Body, V6Body, ListBody, Part, Ruled}

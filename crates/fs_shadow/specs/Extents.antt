@@ -1,10 +1,12 @@
 -- What a component takes in, as it is compared with many others, and which component it stands for.
-use Rattle.std.specs.{Prelude.{◌≡◌, ℕ, ◌-◌, ◌*◌, ◌%◌, ◌^◌, ◌<◌, ◌==◌, Bool, true, false, ◌&&◌, ◌||◌, nat_lt, Option, Some, None, List, if◌then◌else◌}, List.{AllZip}}
+use Rattle.std.specs.Prelude.{◌≡◌, ℕ, ◌-◌, ◌*◌, ◌%◌, ◌^◌, ◌<◌, ◌==◌, Bool, true, false, ◌&&◌, ◌||◌, nat_lt, Option, Some, None, List, if◌then◌else◌}
+use Rattle.std.specs.List.{AllZip}
 use Rattle.fs_ops.specs.Evaluation.{compares, holds}
 use Rattle.fs_base.specs.{Bits.{cleared}, Prefix.{covers}}
 use Rattle.fs_nlri.specs.{Parts.{Body, V4Body, V6Body, ListBody, Part}, Sound.{IsSoundBody}}
 use Rattle.fs_ranges.specs.Spans.{contains}
-use Rattle.fs_shadow.specs.{declared.{extents.{Extent.{Extent, TheVariants.{V4, V6, Numbers, Bits}}, Measure.{Measure}}, prefixes.Known.{Known}}, Contains.{all_below, are_same_pairs, implies, may_lie_in, tests_bits}}
+use Rattle.fs_shadow.specs.declared.{extents.{Extent.{Extent, TheVariants.{V4, V6, Numbers, Bits}}, Measure.{Measure}}, prefixes.Known.{Known}}
+use Rattle.fs_shadow.specs.Contains.{all_below, are_same_pairs, implies, may_lie_in, tests_bits}
 
 -- the bits that the outer prefix knows are known by the inner one too, and are the same
 abbrev pub bits_lie_in : (inner outer : Known) → Bool

@@ -1,6 +1,8 @@
 -- Rules as they are compared with many others, and which of them may contain a later one by their destinations,
 -- or by single numbers that they ask for.
-use Rattle.std.specs.{Prelude.{◌≡◌, ℕ, ◌+◌, ◌-◌, ◌*◌, ◌^◌, ◌<◌, ◌≤◌, ◌==◌, Bool, true, false, not, ◌&&◌, ◌||◌, max, nat_le, nat_lt, Option, Some, None, List, [], ◌∷◌, get_or, length, if◌then◌else◌}, List.{AllByRecursion, list_all, list_any, slice_get, AllZip, Sorted.{IsNonDecreasingBy}}}
+use Rattle.std.specs.Prelude.{◌≡◌, ℕ, ◌+◌, ◌-◌, ◌*◌, ◌^◌, ◌<◌, ◌≤◌, ◌==◌, Bool, true, false, not, ◌&&◌, ◌||◌, max, nat_le, nat_lt, Option, Some, None}
+use Rattle.std.specs.Prelude.{List, [], ◌∷◌, get_or, length, if◌then◌else◌}
+use Rattle.std.specs.List.{AllByRecursion, list_all, list_any, slice_get, AllZip, Sorted.{IsNonDecreasingBy}}
 use Rattle.fs_base.specs.{declared.prefix.Family.{Family}, Bits.{afi_of}}
 use Rattle.fs_rules.specs.{Lent.{Listed}, Walk.{goes_on}}
 use Rattle.fs_buckets.specs.{Destinations.{IsOfFamily, spans_of}, Runs.{AreNesting}}

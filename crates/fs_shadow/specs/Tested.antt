@@ -1,7 +1,8 @@
 -- What a component tests, as the code lends it, and when that lies in what another tests.
 use Rattle.std.specs.Prelude.{◌≡◌, Bool, true, false}
 use Rattle.fs_nlri.specs.{Component.{body_of}, Parts.{ListBody, Part}, Sound.{IsSoundBody}}
-use Rattle.fs_shadow.specs.{declared.tested.Tested.{Tested, TheVariants.{Prefix, Number, Bits}}, Contains.{are_same_pairs, body_lies_in, numbers_lie_in, tests_bits}}
+use Rattle.fs_shadow.specs.declared.tested.Tested.{Tested, TheVariants.{Prefix, Number, Bits}}
+use Rattle.fs_shadow.specs.Contains.{are_same_pairs, body_lies_in, numbers_lie_in, tests_bits}
 
 -- what stands behind the type, and which tests the type has
 abbrev pub IsTested : Part → Tested → Type 0

@@ -5,10 +5,13 @@
 //! destination, or with one that isn't the first bits of an address, may lie in one of another destination: in that of
 //! all addresses, which stands last.
 
-ghost use Rattle.std.specs.{Prelude.{◌≡◌, ◌≤◌, ◌<◌, ◌+◌, ◌-◌, ◌++◌, ◌^◌, IfOk, None, OnOk, if◌then◌else◌, drop, get_or, length, map, take}, List.{AllByRecursion}};
+ghost use Rattle.std.specs.Prelude.{◌≡◌, ◌≤◌, ◌<◌, ◌+◌, ◌-◌, ◌++◌, ◌^◌, IfOk, None, OnOk, if◌then◌else◌, drop, get_or, length, map, take};
+ghost use Rattle.std.specs.List.{AllByRecursion};
 ghost use Rattle.fs_buckets.specs.Destinations.{span_of, spans_of};
 ghost use Rattle.fs_rules.specs.{Lent.{all_admitted, listed}, Table.{admitted}};
-ghost use Rattle.fs_shadow.specs.{Extents.{IsTold}, Outlines.{AreInOrder, AreOutlinesOf, AreTold, IsIndexOf, IsStretch, begins_anew, first_taker, lie_apart}, Reporting.{covered_by, report_of}};
+ghost use Rattle.fs_shadow.specs.Extents.{IsTold};
+ghost use Rattle.fs_shadow.specs.Outlines.{AreInOrder, AreOutlinesOf, AreTold, IsIndexOf, IsStretch, begins_anew, first_taker, lie_apart};
+ghost use Rattle.fs_shadow.specs.Reporting.{covered_by, report_of};
 
 use crate::keys::{first_by_keys, index_of};
 use crate::outlines::{Outline, outlines_of};

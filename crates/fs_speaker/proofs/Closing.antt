@@ -1,5 +1,15 @@
 -- How both ends close, whatever happens between them.
-use Rattle.fs_speaker.{proofs.{Words.{◌≡◌, inl, inr, ℕ, ◌==◌, Bool, true, false, if◌then◌else◌, List, [], ◌∷◌, ◌++◌, take, Option, Some, None, refl, ap, sym, ◌∙◌, subst, append_assoc, append-nil, Config, Peer, Point, Handed, hand, Last, at_start, closed, session_by, at_moment, tick_at, Machine, Sending, Closed, Fault, Notified, NoFamily, Memory, Tick, Quiet, Keeps, Expires, Event, Send, Deliver, Cut, ticks, ticked, CanArrive, ClosesSo, IsDue, handed_over, point_of, taken_in, World, sent, taker_of, teller_of, taker_comes, teller_comes, happens, at_first, runs_on, run}, Events.{each_event, told_over}, Fronting.{Holds, Lines, holds_first, holds_on, lines_cut, lines_delivered, lines_same, lines_spoken}, SessionInPieces.{Follows, closes_by, follows_first, follows_none, follows_piece, follows_tick}, Reading.{IsCalm}, Running.{run_more}, ReceiverReplies.{Says, says_first, says_piece, says_tick}, Waking.{hand_opens, hand_stays, tick_each, tick_opens, tick_stays, ticked_by}}, specs.declared.event.Event.TheVariants.{Tick as TickEvent}}
+use Rattle.fs_speaker.proofs.Words.{◌≡◌, inl, inr, ℕ, ◌==◌, Bool, true, false, if◌then◌else◌, List, [], ◌∷◌, ◌++◌, take, Option, Some, None, refl, ap}
+use Rattle.fs_speaker.proofs.Words.{sym, ◌∙◌, subst, append_assoc, append-nil, Config, Peer, Point, Handed, hand, Last, at_start, closed, session_by}
+use Rattle.fs_speaker.proofs.Words.{at_moment, tick_at, Machine, Sending, Closed, Fault, Notified, NoFamily, Memory, Tick, Quiet, Keeps, Expires}
+use Rattle.fs_speaker.proofs.Words.{Event, Send, Deliver, Cut, ticks, ticked, CanArrive, ClosesSo, IsDue, handed_over, point_of, taken_in, World}
+use Rattle.fs_speaker.proofs.Words.{sent, taker_of, teller_of, taker_comes, teller_comes, happens, at_first, runs_on, run}
+use Rattle.fs_speaker.proofs.Events.{each_event, told_over}
+use Rattle.fs_speaker.proofs.Fronting.{Holds, Lines, holds_first, holds_on, lines_cut, lines_delivered, lines_same, lines_spoken}
+use Rattle.fs_speaker.proofs.SessionInPieces.{Follows, closes_by, follows_first, follows_none, follows_piece, follows_tick}
+use Rattle.fs_speaker.proofs.{Reading.{IsCalm}, Running.{run_more}, ReceiverReplies.{Says, says_first, says_piece, says_tick}}
+use Rattle.fs_speaker.proofs.Waking.{hand_opens, hand_stays, tick_each, tick_opens, tick_stays, ticked_by}
+use Rattle.fs_speaker.specs.declared.event.Event.TheVariants.{Tick as TickEvent}
 
 module _ (config : Config) (peer : Peer) (sending : Sending) where
   abbrev taker : Machine
@@ -13,27 +23,32 @@ module _ (config : Config) (peer : Peer) (sending : Sending) where
   happened_stays : (first : Bool) (event : Event) (w : World) (why : Closed) → (point_of first w).closed ≡ Some why
       → (point_of first (happens config peer sending event w)).closed ≡ Some why
   happened_stays true event w why e =
-      each_event config peer sending w (λ _ _ _ next. next.taker.closed ≡ Some why) e (λ _ _. e) (λ to count moment. hand_stays taker moment w.taker (take count w.to_taker) why e)
+      each_event config peer sending w (λ _ _ _ next. next.taker.closed ≡ Some why) e (λ _ _. e)
+      (λ to count moment. hand_stays taker moment w.taker (take count w.to_taker) why e)
       (λ _ _ _. e) (λ end moment _. tick_stays moment w.taker why e) (λ _ _ _. e) e event
   happened_stays false event w why e =
       each_event config peer sending w (λ _ _ _ next. next.teller.closed ≡ Some why) e (λ _ _. e) (λ _ _ _. e)
-      (λ to count moment. hand_stays teller moment w.teller (take count w.to_teller) why e) (λ _ _ _. e) (λ end moment _. tick_stays moment w.teller why e) e event
+      (λ to count moment. hand_stays teller moment w.teller (take count w.to_teller) why e) (λ _ _ _. e)
+      (λ end moment _. tick_stays moment w.teller why e) e event
 
   all_stay : (first : Bool) (events : List Event) (w : World) (why : Closed) → (point_of first w).closed ≡ Some why
       → (point_of first (runs_on config peer sending w events)).closed ≡ Some why
   all_stay first [] w why e = e
   all_stay first (event ∷ events) w why e = all_stay first events (happens config peer sending event w) why (happened_stays first event w why e)
 
-  runs_joined : (w : World) (earlier later : List Event) → runs_on config peer sending w (earlier ++ later) ≡ runs_on config peer sending (runs_on config peer sending w earlier) later
+  runs_joined : (w : World) (earlier later : List Event)
+      → runs_on config peer sending w (earlier ++ later) ≡ runs_on config peer sending (runs_on config peer sending w earlier) later
   runs_joined w [] later = refl
   runs_joined w (event ∷ earlier) later = runs_joined (happens config peer sending event w) earlier later
 
-  due_closes : (moment : ℕ) (now : Point) → now.closed ≡ None → tick_at now.phase.hold (at_moment moment now.times) ≡ Expires → (ticked moment now).point.closed ≡ Some (Fault 4 0)
+  due_closes : (moment : ℕ) (now : Point) → now.closed ≡ None → tick_at now.phase.hold (at_moment moment now.times) ≡ Expires
+      → (ticked moment now).point.closed ≡ Some (Fault 4 0)
   due_closes moment now o d =
       ap (λ (how : Option Closed). (ticked_by moment now how).point.closed) o
       ∙ ap (λ (t : Tick). (ticks t now.waiting now.phase (at_moment moment now.times)).point.closed) d
 
-  pub closes_where_due : (events : List Event) (first : Bool) → IsDue config peer sending first events → (point_of first (run config peer sending events)).closed ≡ Some (Fault 4 0)
+  pub closes_where_due : (events : List Event) (first : Bool) → IsDue config peer sending first events
+      → (point_of first (run config peer sending events)).closed ≡ Some (Fault 4 0)
   closes_where_due events first d =
       ap (λ (z : List Event). (point_of first (run config peer sending z)).closed) d.split
       ∙ ap (λ (w : World). (point_of first w).closed) (runs_joined (at_first config peer sending) d.earlier (TickEvent d.end d.moment ∷ d.later))
@@ -44,7 +59,8 @@ module _ (config : Config) (peer : Peer) (sending : Sending) where
 
       by : (first zeroth : Bool) → zeroth ≡ first → (point_of first w).closed ≡ None
           → tick_at (point_of first w).phase.hold (at_moment d.moment (point_of first w).times) ≡ Expires
-          → (point_of first (if zeroth then taker_comes (ticked d.moment w.taker) w.to_taker w else teller_comes (ticked d.moment w.teller) w.to_teller w)).closed ≡ Some (Fault 4 0)
+          → (point_of first (if zeroth then taker_comes (ticked d.moment w.taker) w.to_taker w
+          else teller_comes (ticked d.moment w.teller) w.to_teller w)).closed ≡ Some (Fault 4 0)
       by true true e o u = due_closes d.moment w.taker o u
       by true false e o u = absurd cc
       by false true e o u = absurd cc
@@ -73,7 +89,8 @@ module _ (config : Config) (peer : Peer) (sending : Sending) where
 
   -- of a piece: what closes it closes the session of all that the other said
   so_piece : (first : Bool) (events : List Event) (event : Event) (machine : Machine) (octets behind all : List ℕ) (now : Point) (moment : ℕ) (piece : List ℕ)
-      → So first events now.closed → Follows machine octets now → (octets ++ taken_in now.closed piece) ++ behind ≡ all → IsCalm (session_by machine at_start all).1
+      → So first events now.closed → Follows machine octets now → (octets ++ taken_in now.closed piece) ++ behind ≡ all
+      → IsCalm (session_by machine at_start all).1
       → So first (events ++ event ∷ []) (hand machine moment now piece).point.closed
   so_piece first events event machine octets behind all now moment piece so f front calm =
       closes_by machine (So first (events ++ event ∷ [])) octets piece behind all now moment (so_later first events event now.closed so) (inl refl)
@@ -86,10 +103,12 @@ module _ (config : Config) (peer : Peer) (sending : Sending) where
       calm_closes Memory c = absurd c
 
   -- of the clock
-  pub so_tick : (first : Bool) (events : List Event) (end moment : ℕ) → (end == 0) ≡ first → (now : Point) → now ≡ point_of first (run config peer sending events)
+  pub so_tick : (first : Bool) (events : List Event) (end moment : ℕ) → (end == 0) ≡ first → (now : Point)
+      → now ≡ point_of first (run config peer sending events)
       → So first events now.closed → So first (events ++ TickEvent end moment ∷ []) (ticked moment now).point.closed
   so_tick first events end moment whose now is so =
-      tick_each moment now (λ made. So first (events ++ TickEvent end moment ∷ []) made.point.closed) (λ o. due o (tick_at now.phase.hold (at_moment moment now.times)) refl)
+      tick_each moment now (λ made. So first (events ++ TickEvent end moment ∷ []) made.point.closed)
+      (λ o. due o (tick_at now.phase.hold (at_moment moment now.times)) refl)
       (λ why e. so_later first events (TickEvent end moment) now.closed so)
     where
       due : now.closed ≡ None → (tick : Tick) → tick_at now.phase.hold (at_moment moment now.times) ≡ tick
@@ -145,11 +164,19 @@ module _ (config : Config) (peer : Peer) (sending : Sending) where
         each_event config peer sending w (λ _ _ told next. ToldAll (heard ++ told) next) (all, record { lines = same; says = t.says; first = none })
         (λ text e. (all, record { lines = same; says = t.says; first = none }))
         (λ to count moment.
-        let made : Handed = hand taker moment w.taker (take count w.to_taker) in
-        (all ++ made.text, record { lines = spoken made.text; says = says_piece config peer sending can all w.taker moment (take count w.to_taker) t.says; first = none }))
+        let made : Handed = hand taker moment w.taker (take count w.to_taker) in (
+          all ++ made.text,
+          record {
+            lines = spoken made.text;
+            says =
+                says_piece config peer sending can all w.taker moment (take count w.to_taker) t.says;
+            first = none;
+          },
+        ))
         (λ to count moment.
         let piece : List ℕ = take count w.to_teller in
-        let lines = lines_delivered heard all w.to_teller w.cut w.teller.closed (hand teller moment w.teller piece).point.closed count (hand_opens teller moment w.teller piece) t.lines in
+        let lines = lines_delivered heard all w.to_teller w.cut w.teller.closed (hand teller moment w.teller piece).point.closed count
+        (hand_opens teller moment w.teller piece) t.lines in
         (all, record { lines = lines; says = t.says; first = follows_piece teller heard piece w.teller moment w.teller.closed refl t.first }))
         (λ end moment e.
         let made : Handed = ticked moment w.taker in
@@ -185,12 +212,14 @@ module _ (config : Config) (peer : Peer) (sending : Sending) where
         each_event config peer sending w (λ event over told next. Knows (octets ++ over) (heard ++ told) all' next → Both (events ++ event ∷ []) next)
         (λ n. (first Send, second Send)) (λ text e n. (first Send, second Send))
         (λ to count moment n. (
-          so_piece true events (Deliver to count moment) taker octets n.holds.lines.behind n.holds.all w.taker moment (take count w.to_taker) b.0 k.takes n.holds.lines.front n.holds.tells.gives.1,
+          so_piece true events (Deliver to count moment) taker octets n.holds.lines.behind n.holds.all w.taker moment
+              (take count w.to_taker) b.0 k.takes n.holds.lines.front n.holds.tells.gives.1,
           second (Deliver to count moment),
         ))
         (λ to count moment n. (
           first (Deliver to count moment),
-          so_piece false events (Deliver to count moment) teller heard n.told.lines.behind all' w.teller moment (take count w.to_teller) b.1 k.told.first n.told.lines.front n.told.says.calm.1,
+          so_piece false events (Deliver to count moment) teller heard n.told.lines.behind all' w.teller moment
+              (take count w.to_teller) b.1 k.told.first n.told.lines.front n.told.says.calm.1,
         ))
         (λ end moment e n. (so_tick true events end moment e w.taker (ap (λ (v : World). v.taker) is) b.0, second (TickEvent end moment)))
         (λ end moment e n. (first (TickEvent end moment), so_tick false events end moment e w.teller (ap (λ (v : World). v.teller) is) b.1))
@@ -202,7 +231,8 @@ module _ (config : Config) (peer : Peer) (sending : Sending) where
         second : (event : Event) → So false (events ++ event ∷ []) w.teller.closed
         second event = so_later false events event w.teller.closed b.1
 
-    all_close : (events before : List Event) (octets heard all : List ℕ) (w : World) → w ≡ run config peer sending before → Knows octets heard all w → Both before w
+    all_close : (events before : List Event) (octets heard all : List ℕ) (w : World) → w ≡ run config peer sending before → Knows octets heard all w
+        → Both before w
         → Both (before ++ events) (runs_on config peer sending w events)
     all_close [] before octets heard all w is k b = rw (append-nil before) b
     all_close (event ∷ events) before octets heard all w is k b =
@@ -225,9 +255,11 @@ module _ (config : Config) (peer : Peer) (sending : Sending) where
       takes = follows_first taker (at_first config peer sending).taker refl refl;
     }
 
-    pub closes_only_so : (events : List Event) (first : Bool) → ClosesSo config peer sending first events (point_of first (run config peer sending events)).closed
+    pub closes_only_so : (events : List Event) (first : Bool)
+        → ClosesSo config peer sending first events (point_of first (run config peer sending events)).closed
     closes_only_so events first = by first (all_close events [] [] [] [] (at_first config peer sending) refl knows_first (inl refl, inl refl))
       where
-        by : (first : Bool) → Both events (run config peer sending events) → ClosesSo config peer sending first events (point_of first (run config peer sending events)).closed
+        by : (first : Bool) → Both events (run config peer sending events)
+            → ClosesSo config peer sending first events (point_of first (run config peer sending events)).closed
         by true b = b.0
         by false b = b.1

@@ -1,6 +1,17 @@
 -- Whatever happens between two joined ends, what was delivered is a front of what the announcing end said, and what it
 -- said is its OPEN, KEEPALIVEs and the UPDATEs of its rules, in their order.
-use Rattle.fs_speaker.proofs.{Words.{◌≡◌, ◌⊎◌, inl, inr, ℕ, zero, suc, ◌+◌, Bool, true, false, if◌then◌else◌, List, [], ◌∷◌, ◌++◌, length, take, drop, map, Option, Some, None, refl, ap, sym, ◌∙◌, subst, append_assoc, append-nil, take-append-drop, Config, Peer, Update, message_text, Closed, Fault, Tick, Quiet, Keeps, Expires, Times, Sending, Sent, Phase, first_text, is_established, open_sent, Point, Handed, hand, runs_by, needs_of, text_sent, update_sent, at_start, session_by, at_moment, tick_at, Machine, hand_each, front_first, Event, Cut, ticks, ticked, CanArrive, taken_in, handed_over, delivered, World, sent, taker_of, teller_of, teller_comes, says, next_said, happens, at_first, run}, Events.{each_event, each_run}, Opening.{Begins, Comes, Heads, IsSafe, IsSilent, Quietly, awaits, heads_more, heads_safe, none_safe, quiet_by, safe_front, taker_begins, teller_begins}, Reading.{Gives, Reads, calmly_none, front_of, hears_calmly, hears_none, hears_notice, met, reads_alive, reads_first_alive, reads_open, reads_rule, up}, Taking.{takes_delivered}, Waking.{hand_opens, open_not, tick_each, tick_opens}}
+use Rattle.fs_speaker.proofs.Words.{◌≡◌, ◌⊎◌, inl, inr, ℕ, zero, suc, ◌+◌, Bool, true, false, if◌then◌else◌, List, [], ◌∷◌, ◌++◌, length, take, drop}
+use Rattle.fs_speaker.proofs.Words.{map, Option, Some, None, refl, ap, sym, ◌∙◌, subst, append_assoc, append-nil, take-append-drop, Config, Peer}
+use Rattle.fs_speaker.proofs.Words.{Update, message_text, Closed, Fault, Tick, Quiet, Keeps, Expires, Times, Sending, Sent, Phase, first_text}
+use Rattle.fs_speaker.proofs.Words.{is_established, open_sent, Point, Handed, hand, runs_by, needs_of, text_sent, update_sent, at_start, session_by}
+use Rattle.fs_speaker.proofs.Words.{at_moment, tick_at, Machine, hand_each, front_first, Event, Cut, ticks, ticked, CanArrive, taken_in, handed_over}
+use Rattle.fs_speaker.proofs.Words.{delivered, World, sent, taker_of, teller_of, teller_comes, says, next_said, happens, at_first, run}
+use Rattle.fs_speaker.proofs.Events.{each_event, each_run}
+use Rattle.fs_speaker.proofs.Opening.{Begins, Comes, Heads, IsSafe, IsSilent, Quietly, awaits, heads_more, heads_safe, none_safe, quiet_by}
+use Rattle.fs_speaker.proofs.Opening.{safe_front, taker_begins, teller_begins}
+use Rattle.fs_speaker.proofs.Reading.{Gives, Reads, calmly_none, front_of, hears_calmly, hears_none, hears_notice, met, reads_alive}
+use Rattle.fs_speaker.proofs.Reading.{reads_first_alive, reads_open, reads_rule, up}
+use Rattle.fs_speaker.proofs.{Taking.{takes_delivered}, Waking.{hand_opens, open_not, tick_each, tick_opens}}
 use Rattle.fs_base.proofs.Octets.{take_of_none}
 
 -- What was delivered is a front of all that was said; and while the receiving end is open and the wire isn't cut, the
@@ -31,7 +42,8 @@ nothing_left zero flying e = e
 nothing_left (suc n) [] e = refl
 nothing_left (suc n) (octet ∷ flying) e = absurd cc
 
-pub lines_delivered : (octets all flying : List ℕ) (cut : Bool) (how how' : Option Closed) (n : ℕ) → (how' ≡ None → how ≡ None) → Lines octets all flying cut how
+pub lines_delivered : (octets all flying : List ℕ) (cut : Bool) (how how' : Option Closed) (n : ℕ) → (how' ≡ None → how ≡ None)
+    → Lines octets all flying cut how
     → Lines (octets ++ taken_in how (take n flying)) all (drop n flying) cut how'
 lines_delivered octets all flying cut None how' n kept l = by cut refl
   where
@@ -71,7 +83,8 @@ lines_same octets all flying cut how how' kept l = record {
 -- nothing is delivered, and more is said
 pub lines_spoken : (octets all flying : List ℕ) (cut : Bool) (how : Option Closed) (text : List ℕ) → Lines octets all flying cut how
     → Lines (octets ++ []) (all ++ text) (sent cut flying text) cut how
-lines_spoken octets all flying cut how text l = lines_same octets (all ++ text) (sent cut flying text) cut how how (λ o. o) (lines_said octets all flying cut how text l)
+lines_spoken octets all flying cut how text l =
+    lines_same octets (all ++ text) (sent cut flying text) cut how how (λ o. o) (lines_said octets all flying cut how text l)
 
 pub lines_cut : (octets all flying : List ℕ) (cut : Bool) (how : Option Closed) → Lines octets all flying cut how → Lines (octets ++ []) all [] true how
 lines_cut octets all flying cut how l = record {
@@ -165,7 +178,8 @@ module _ (config : Config) (peer : Peer) (sending : Sending) (can : CanArrive co
   taker_wakes : (moment : ℕ) (now : Point) → Speaks now (ticked moment now)
   taker_wakes moment now silent =
       tick_each moment now (Begins config peer sending can)
-      (λ e. subst (λ (p : Phase). Begins config peer sending can (ticks (tick_at p.hold (at_moment moment now.times)) now.waiting p (at_moment moment now.times)))
+      (λ e. subst (λ (p : Phase). Begins config peer sending can
+      (ticks (tick_at p.hold (at_moment moment now.times)) now.waiting p (at_moment moment now.times)))
       (sym (silent e)) (inl (refl, λ o. refl)))
       (λ why e. inl (refl, silent))
 
@@ -233,7 +247,8 @@ module _ (config : Config) (peer : Peer) (sending : Sending) (can : CanArrive co
       opened_by : Awaiting all appended now flying other cut ⊎ Beyond all appended now → Tells (all ++ was_made.text) appended was_made.point rest other cut
       opened_by (inl a) =
           began was_made a.1.0 a.1.1
-          (subst (λ (p : Phase). Comes config (needs_of sending.rules) (now.waiting ++ piece) (runs_by teller p (at_moment moment now.times) (now.waiting ++ piece)))
+          (subst (λ (p : Phase). Comes config (needs_of sending.rules) (now.waiting ++ piece)
+          (runs_by teller p (at_moment moment now.times) (now.waiting ++ piece)))
           (sym a.0)
           (teller_begins config (needs_of sending.rules) (at_moment moment now.times) (now.waiting ++ piece)
           (safe_front config (needs_of sending.rules) (now.waiting ++ piece) rest (subst (IsSafe config (needs_of sending.rules)) (sym split) a.1.1.safe))))
@@ -268,9 +283,11 @@ module _ (config : Config) (peer : Peer) (sending : Sending) (can : CanArrive co
       }
 
       waits_on : (p : Phase) → p ≡ at_start → Reads config peer sending all appended (met config peer sending) → Coming (now.waiting ++ flying) other cut
-          → Tells (all ++ (ticks (tick_at p.hold times) now.waiting p times).text) appended (ticks (tick_at p.hold times) now.waiting p times).point flying other cut
+          → Tells (all ++ (ticks (tick_at p.hold times) now.waiting p times).text) appended (ticks (tick_at p.hold times) now.waiting p times).point
+          flying other cut
       waits_on p e r c =
-          subst (λ (p : Phase). Tells (all ++ (ticks (tick_at p.hold times) now.waiting p times).text) appended (ticks (tick_at p.hold times) now.waiting p times).point flying other cut)
+          subst (λ (p : Phase). Tells (all ++ (ticks (tick_at p.hold times) now.waiting p times).text) appended
+          (ticks (tick_at p.hold times) now.waiting p times).point flying other cut)
           (sym e)
           (record {
             gives = calmly_none taker all _ t.gives;
@@ -396,7 +413,8 @@ module _ (config : Config) (peer : Peer) (sending : Sending) (can : CanArrive co
         lines = lines_same octets h.all w.to_taker w.cut w.taker.closed (ticked moment w.taker).point.closed (tick_opens moment w.taker) h.lines;
         tells = tells_heard h.all w.appended w.teller w.to_teller w.taker w.cut (ticked moment w.taker) (taker_wakes moment w.taker) h.tells;
       })
-      (λ end moment e. holds_spoken octets w h (ticked moment w.teller) w.to_teller (tells_tick h.all w.appended w.teller w.to_teller w.taker w.cut moment h.tells))
+      (λ end moment e. holds_spoken octets w h (ticked moment w.teller) w.to_teller
+      (tells_tick h.all w.appended w.teller w.to_teller w.taker w.cut moment h.tells))
       (holds_cut octets w h) event
 
   pub holds_first : Holds [] (at_first config peer sending)
@@ -422,7 +440,8 @@ module _ (config : Config) (peer : Peer) (sending : Sending) (can : CanArrive co
       → (n : ℕ) × ((run config peer sending events).taken ≡ take n (map (update_sent config peer sending) sending.rules))
   takes_front events =
       let octets : List ℕ = delivered config peer sending events in
-      let h : Holds octets (run config peer sending events) = each_run config peer sending Holds holds_on events [] (at_first config peer sending) holds_first in
+      let h : Holds octets (run config peer sending events) =
+      each_run config peer sending Holds holds_on events [] (at_first config peer sending) holds_first in
       let taken : List Update = (run config peer sending events).taken in
       let first = front_first taker at_start octets h.lines.behind in
       let all : map (update_sent config peer sending) (take (run config peer sending events).appended sending.rules) ≡ taken ++ first.0 =

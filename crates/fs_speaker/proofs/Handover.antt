@@ -1,5 +1,10 @@
 -- An end that takes a piece message by message comes to what the whole piece makes of it.
-use Rattle.fs_speaker.proofs.Words.{◌≡◌, ℕ, List, [], ◌∷◌, ◌++◌, length, drop, max, Option, Some, None, Result, Ok, Err, refl, ap, sym, ◌∙◌, subst, arith, append_assoc, append-nil, IfSome, take, ◌-◌, drop_all, take_rest, nil_from_length, Update, pending, State, WaitOpen, WaitKeep, Established, Closed, Fault, Notified, NoFamily, Memory, Times, Point, point, Handed, handed, shuts, updates_with, with_taken, runs_by, hand, Lined, Step, waits, takes, stops, step_by, answer_of, closed_after, Advanced, CloseIs, FeedsAt, FeedsOpen, StaysOver, moved, at_fault, times, at_moment, Phase, Machine, runs_takes, runs_stops, runs_waits, StandsAt, HandsOver}
+use Rattle.fs_speaker.proofs.Words.{◌≡◌, ℕ, List, [], ◌∷◌, ◌++◌, length, drop, max, Option, Some, None, Result, Ok, Err, refl, ap, sym, ◌∙◌, subst}
+use Rattle.fs_speaker.proofs.Words.{arith, append_assoc, append-nil, IfSome, take, ◌-◌, drop_all, take_rest, nil_from_length, Update, pending, State}
+use Rattle.fs_speaker.proofs.Words.{WaitOpen, WaitKeep, Established, Closed, Fault, Notified, NoFamily, Memory, Times, Point, point, Handed, handed}
+use Rattle.fs_speaker.proofs.Words.{shuts, updates_with, with_taken, runs_by, hand, Lined, Step, waits, takes, stops, step_by, answer_of}
+use Rattle.fs_speaker.proofs.Words.{closed_after, Advanced, CloseIs, FeedsAt, FeedsOpen, StaysOver, moved, at_fault, times, at_moment, Phase, Machine}
+use Rattle.fs_speaker.proofs.Words.{runs_takes, runs_stops, runs_waits, StandsAt, HandsOver}
 use Rattle.fs_session.specs.{declared.state.State.TheVariants.{Closed as IsClosed}, Times.{taken_in}}
 pub use Rattle.fs_session.proofs.MessageRuns.{open_hand, closed_hand}
 
@@ -61,7 +66,17 @@ module _ (machine : Machine) (moment : ℕ) (whole : Handed) (taken : List Updat
           text = c.text ++ [];
           took = ap (λ (u : List Update). u ++ updates_with update []) c.took ∙ append_assoc taken c.updates (updates_with update []);
           said = said ∙ ap (λ (t : List ℕ). t ++ []) c.said ∙ append_assoc out c.text [];
-          goes = rw (did.1, did.2, did.3, did.4, gone, append-nil c.updates, append-nil c.text, append-nil (pending old.framing ++ rest), moment_stays moment old.times) c.goes;
+          goes = rw (
+            did.1,
+            did.2,
+            did.3,
+            did.4,
+            gone,
+            append-nil c.updates,
+            append-nil c.text,
+            append-nil (pending old.framing ++ rest),
+            moment_stays moment old.times,
+          ) c.goes;
           waits_is = rw (did.1, did.2) h;
         };
       }
@@ -70,7 +85,8 @@ module _ (machine : Machine) (moment : ℕ) (whole : Handed) (taken : List Updat
       ≡ with_taken (machine.answer old.phase.state) took (runs_by machine next (taken_in old.phase.state (at_moment moment old.times)) left) =
       ap (runs_by machine old.phase (at_moment moment old.times)) (sym (append-nil (pending old.framing ++ rest)))
       ∙ runs_takes machine old.phase next (at_moment moment old.times) took (pending old.framing ++ rest) left [] h
-      ∙ ap (λ (z : List ℕ). with_taken (machine.answer old.phase.state) took (runs_by machine next (taken_in old.phase.state (at_moment moment old.times)) z)) (append-nil left) in
+      ∙ ap (λ (z : List ℕ). with_taken (machine.answer old.phase.state) took
+      (runs_by machine next (taken_in old.phase.state (at_moment moment old.times)) z)) (append-nil left) in
       let later : Handed = runs_by machine next (taken_in old.phase.state (at_moment moment old.times)) left in
       record {
         moved_is = rw did.5 (took_stays moment old.phase.state old.times);
@@ -99,14 +115,17 @@ module _ (machine : Machine) (moment : ℕ) (whole : Handed) (taken : List Updat
       by_step taken' out' out2 old new rest count update c (step_by machine old.phase (pending old.framing ++ rest)) refl fed.0 fed.1
 
   -- a call that closed the end
-  comes_closed : (taken' : List Update) (out' out2 : List ℕ) (old : Lined) (rest : List ℕ) (why : Closed) → Comes machine moment whole taken taken' out out' old rest
+  comes_closed : (taken' : List Update) (out' out2 : List ℕ) (old : Lined) (rest : List ℕ) (why : Closed)
+      → Comes machine moment whole taken taken' out out' old rest
       → step_by machine old.phase (pending old.framing ++ rest) ≡ stops why → out2 ≡ out' ++ at_fault machine.farewell why
       → (whole.point.closed ≡ Some why) × ((taken' ≡ taken ++ whole.updates) × (out2 ≡ out ++ whole.text))
   comes_closed taken' out' out2 old rest why c h said =
       let at : whole ≡ behind c.updates c.text (shuts machine old.phase (at_moment moment old.times) why) =
-      c.goes ∙ ap (λ (z : List ℕ). behind c.updates c.text (runs_by machine old.phase (at_moment moment old.times) z)) (sym (append-nil (pending old.framing ++ rest)))
+      c.goes ∙ ap (λ (z : List ℕ). behind c.updates c.text (runs_by machine old.phase (at_moment moment old.times) z))
+      (sym (append-nil (pending old.framing ++ rest)))
       ∙ ap (behind c.updates c.text) (runs_stops machine old.phase (at_moment moment old.times) why (pending old.framing ++ rest) [] h) in
-      let told : out2 ≡ out ++ (c.text ++ at_fault machine.farewell why) = said ∙ ap (λ (t : List ℕ). t ++ at_fault machine.farewell why) c.said ∙ append_assoc out c.text (at_fault machine.farewell why) in
+      let told : out2 ≡ out ++ (c.text ++ at_fault machine.farewell why) = said ∙ ap (λ (t : List ℕ). t ++ at_fault machine.farewell why) c.said
+      ∙ append_assoc out c.text (at_fault machine.farewell why) in
       rw (at, append-nil c.updates) (refl, (c.took, told))
 
   -- all of the piece was taken
@@ -159,14 +178,17 @@ no_call : {A : Type 0} (why : Closed) (a : A) (how : Option Closed) (result : Re
 no_call why a how result e f = absurd cc
 
 -- of an opened end a call goes on
-went : (machine : Machine) (moment : ℕ) (old line new : Lined) (piece rest : List ℕ) (taken taken' : List Update) (out out' out2 : List ℕ) (count : ℕ) (update : Option Update)
+went : (machine : Machine) (moment : ℕ) (old line new : Lined) (piece rest : List ℕ) (taken taken' : List Update) (out out' out2 : List ℕ) (count : ℕ)
+    (update : Option Update)
     (result : Result (ℕ × Option Update) Closed) (now : Point) → result ≡ Ok (count, update) → StandsAt machine old now
     → StaysOver line new result out' out2 → FeedsOpen machine moment line new rest out' out2 result
     → (how : Option Closed) → now.closed ≡ how → GoesFrom machine moment old line piece rest taken taken' out out' now how
-    → (how ≡ None) × Came machine moment (runs_by machine now.phase (at_moment moment now.times) (now.waiting ++ piece)) taken (taken' ++ updates_with update []) out out2 new (drop count rest)
+    → (how ≡ None) × Came machine moment (runs_by machine now.phase (at_moment moment now.times) (now.waiting ++ piece)) taken
+    (taken' ++ updates_with update []) out out2 new (drop count rest)
 went machine moment old line new piece rest taken taken' out out' out2 count update result now e stands stays feeds None opened g = (
   refl,
-  comes_more machine moment (runs_by machine now.phase (at_moment moment now.times) (now.waiting ++ piece)) taken out taken' out' out2 line new rest count update g.1
+  comes_more machine moment (runs_by machine now.phase (at_moment moment now.times) (now.waiting ++ piece)) taken out taken' out' out2 line new rest
+      count update g.1
       (subst (λ (r : Result (ℕ × Option Update) Closed). FeedsAt machine moment line new rest out' out2 r) e (feeds g.0)),
 )
 went machine moment old line new piece rest taken taken' out out' out2 count update result now e stands stays feeds (Some why) shut g =
@@ -174,23 +196,28 @@ went machine moment old line new piece rest taken taken' out out' out2 count upd
     absurd (no_call why (count, update) (Some why) result e (rw closed at stays).0)
 
 pub going_more : (machine : Machine) (moment : ℕ) (old line new : Lined) (piece rest : List ℕ) (taken taken' : List Update) (out out' out2 : List ℕ) (count : ℕ)
-    (update : Option Update) (result : Result (ℕ × Option Update) Closed) → result ≡ Ok (count, update) → Going machine moment old line piece rest taken taken' out out'
+    (update : Option Update) (result : Result (ℕ × Option Update) Closed) → result ≡ Ok (count, update)
+    → Going machine moment old line piece rest taken taken' out out'
     → StaysOver line new result out' out2 → FeedsOpen machine moment line new rest out' out2 result → new.closed ≡ closed_after result
     → Going machine moment old new piece (drop count rest) taken (taken' ++ updates_with update []) out out2
 going_more machine moment old line new piece rest taken taken' out out' out2 count update result e g stays feeds closed now stands =
-    let w = went machine moment old line new piece rest taken taken' out out' out2 count update result now e stands stays feeds now.closed refl (g now stands) in
+    let w = went machine moment old line new piece rest taken taken' out out' out2 count update result now e stands stays feeds now.closed refl
+    (g now stands) in
     subst (λ (how : Option Closed). GoesFrom machine moment old new piece (drop count rest) taken (taken' ++ updates_with update []) out out2 now how) (sym w.0)
     (closed ∙ ap closed_after e, w.1.comes)
 
 -- the last call took the rest
 pub hands_all : (machine : Machine) (moment : ℕ) (old line new : Lined) (piece rest : List ℕ) (taken taken' : List Update) (out out' out2 : List ℕ) (count : ℕ)
-    (update : Option Update) (result : Result (ℕ × Option Update) Closed) → result ≡ Ok (count, update) → Going machine moment old line piece rest taken taken' out out'
+    (update : Option Update) (result : Result (ℕ × Option Update) Closed) → result ≡ Ok (count, update)
+    → Going machine moment old line piece rest taken taken' out out'
     → StaysOver line new result out' out2 → FeedsOpen machine moment line new rest out' out2 result → new.closed ≡ closed_after result → drop count rest ≡ []
     → HandsOver machine moment old new piece taken (taken' ++ updates_with update []) out out2
 hands_all machine moment old line new piece rest taken taken' out out' out2 count update result e g stays feeds closed none now stands =
-    let w = went machine moment old line new piece rest taken taken' out out' out2 count update result now e stands stays feeds now.closed refl (g now stands) in
+    let w = went machine moment old line new piece rest taken taken' out out' out2 count update result now e stands stays feeds now.closed refl
+    (g now stands) in
     rw (open_hand machine moment now piece w.0)
-    (came_all machine moment (runs_by machine now.phase (at_moment moment now.times) (now.waiting ++ piece)) taken out (taken' ++ updates_with update []) out2 new (drop count rest) w.1 none
+    (came_all machine moment (runs_by machine now.phase (at_moment moment now.times) (now.waiting ++ piece)) taken out
+    (taken' ++ updates_with update []) out2 new (drop count rest) w.1 none
     (closed ∙ ap closed_after e))
 
 pub close_is : (step : Step) (why : Closed) → (why ≡ Memory → ⊥) → CloseIs step why → step ≡ stops why
@@ -200,22 +227,26 @@ close_is step (Notified code subcode) other h = h
 close_is step NoFamily other h = h
 
 -- the last call closed the end, or the end was closed
-pub hands_closed : (machine : Machine) (moment : ℕ) (old line new : Lined) (piece rest : List ℕ) (taken taken' : List Update) (out out' out2 : List ℕ) (why : Closed)
+pub hands_closed : (machine : Machine) (moment : ℕ) (old line new : Lined) (piece rest : List ℕ) (taken taken' : List Update) (out out' out2 : List ℕ)
+    (why : Closed)
     (result : Result (ℕ × Option Update) Closed) → result ≡ Err why → (why ≡ Memory → ⊥) → Going machine moment old line piece rest taken taken' out out'
     → StaysOver line new result out' out2 → FeedsOpen machine moment line new rest out' out2 result → new.closed ≡ closed_after result
     → HandsOver machine moment old new piece taken taken' out out2
-hands_closed machine moment old line new piece rest taken taken' out out' out2 why result e other g stays feeds closed now stands = by now.closed refl (g now stands)
+hands_closed machine moment old line new piece rest taken taken' out out' out2 why result e other g stays feeds closed now stands =
+    by now.closed refl (g now stands)
   where
     never : (what : Closed) → Some what ≡ None → ⊥
     never what h = absurd cc
 
     by : (how : Option Closed) → now.closed ≡ how → GoesFrom machine moment old line piece rest taken taken' out out' now how
-        → StandsAt machine new (hand machine moment now piece).point × ((taken' ≡ taken ++ (hand machine moment now piece).updates) × (out2 ≡ out ++ (hand machine moment now piece).text))
+        → StandsAt machine new (hand machine moment now piece).point
+        × ((taken' ≡ taken ++ (hand machine moment now piece).updates) × (out2 ≡ out ++ (hand machine moment now piece).text))
     by None opened g =
         let fed : FeedsAt machine moment line new rest out' out2 (Err why) =
         subst (λ (r : Result (ℕ × Option Update) Closed). FeedsAt machine moment line new rest out' out2 r) e (feeds g.0) in
         let whole : Handed = runs_by machine now.phase (at_moment moment now.times) (now.waiting ++ piece) in
-        let c = comes_closed machine moment whole taken out taken' out' out2 line rest why g.1 (close_is (step_by machine line.phase (pending line.framing ++ rest)) why other fed.0) fed.1 in
+        let c = comes_closed machine moment whole taken out taken' out' out2 line rest why g.1
+        (close_is (step_by machine line.phase (pending line.framing ++ rest)) why other fed.0) fed.1 in
         rw (open_hand machine moment now piece opened)
         (record { closed_is = closed ∙ ap closed_after e ∙ sym c.0; open_is = λ h. absurd (never why (sym c.0 ∙ h)) }, c.1)
     by (Some what) shut g =

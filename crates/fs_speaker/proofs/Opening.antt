@@ -1,7 +1,14 @@
 -- What an announcing end comes to that waits for an OPEN, and behind it; and how a receiving end begins.
-use Rattle.fs_speaker.proofs.Words.{◌≡◌, ◌⊎◌, inl, inr, ℕ, List, [], ◌∷◌, ◌++◌, length, Bool, true, false, if◌then◌else◌, min, Option, Some, None, Result, Ok, Err, refl, ap, sym, ◌∙◌, subst, arith, append_assoc, append-nil, parts_of, Config, Peer, Message, first_message, wrong_at, message_text, open_body, MessageFault, Open, open_read, text_first, Update, Handed, Point, rests, runs_by, shuts, with_taken, needs_of, at_start, announcer, at_fault, keepalive_to, lacks_of, no_farewell, notice_text, receiver, reply_to, Machine, opened, phase, taken, transition_by, Sending, Closed, Fault, Notified, NoFamily, Memory, State, WaitOpen, WaitKeep, Established, Times, Phase, runs_begun, runs_each, CanArrive, open_fits}
+use Rattle.fs_speaker.proofs.Words.{◌≡◌, ◌⊎◌, inl, inr, ℕ, List, [], ◌∷◌, ◌++◌, length, Bool, true, false, if◌then◌else◌, min, Option, Some, None}
+use Rattle.fs_speaker.proofs.Words.{Result, Ok, Err, refl, ap, sym, ◌∙◌, subst, arith, append_assoc, append-nil, parts_of, Config, Peer, Message}
+use Rattle.fs_speaker.proofs.Words.{first_message, wrong_at, message_text, open_body, MessageFault, Open, open_read, text_first, Update, Handed}
+use Rattle.fs_speaker.proofs.Words.{Point, rests, runs_by, shuts, with_taken, needs_of, at_start, announcer, at_fault, keepalive_to, lacks_of}
+use Rattle.fs_speaker.proofs.Words.{no_farewell, notice_text, receiver, reply_to, Machine, opened, phase, taken, transition_by, Sending, Closed}
+use Rattle.fs_speaker.proofs.Words.{Fault, Notified, NoFamily, Memory, State, WaitOpen, WaitKeep, Established, Times, Phase, runs_begun, runs_each}
+use Rattle.fs_speaker.proofs.Words.{CanArrive, open_fits}
 use Rattle.fs_message.{specs.{Laws.{own_open}, Open.{open_of}}, proofs.StreamLaws.{message_stable}}
-use Rattle.fs_session.{specs.{Times.{taken_in}, declared.{side.Needs.{Needs}, state.State.TheVariants.{Closed as IsClosed}}}, proofs.Transitions.{each_transition}}
+use Rattle.fs_session.specs.{Times.{taken_in}, declared.{side.Needs.{Needs}, state.State.TheVariants.{Closed as IsClosed}}}
+use Rattle.fs_session.proofs.Transitions.{each_transition}
 
 abbrev Made : Type 0
 Made = Result (Phase × Option Update) Closed
@@ -56,11 +63,13 @@ module _ (config : Config) (needs : Needs) where
       wrong : Option MessageFault
       wrong = wrong_at (parts_of first_message octets).1
 
-      none : (wrong : Option MessageFault) (now : Phase) (times : Times) → awaits now.state ≡ false → Quietly now (rests teller now times (parts_of first_message octets).1 wrong)
+      none : (wrong : Option MessageFault) (now : Phase) (times : Times) → awaits now.state ≡ false
+          → Quietly now (rests teller now times (parts_of first_message octets).1 wrong)
       none None now times e = (refl, λ o. (e, refl))
       none (Some fault) now times e = (refl, λ o. absurd cc)
 
-      more : (now next : Phase) (update : Option Update) (message : Message) (messages : List Message) (later : Handed) → transition_by teller now message ≡ Ok (next, update)
+      more : (now next : Phase) (update : Option Update) (message : Message) (messages : List Message) (later : Handed)
+          → transition_by teller now message ≡ Ok (next, update)
           → (awaits next.state ≡ false → Quietly next later) → awaits now.state ≡ false → Quietly now (with_taken (keepalive_to now.state) update later)
       more now next update message messages later t quiet e =
           let k : Past now (Ok (next, update)) = subst (Past now) t (past teller now message) in
@@ -143,10 +152,12 @@ module _ (config : Config) (peer : Peer) (sending : Sending) (can : CanArrive co
       found : Open
       found = own_open config.local_as config.hold_time config.local_id
 
-      read : opened (announcer config needs) (open_of config.local_as (open_body config.local_as config.hold_time config.local_id)) ≡ with_lack (lacks_of needs found)
+      read : opened (announcer config needs) (open_of config.local_as (open_body config.local_as config.hold_time config.local_id))
+          ≡ with_lack (lacks_of needs found)
       read =
           ap (λ (r : Result Open MessageFault). opened (announcer config needs) r)
-          (open_read config.local_as config.hold_time config.local_id can.own.asn.small can.own.hold_time.small can.own.id.small can.own.asn.some can.own.hold_time.not_one can.own.hold_time.not_two can.own.id.some)
+          (open_read config.local_as config.hold_time config.local_id can.own.asn.small can.own.hold_time.small can.own.id.small can.own.asn.some
+          can.own.hold_time.not_one can.own.hold_time.not_two can.own.id.some)
 
       by : (b : Bool) → with_lack b ≡ Ok next → next.0.four ≡ true
       by true e = absurd cc

@@ -1,5 +1,10 @@
 -- What the receiving end takes of what an announcing end says, message by message.
-use Rattle.fs_speaker.proofs.Words.{◌≡◌, ℕ, zero, suc, ◌+◌, true, List, [], ◌∷◌, ◌++◌, length, min, take, drop, map, Some, None, Result, Ok, Err, refl, sym, ap, ◌∙◌, subst, arith, append_assoc, append-nil, AllByRecursion, Config, Peer, MessageFault, Open, message_text, open_body, text_first, open_read, Update, WaitKeep, Established, Closed, Notified, Sent, Sending, open_sent, step_by, body_by, update_sent, text_sent, Last, at_start, closed, session_by, still, with_update, receiver, as_update, notice_text, Phase, Machine, phase, opened, notified, updates, transition_by, terms_of, at_most, body_long, one_message, open_fits, update_fits, machine_stops, machine_waits, step_found, CanArrive}
+use Rattle.fs_speaker.proofs.Words.{◌≡◌, ℕ, zero, suc, ◌+◌, true, List, [], ◌∷◌, ◌++◌, length, min, take, drop, map, Some, None, Result, Ok, Err}
+use Rattle.fs_speaker.proofs.Words.{refl, sym, ap, ◌∙◌, subst, arith, append_assoc, append-nil, AllByRecursion, Config, Peer, MessageFault, Open}
+use Rattle.fs_speaker.proofs.Words.{message_text, open_body, text_first, open_read, Update, WaitKeep, Established, Closed, Notified, Sent, Sending}
+use Rattle.fs_speaker.proofs.Words.{open_sent, step_by, body_by, update_sent, text_sent, Last, at_start, closed, session_by, still, with_update}
+use Rattle.fs_speaker.proofs.Words.{receiver, as_update, notice_text, Phase, Machine, phase, opened, notified, updates, transition_by, terms_of}
+use Rattle.fs_speaker.proofs.Words.{at_most, body_long, one_message, open_fits, update_fits, machine_stops, machine_waits, step_found, CanArrive}
 use Rattle.fs_message.specs.Notice.{notice_of}
 use Rattle.fs_attrs.specs.declared.update.UpdateFault.{UpdateFault}
 use Rattle.fs_session.specs.Laws.{ComesBack}
@@ -57,7 +62,8 @@ module _ (machine : Machine) where
 
   pub hears_calmly : (all : List ℕ) (taken : List Update) (now : Phase) → Hears machine all taken now → Calmly machine all taken
   hears_calmly all taken now h =
-      calmly all taken (still now) (ap (session_by machine at_start) (sym (append-nil all)) ∙ h.goes [] ∙ ap (behind taken) (machine_waits machine now [] refl)) tt
+      calmly all taken (still now) (ap (session_by machine at_start) (sym (append-nil all)) ∙ h.goes []
+      ∙ ap (behind taken) (machine_waits machine now [] refl)) tt
 
   -- nothing more is said
   pub hears_none : (all : List ℕ) (taken : List Update) (now : Phase) → Hears machine all taken now → Hears machine (all ++ []) taken now
@@ -73,7 +79,8 @@ module _ (machine : Machine) where
   }
 
   -- a NOTIFICATION
-  pub hears_notice : (all : List ℕ) (taken : List Update) (now : Phase) (code subcode : ℕ) → Hears machine all taken now → Calmly machine (all ++ notice_text code subcode) taken
+  pub hears_notice : (all : List ℕ) (taken : List Update) (now : Phase) (code subcode : ℕ) → Hears machine all taken now
+      → Calmly machine (all ++ notice_text code subcode) taken
   hears_notice all taken now code subcode h =
       let body : List ℕ = code ∷ subcode ∷ [] in
       let text : List ℕ = notice_text code subcode in
@@ -113,18 +120,21 @@ module _ (config : Config) (peer : Peer) (sending : Sending) where
       let fits = open_fits (length body) refl in
       let opening : transition_by machine at_start (record { kind = 1; body = body }) ≡ Ok (met, None) =
       ap (λ (r : Result Open MessageFault). opened machine r)
-      (open_read peer.asn config.hold_time sending.id can.asn.small can.own.hold_time.small can.id.small can.asn.some can.own.hold_time.not_one can.own.hold_time.not_two can.id.some)
+      (open_read peer.asn config.hold_time sending.id can.asn.small can.own.hold_time.small can.id.small can.asn.some can.own.hold_time.not_one
+      can.own.hold_time.not_two can.id.some)
       ∙ ap (λ (n : ℕ). Ok (phase WaitKeep true n, None)) (least config.hold_time) in
       record { goes = λ more. one_message machine at_start met None 1 body more (omega arith) (omega arith) fits.0 fits.1 opening }
 
   -- a KEEPALIVE
   pub reads_first_alive : (all : List ℕ) (appended : ℕ) → Reads all appended met → Reads (all ++ message_text 4 []) appended up
   reads_first_alive all appended r =
-      hears_more machine all (message_text 4 []) (firsts appended) met up r (λ more. one_message machine met up None 4 [] more (omega arith) (omega arith) refl (omega arith) refl)
+      hears_more machine all (message_text 4 []) (firsts appended) met up r
+      (λ more. one_message machine met up None 4 [] more (omega arith) (omega arith) refl (omega arith) refl)
 
   pub reads_alive : (all : List ℕ) (appended : ℕ) → Reads all appended up → Reads (all ++ message_text 4 []) appended up
   reads_alive all appended r =
-      hears_more machine all (message_text 4 []) (firsts appended) up up r (λ more. one_message machine up up None 4 [] more (omega arith) (omega arith) refl (omega arith) refl)
+      hears_more machine all (message_text 4 []) (firsts appended) up up r
+      (λ more. one_message machine up up None 4 [] more (omega arith) (omega arith) refl (omega arith) refl)
 
   -- the UPDATE of the next rule
   pub reads_rule : CanArrive config peer sending → (all : List ℕ) (appended : ℕ) (sent : Sent) (rest : List Sent) → drop appended sending.rules ≡ sent ∷ rest
@@ -136,7 +146,8 @@ module _ (config : Config) (peer : Peer) (sending : Sending) where
       let update : Update = update_sent config peer sending sent in
       let one : appended + 1 ≡ suc appended = omega arith in
       let all_now : firsts (appended + 1) ≡ firsts appended ++ update ∷ [] =
-      ap firsts one ∙ ap (map (update_sent config peer sending)) next.0 ∙ map_joined (update_sent config peer sending) (take appended sending.rules) (sent ∷ []) in
+      ap firsts one ∙ ap (map (update_sent config peer sending)) next.0
+      ∙ map_joined (update_sent config peer sending) (take appended sending.rules) (sent ∷ []) in
       record {
         goes = λ more.
             let later : List Update × Last = session_by machine up more in

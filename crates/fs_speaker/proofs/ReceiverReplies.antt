@@ -1,5 +1,14 @@
 -- What a receiving end says that hears an announcing end, and what the announcing end comes to that hears all of it.
-use Rattle.fs_speaker.proofs.{Words.{◌≡◌, ◌⊎◌, inl, inr, ◌&&◌, ◌||◌, not, ℕ, List, [], ◌++◌, length, Bool, true, false, if◌then◌else◌, min, Option, Some, None, Result, Ok, Err, refl, ap, sym, ◌∙◌, subst, arith, append_assoc, append-nil, parts_of, Config, Peer, first_message, wrong_at, message_text, open_body, MessageFault, Open, open_read, Update, Handed, Point, hand, rests, runs_by, shuts, needs_of, at_start, session_by, announcer, at_fault, notice_text, receiver, reply_to, at_moment, tick_at, Machine, faulted, opened, phase, taken, transition_by, Sending, Closed, Fault, Notified, NoFamily, Memory, State, WaitOpen, WaitKeep, Established, Tick, Quiet, Keeps, Expires, Times, Phase, hand_each, runs_begun, runs_each, ticked, ticks, CanArrive, one_message, open_fits}, Opening.{awaits, Past, past}, Reading.{Calmly, Hears, calmly_none, hears_calmly, hears_more, hears_none, hears_notice, least, met, up}, Waking.{open_not, tick_each}}
+use Rattle.fs_speaker.proofs.Words.{◌≡◌, ◌⊎◌, inl, inr, ◌&&◌, ◌||◌, not, ℕ, List, [], ◌++◌, length, Bool, true, false, if◌then◌else◌, min, Option}
+use Rattle.fs_speaker.proofs.Words.{Some, None, Result, Ok, Err, refl, ap, sym, ◌∙◌, subst, arith, append_assoc, append-nil, parts_of, Config, Peer}
+use Rattle.fs_speaker.proofs.Words.{first_message, wrong_at, message_text, open_body, MessageFault, Open, open_read, Update, Handed, Point, hand}
+use Rattle.fs_speaker.proofs.Words.{rests, runs_by, shuts, needs_of, at_start, session_by, announcer, at_fault, notice_text, receiver, reply_to}
+use Rattle.fs_speaker.proofs.Words.{at_moment, tick_at, Machine, faulted, opened, phase, taken, transition_by, Sending, Closed, Fault, Notified}
+use Rattle.fs_speaker.proofs.Words.{NoFamily, Memory, State, WaitOpen, WaitKeep, Established, Tick, Quiet, Keeps, Expires, Times, Phase, hand_each}
+use Rattle.fs_speaker.proofs.Words.{runs_begun, runs_each, ticked, ticks, CanArrive, one_message, open_fits}
+use Rattle.fs_speaker.proofs.Opening.{awaits, Past, past}
+use Rattle.fs_speaker.proofs.Reading.{Calmly, Hears, calmly_none, hears_calmly, hears_more, hears_none, hears_notice, least, met, up}
+use Rattle.fs_speaker.proofs.Waking.{open_not, tick_each}
 use Rattle.fs_session.specs.{Times.{taken_in}, declared.state.State.TheVariants.{Closed as IsClosed}}
 
 abbrev Made : Type 0
@@ -44,7 +53,8 @@ module _ (config : Config) (peer : Peer) where
       wrong : Option MessageFault
       wrong = wrong_at (parts_of first_message octets).1
 
-      none : (wrong : Option MessageFault) (now : Phase) (times : Times) → awaits now.state ≡ false → Tails (rests taker now times (parts_of first_message octets).1 wrong)
+      none : (wrong : Option MessageFault) (now : Phase) (times : Times) → awaits now.state ≡ false
+          → Tails (rests taker now times (parts_of first_message octets).1 wrong)
       none None now times e = (λ o. (refl, e), λ why h. absurd (open_not why (sym h)))
       none (Some fault) now times e = tail_shuts now times (faulted fault)
 
@@ -98,7 +108,8 @@ module _ (config : Config) (peer : Peer) (sending : Sending) (can : CanArrive co
       ≡ Ok (met config peer sending, None)
   opening =
       ap (λ (r : Result Open MessageFault). opened teller r)
-      (open_read config.local_as config.hold_time config.local_id can.own.asn.small can.own.hold_time.small can.own.id.small can.own.asn.some can.own.hold_time.not_one can.own.hold_time.not_two can.own.id.some)
+      (open_read config.local_as config.hold_time config.local_id can.own.asn.small can.own.hold_time.small can.own.id.small can.own.asn.some
+      can.own.hold_time.not_one can.own.hold_time.not_two can.own.id.some)
       ∙ ap with_lack (no_lack (needs_of sending.rules).v4 (needs_of sending.rules).v6)
       ∙ ap (λ (n : ℕ). Ok (phase WaitKeep true n, None)) (least config.hold_time)
 
@@ -146,7 +157,8 @@ module _ (config : Config) (peer : Peer) (sending : Sending) (can : CanArrive co
   pub says_piece : (all : List ℕ) (now : Point) (moment : ℕ) (piece : List ℕ) → Says all now
       → Says (all ++ (hand (receiver config peer) moment now piece).text) (hand (receiver config peer) moment now piece).point
   says_piece all now moment piece s =
-      hand_each (receiver config peer) moment now piece (λ made. Says (all ++ made.text) made.point) (λ e. opened_by (s.stands e)) (λ why e. says_same all now s)
+      hand_each (receiver config peer) moment now piece (λ made. Says (all ++ made.text) made.point) (λ e. opened_by (s.stands e))
+      (λ why e. says_same all now s)
     where
       began : (made : Handed) → Leaves all at_start → Comes config peer made → Says (all ++ made.text) made.point
       began made l (inl w) =
@@ -182,7 +194,8 @@ module _ (config : Config) (peer : Peer) (sending : Sending) (can : CanArrive co
       waits_on : (p : Phase) → p ≡ at_start → Leaves all at_start
           → Says (all ++ (ticks (tick_at p.hold times) now.waiting p times).text) (ticks (tick_at p.hold times) now.waiting p times).point
       waits_on p e l =
-          subst (λ (p : Phase). Says (all ++ (ticks (tick_at p.hold times) now.waiting p times).text) (ticks (tick_at p.hold times) now.waiting p times).point) (sym e)
+          subst (λ (p : Phase). Says (all ++ (ticks (tick_at p.hold times) now.waiting p times).text)
+          (ticks (tick_at p.hold times) now.waiting p times).point) (sym e)
           (record { calm = calmly_none teller all [] s.calm; stands = λ o. inl (refl, hears_none teller all [] at_start l) })
 
       beyond : (tick : Tick) → awaits now.phase.state ≡ false → Leaves all (up config peer sending)
@@ -197,7 +210,8 @@ module _ (config : Config) (peer : Peer) (sending : Sending) (can : CanArrive co
       }
 
       opened_by : ((now.phase ≡ at_start) × Leaves all at_start) ⊎ ((awaits now.phase.state ≡ false) × Leaves all (up config peer sending))
-          → Says (all ++ (ticks (tick_at now.phase.hold times) now.waiting now.phase times).text) (ticks (tick_at now.phase.hold times) now.waiting now.phase times).point
+          → Says (all ++ (ticks (tick_at now.phase.hold times) now.waiting now.phase times).text)
+          (ticks (tick_at now.phase.hold times) now.waiting now.phase times).point
       opened_by (inl a) = waits_on now.phase a.0 a.1
       opened_by (inr b) = beyond (tick_at now.phase.hold times) b.0 b.1
 

@@ -1,5 +1,9 @@
 -- A list of events, and one event more.
-use Rattle.fs_speaker.proofs.{Words.{◌≡◌, ℕ, Bool, true, false, List, [], ◌∷◌, ◌++◌, Option, Some, None, Ok, option_map, unwrap_or, refl, ap, sym, ◌∙◌, subst, IfSome, Config, Peer, Sending, Closed, Announcing, announcing, open_sent, StartsOpen, fresh, step_by, waits, sender_of, Live, live, begins, at_start, Machine, Event, Both, both, AreIn, Becomes, SameOnes, flying, Jointed, jointed, one_more, run_of, IsRun, World, taker_of, teller_of, happens, runs_on, run}, Lowest.{sender_told}}
+use Rattle.fs_speaker.proofs.Words.{◌≡◌, ℕ, Bool, true, false, List, [], ◌∷◌, ◌++◌, Option, Some, None, Ok, option_map, unwrap_or, refl, ap, sym, ◌∙◌}
+use Rattle.fs_speaker.proofs.Words.{subst, IfSome, Config, Peer, Sending, Closed, Announcing, announcing, open_sent, StartsOpen, fresh, step_by}
+use Rattle.fs_speaker.proofs.Words.{waits, sender_of, Live, live, begins, at_start, Machine, Event, Both, both, AreIn, Becomes, SameOnes, flying}
+use Rattle.fs_speaker.proofs.Words.{Jointed, jointed, one_more, run_of, IsRun, World, taker_of, teller_of, happens, runs_on, run}
+use Rattle.fs_speaker.proofs.Lowest.{sender_told}
 
 pub run_more : (config : Config) (peer : Peer) (sending : Sending) (w : World) (events : List Event) (event : Event)
     → runs_on config peer sending w (events ++ event ∷ []) ≡ happens config peer sending event (runs_on config peer sending w events)
@@ -14,7 +18,8 @@ same_world old new events same =
     ∙ ap (λ (s : Sending). run old.teller.config old.teller.peer s events) same.2
 
 -- an event happened
-pub one_happened : (old new : Both) (events events' : List Event) (event : Event) (first second first' second' : Option Closed) → IsRun old events first second false → events' ≡ events ++ event ∷ []
+pub one_happened : (old new : Both) (events events' : List Event) (event : Event) (first second first' second' : Option Closed)
+    → IsRun old events first second false → events' ≡ events ++ event ∷ []
     → Becomes (λ config peer sending. happens config peer sending event) old new → SameOnes old new
     → first' ≡ new.taker.closed → second' ≡ new.teller.line.closed → IsRun new events' first' second' false
 one_happened old new events events' event first second first' second' run_is more becomes same first_is second_is =
@@ -36,7 +41,8 @@ one_happened old new events events' event first second first' second' run_is mor
     }
 
 -- a step was refused
-pub none_happened : (old new : Both) (events : List Event) (first second : Option Closed) (spent : Bool) → IsRun old events first second spent → SameOnes old new → new.taken ≡ old.taken → IsRun new events first second true
+pub none_happened : (old new : Both) (events : List Event) (first second : Option Closed) (spent : Bool) → IsRun old events first second spent
+    → SameOnes old new → new.taken ≡ old.taken → IsRun new events first second true
 none_happened old new events first second spent run_is same kept =
     let world : run_of old events ≡ run_of new events = sym (same_world old new events same) in
     record {
@@ -53,7 +59,8 @@ joint_of old new events spent same =
     ∙ ap (λ (p : Peer). jointed old.teller.config p new.teller.sending events spent) same.1
     ∙ ap (λ (s : Sending). jointed old.teller.config old.teller.peer s events spent) same.2
 
-pub same_joint : (old new : Both) (events events' : List Event) (event : Event) (was : Jointed) → jointed old.teller.config old.teller.peer old.teller.sending events false ≡ was
+pub same_joint : (old new : Both) (events events' : List Event) (event : Event) (was : Jointed)
+    → jointed old.teller.config old.teller.peer old.teller.sending events false ≡ was
     → events' ≡ events ++ event ∷ [] → SameOnes old new → jointed new.teller.config new.teller.peer new.teller.sending events' false ≡ one_more event was
 same_joint old new events events' event was e more same =
     joint_of old new events' false same
@@ -64,12 +71,17 @@ nothing_waits : (machine : Machine) → step_by machine at_start [] ≡ waits
 nothing_waits machine = refl
 
 first_ends : (config : Config) (peer : Peer) (sending : Sending)
-    → AreIn config peer sending (both (live config peer fresh) (announcing config peer sending fresh true 0) (flying (open_sent config peer sending) [] false) []) (run config peer sending [])
+    → AreIn config peer sending (both (live config peer fresh) (announcing config peer sending fresh true 0)
+    (flying (open_sent config peer sending) [] false) []) (run config peer sending [])
 first_ends config peer sending = record {
   first = record {
     config_is = refl;
     peer_is = refl;
-    stands = record { closed_is = refl; open_is = λ e. record { waiting_is = refl; phase_is = refl; times_is = refl; waits_is = nothing_waits (taker_of config peer sending) } };
+    stands = record {
+      closed_is = refl;
+      open_is =
+          λ e. record { waiting_is = refl; phase_is = refl; times_is = refl; waits_is = nothing_waits (taker_of config peer sending) };
+    };
   };
   second = record {
     config_is = refl;
@@ -77,7 +89,11 @@ first_ends config peer sending = record {
     sending_is = refl;
     started = refl;
     appended_is = refl;
-    stands = record { closed_is = refl; open_is = λ e. record { waiting_is = refl; phase_is = refl; times_is = refl; waits_is = nothing_waits (teller_of config peer sending) } };
+    stands = record {
+      closed_is = refl;
+      open_is =
+          λ e. record { waiting_is = refl; phase_is = refl; times_is = refl; waits_is = nothing_waits (teller_of config peer sending) };
+    };
   };
   to_taker_is = refl;
   to_teller_is = refl;
@@ -86,7 +102,8 @@ first_ends config peer sending = record {
 }
 
 -- before the first event
-pub joint_begins : (config : Config) (peer : Peer) (sending : Sending) (taker : Live) (teller teller' : Announcing) (said : List ℕ) (ends : Both) (events : List Event)
+pub joint_begins : (config : Config) (peer : Peer) (sending : Sending) (taker : Live) (teller teller' : Announcing) (said : List ℕ) (ends : Both)
+    (events : List Event)
     → sender_of config.peers ≡ Some peer → begins config peer.number ≡ Some taker
     → IfSome (sender_of config.peers) (λ (p : Peer). teller ≡ announcing config p sending fresh false 0) → StartsOpen teller teller' [] said (Ok tt)
     → ends ≡ both taker teller' (flying said [] false) [] → events ≡ []

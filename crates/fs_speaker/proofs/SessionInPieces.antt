@@ -1,5 +1,9 @@
 -- What a session comes to that is handed on, in pieces, and that a front of the octets closed.
-use Rattle.fs_speaker.{proofs.{Words.{◌≡◌, ℕ, List, [], ◌++◌, Option, Some, None, refl, ap, sym, ◌∙◌, subst, append_assoc, Update, Handed, Point, hand, runs_by, Last, at_start, closed, still, session_by, with_update, at_moment, tick_at, Machine, Closed, Tick, Quiet, Keeps, Expires, Times, Phase, hand_each, open_hand, both_by, last_of, session_seen, ticked, ticks}, Waking.{open_not, hand_stays, tick_each}}, specs.JointLaws.{taken_in as octets_in}}
+use Rattle.fs_speaker.proofs.Words.{◌≡◌, ℕ, List, [], ◌++◌, Option, Some, None, refl, ap, sym, ◌∙◌, subst, append_assoc, Update, Handed, Point, hand}
+use Rattle.fs_speaker.proofs.Words.{runs_by, Last, at_start, closed, still, session_by, with_update, at_moment, tick_at, Machine, Closed, Tick, Quiet}
+use Rattle.fs_speaker.proofs.Words.{Keeps, Expires, Times, Phase, hand_each, open_hand, both_by, last_of, session_seen, ticked, ticks}
+use Rattle.fs_speaker.proofs.Waking.{open_not, hand_stays, tick_each}
+use Rattle.fs_speaker.specs.JointLaws.{taken_in as octets_in}
 
 -- an update more changes nothing of what the session comes to
 pub last_update : (update : Option Update) (played : List Update × Last) → (with_update update played).1 ≡ played.1
@@ -21,11 +25,13 @@ module _ (machine : Machine) where
     last_goes : (now : Point) → last_of (hand machine 0 now more).point ≡ goes_at more now now.closed
     last_goes now =
         hand_each machine 0 now more (λ made. last_of made.point ≡ goes_at more now now.closed)
-        (λ e. sym (ap (λ (z : List Update × Last). z.1) (session_seen machine now.phase (at_moment 0 now.times) (now.waiting ++ more))) ∙ sym (ap (goes_at more now) e))
+        (λ e. sym (ap (λ (z : List Update × Last). z.1) (session_seen machine now.phase (at_moment 0 now.times) (now.waiting ++ more)))
+        ∙ sym (ap (goes_at more now) e))
         (λ why e. ap (λ (o : Option Closed). elim o [ Some w ↦ closed w | None ↦ still now.phase ]) e ∙ sym (ap (goes_at more now) e))
 
     pub goes_by : (now : Phase) (times : Times) (octets : List ℕ) → last_by now (octets ++ more) ≡ goes_on more (runs_by machine now times octets)
-    goes_by now times octets = ap (λ (z : List Update × Last). z.1) (both_by machine more 0 now times octets).0 ∙ last_goes (runs_by machine now times octets).point
+    goes_by now times octets = ap (λ (z : List Update × Last). z.1) (both_by machine more 0 now times octets).0
+        ∙ last_goes (runs_by machine now times octets).point
 
   -- An end that is open goes on from where it stands.
   pub record Follows (octets : List ℕ) (now : Point) : Type 0 where
@@ -55,7 +61,8 @@ module _ (machine : Machine) where
 
   -- how it has then closed: as it had, not at all, or as the session of all octets does
   pub closes_by : (P : Option Closed → Type 0) (octets piece more all : List ℕ) (now : Point) (moment : ℕ) → P now.closed → P None
-      → ((why : Closed) → (session_by machine at_start all).1 ≡ closed why → P (Some why)) → Follows octets now → (octets ++ octets_in now.closed piece) ++ more ≡ all
+      → ((why : Closed) → (session_by machine at_start all).1 ≡ closed why → P (Some why)) → Follows octets now
+      → (octets ++ octets_in now.closed piece) ++ more ≡ all
       → P (hand machine moment now piece).point.closed
   closes_by P octets piece more all now moment kept opened shut f front = by now.closed refl
     where

@@ -1,5 +1,15 @@
 -- An announcing end whose identifier is 0.0.0.0: its OPEN is refused, and nothing of what it says is taken.
-use Rattle.fs_speaker.{proofs.{Words.{◌≡◌, ◌⊎◌, inl, inr, ℕ, ◌==◌, ◌^◌, ◌<◌, true, List, [], ◌∷◌, ◌++◌, length, take, Option, Some, Result, Err, refl, ap, sym, ◌∙◌, subst, append_assoc, append-nil, arith, Config, Peer, Update, message_text, open_body, MessageFault, Open, open_unnamed, text_first, open_sent, Point, hand, step_by, Last, at_start, closed, session_by, Machine, opened, Sending, Closed, Fault, front_first, machine_stops, step_found, Event, Send, Deliver, Cut, ticked, ClosesSo, IsUnnamed, delivered, delivered_on, handed_over, taken_in, World, sent, taker_of, teller_of, happens, at_first, runs_on, run, open_fits}, Closing.{so_later, so_tick, takes_on}, Events.{each_event}, Fronting.{Lines, lines_cut, lines_delivered, lines_same, lines_spoken}, SessionInPieces.{Follows, closes_by, follows_first}, Running.{run_more}, Taking.{takes_delivered}, Waking.{hand_opens, tick_opens, tick_stays}}, specs.declared.event.Event.TheVariants.{Tick as TickEvent}}
+use Rattle.fs_speaker.proofs.Words.{◌≡◌, ◌⊎◌, inl, inr, ℕ, ◌==◌, ◌^◌, ◌<◌, true, List, [], ◌∷◌, ◌++◌, length, take, Option, Some, Result, Err, refl}
+use Rattle.fs_speaker.proofs.Words.{ap, sym, ◌∙◌, subst, append_assoc, append-nil, arith, Config, Peer, Update, message_text, open_body, MessageFault}
+use Rattle.fs_speaker.proofs.Words.{Open, open_unnamed, text_first, open_sent, Point, hand, step_by, Last, at_start, closed, session_by, Machine}
+use Rattle.fs_speaker.proofs.Words.{opened, Sending, Closed, Fault, front_first, machine_stops, step_found, Event, Send, Deliver, Cut, ticked}
+use Rattle.fs_speaker.proofs.Words.{ClosesSo, IsUnnamed, delivered, delivered_on, handed_over, taken_in, World, sent, taker_of, teller_of, happens}
+use Rattle.fs_speaker.proofs.Words.{at_first, runs_on, run, open_fits}
+use Rattle.fs_speaker.proofs.{Closing.{so_later, so_tick, takes_on}, Events.{each_event}}
+use Rattle.fs_speaker.proofs.Fronting.{Lines, lines_cut, lines_delivered, lines_same, lines_spoken}
+use Rattle.fs_speaker.proofs.{SessionInPieces.{Follows, closes_by, follows_first}, Running.{run_more}, Taking.{takes_delivered}}
+use Rattle.fs_speaker.proofs.Waking.{hand_opens, tick_opens, tick_stays}
+use Rattle.fs_speaker.specs.declared.event.Event.TheVariants.{Tick as TickEvent}
 
 zero_small : (n : ℕ) → n ≡ 0 → n < 2 ^ 32
 zero_small n e = rw e (omega arith)
@@ -26,10 +36,12 @@ module _ (config : Config) (peer : Peer) (sending : Sending) where
   begun_on : (octets : List ℕ) (w : World) (event : Event) → Begun octets w → Begun (octets ++ handed_over event w) (happens config peer sending event w)
   begun_on octets w event b =
       each_event config peer sending w (λ _ over _ next. Begun (octets ++ over) next)
-      (record { more = b.more; lines = lines_same octets all w.to_taker w.cut w.taker.closed w.taker.closed (λ o. o) b.lines }) (λ text e. record { more = b.more ++ text; lines = spoken text })
+      (record { more = b.more; lines = lines_same octets all w.to_taker w.cut w.taker.closed w.taker.closed (λ o. o) b.lines })
+      (λ text e. record { more = b.more ++ text; lines = spoken text })
       (λ to count moment.
       let piece : List ℕ = take count w.to_taker in
-      let lines = lines_delivered octets all w.to_taker w.cut w.taker.closed (hand taker moment w.taker piece).point.closed count (hand_opens taker moment w.taker piece) b.lines in
+      let lines = lines_delivered octets all w.to_taker w.cut w.taker.closed (hand taker moment w.taker piece).point.closed count
+      (hand_opens taker moment w.taker piece) b.lines in
       record { more = b.more; lines = lines })
       (λ to count moment.
       let text : List ℕ = (hand teller moment w.teller (take count w.to_teller)).text in
@@ -45,7 +57,8 @@ module _ (config : Config) (peer : Peer) (sending : Sending) where
 
       spoken : (text : List ℕ) → Lines (octets ++ []) (open_sent config peer sending ++ (b.more ++ text)) (sent w.cut w.to_taker text) w.cut w.taker.closed
       spoken text =
-          subst (λ (z : List ℕ). Lines (octets ++ []) z (sent w.cut w.to_taker text) w.cut w.taker.closed) (append_assoc (open_sent config peer sending) b.more text)
+          subst (λ (z : List ℕ). Lines (octets ++ []) z (sent w.cut w.to_taker text) w.cut w.taker.closed)
+          (append_assoc (open_sent config peer sending) b.more text)
           (lines_spoken octets all w.to_taker w.cut w.taker.closed text b.lines)
 
   module _ (un : IsUnnamed config peer sending) where
@@ -60,7 +73,8 @@ module _ (config : Config) (peer : Peer) (sending : Sending) where
         ∙ step_found taker at_start (text ++ []) (record { kind = 1; body = body }, []) (Err (Fault 2 3))
         (text_first 1 body [] (omega arith) (omega arith) fits.0 fits.1)
         (ap (λ (r : Result Open MessageFault). opened taker r)
-        (open_unnamed peer.asn config.hold_time sending.id un.asn.small un.hold_time.small (zero_small sending.id un.unnamed) un.asn.some un.hold_time.not_one un.hold_time.not_two un.unnamed)))
+        (open_unnamed peer.asn config.hold_time sending.id un.asn.small un.hold_time.small
+        (zero_small sending.id un.unnamed) un.asn.some un.hold_time.not_one un.hold_time.not_two un.unnamed)))
 
     none_taken : (octets : List ℕ) (w : World) → Begun octets w → (session_by taker at_start octets).0 ≡ []
     none_taken octets w b =
@@ -79,7 +93,8 @@ module _ (config : Config) (peer : Peer) (sending : Sending) where
         → Follows taker octets now → (octets ++ taken_in now.closed piece) ++ behind ≡ open_sent config peer sending ++ more
         → So (events ++ event ∷ []) (hand taker moment now piece).point.closed
     piece_so events event octets behind more now moment piece so f front =
-        closes_by taker (So (events ++ event ∷ [])) octets piece behind (open_sent config peer sending ++ more) now moment (later events event now.closed so) (inl (inl refl))
+        closes_by taker (So (events ++ event ∷ [])) octets piece behind (open_sent config peer sending ++ more) now moment
+        (later events event now.closed so) (inl (inl refl))
         (λ why e. inr (ap (λ (c : Closed). Some c) (same_why why (Fault 2 3) (sym e ∙ ap (λ (s : List Update × Last). s.1) (refused more))))) f front
 
     tick_so : (events : List Event) (end moment : ℕ) → (end == 0) ≡ true → (now : Point) → now ≡ (run config peer sending events).taker → So events now.closed
@@ -122,7 +137,9 @@ module _ (config : Config) (peer : Peer) (sending : Sending) where
 
     pub takes_none : (events : List Event)
         → ((run config peer sending events).taken ≡ [])
-        × (ClosesSo config peer sending true events (run config peer sending events).taker.closed ⊎ ((run config peer sending events).taker.closed ≡ Some (Fault 2 3)))
+        × (ClosesSo config peer sending true events (run config peer sending events).taker.closed
+        ⊎ ((run config peer sending events).taker.closed ≡ Some (Fault 2 3)))
     takes_none events =
-        let done = all_so events [] [] (at_first config peer sending) refl (follows_first taker (at_first config peer sending).taker refl refl) begun_first (inl (inl refl)) in
+        let done = all_so events [] [] (at_first config peer sending) refl (follows_first taker (at_first config peer sending).taker refl refl)
+        begun_first (inl (inl refl)) in
         (takes_delivered config peer sending events ∙ none_taken (delivered config peer sending events) (run config peer sending events) done.1, done.0)

@@ -1,4 +1,7 @@
-use Rattle.fs_speaker.proofs.Words.{◌≡◌, ℕ, List, [], ◌++◌, Option, Some, None, Result, Ok, Err, refl, ap, sym, ◌∙◌, subst, append-nil, IfSome, pending, Closed, Fault, Notified, NoFamily, Memory, Tick, Quiet, Keeps, Expires, Times, Phase, Point, Handed, handed, hand, Lined, Refuses, TickDoes, TickCloses, Ticks, TicksOpen, StaysOver, closed_after, notice_text, at_moment, written_now, tick_at, Machine, closed_hand, hand_each, ticks, ticked, IsAt, StandsAt, TicksOver}
+use Rattle.fs_speaker.proofs.Words.{◌≡◌, ℕ, List, [], ◌++◌, Option, Some, None, Result, Ok, Err, refl, ap, sym, ◌∙◌, subst, append-nil, IfSome}
+use Rattle.fs_speaker.proofs.Words.{pending, Closed, Fault, Notified, NoFamily, Memory, Tick, Quiet, Keeps, Expires, Times, Phase, Point, Handed}
+use Rattle.fs_speaker.proofs.Words.{handed, hand, Lined, Refuses, TickDoes, TickCloses, Ticks, TicksOpen, StaysOver, closed_after, notice_text}
+use Rattle.fs_speaker.proofs.Words.{at_moment, written_now, tick_at, Machine, closed_hand, hand_each, ticks, ticked, IsAt, StandsAt, TicksOver}
 
 -- The clock at an end.
 
@@ -13,7 +16,8 @@ module _ (machine : Machine) (moment : ℕ) (old new : Lined) (out out' : List �
   then_at = at_moment moment now.times
 
   tick_is : tick_at old.phase.hold (at_moment moment old.times) ≡ tick_at now.phase.hold then_at
-  tick_is = ap (λ (p : Phase). tick_at p.hold (at_moment moment old.times)) at.phase_is ∙ ap (λ (t : Times). tick_at now.phase.hold (at_moment moment t)) at.times_is
+  tick_is = ap (λ (p : Phase). tick_at p.hold (at_moment moment old.times)) at.phase_is
+      ∙ ap (λ (t : Times). tick_at now.phase.hold (at_moment moment t)) at.times_is
 
   -- the end is open with these moments
   stays_open : (times : Times) → new.closed ≡ None → new.framing ≡ old.framing → new.phase ≡ old.phase → new.times ≡ times
@@ -83,7 +87,8 @@ tick_stays moment now why e =
     tick_each moment now (λ made. made.point.closed ≡ Some why) (λ o. absurd (open_not why (sym e ∙ o))) (λ other f. e)
 
 pub ticks_on : (machine : Machine) (moment : ℕ) (old new : Lined) (out out' : List ℕ) (result : Result (Unit {0}) Closed) → result ≡ Ok tt
-    → StaysOver old new result out out' → new.closed ≡ closed_after result → TicksOpen moment old new out out' result → TicksOver machine moment old new out out'
+    → StaysOver old new result out out' → new.closed ≡ closed_after result → TicksOpen moment old new out out' result
+    → TicksOver machine moment old new out out'
 ticks_on machine moment old new out out' result e stays shut did now stands = by now.closed refl
   where
     no_call : (why : Closed) → result ≡ Err why → ⊥
@@ -97,8 +102,10 @@ ticks_on machine moment old new out out' result e stays shut did now stands = by
         (subst (λ (t : Tick). TickDoes t (at_moment moment old.times) new.times out out') (tick_is machine moment old new out out' now at) done.0)
     by (Some why) closed = absurd (no_call why (rw (stands.closed_is ∙ closed) at stays).0)
 
-pub ticks_shut : (machine : Machine) (moment : ℕ) (old new : Lined) (out out' : List ℕ) (why : Closed) (result : Result (Unit {0}) Closed) → result ≡ Err why → (why ≡ Memory → ⊥)
-    → StaysOver old new result out out' → new.closed ≡ closed_after result → TicksOpen moment old new out out' result → TicksOver machine moment old new out out'
+pub ticks_shut : (machine : Machine) (moment : ℕ) (old new : Lined) (out out' : List ℕ) (why : Closed) (result : Result (Unit {0}) Closed)
+    → result ≡ Err why → (why ≡ Memory → ⊥)
+    → StaysOver old new result out out' → new.closed ≡ closed_after result → TicksOpen moment old new out out' result
+    → TicksOver machine moment old new out out'
 ticks_shut machine moment old new out out' why result e other stays shut did now stands = by now.closed refl
   where
     by : (how : Option Closed) → now.closed ≡ how → Came machine new out out' (ticked_by moment now how)

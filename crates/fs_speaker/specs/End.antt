@@ -3,7 +3,11 @@ use Rattle.std.specs.Prelude.{◌≡◌, ℕ, Bool, List, [], ◌++◌, Option, 
 use Rattle.fs_base.specs.declared.config.{Config.{Config}, Peer.{Peer}}
 use Rattle.fs_attrs.specs.declared.update.Update.{Update}
 use Rattle.fs_message.specs.{Write.{message_text}, Deframer.{pending}}
-use Rattle.fs_session.specs.{declared.{state.Closed.TheVariants.{Fault}, times.{Tick.{Tick, TheVariants.{Quiet, Keeps, Expires}}, Times.{Times}}, sending.Sending.{Sending}, transition.Phase.{Phase}}, Announcer.{Announcing}, Handed.{Point, point, Handed, handed, hand}, Line.{Lined, waits, step_by}, Session.{Live, at_start}, Side.{notice_text}, Times.{no_times, at_moment, written_now, tick_at}, Transition.{Machine}}
+use Rattle.fs_session.specs.declared.state.Closed.TheVariants.{Fault}
+use Rattle.fs_session.specs.declared.times.{Tick.{Tick, TheVariants.{Quiet, Keeps, Expires}}, Times.{Times}}
+use Rattle.fs_session.specs.declared.{sending.Sending.{Sending}, transition.Phase.{Phase}}
+use Rattle.fs_session.specs.{Announcer.{Announcing}, Handed.{Point, point, Handed, handed, hand}, Line.{Lined, waits, step_by}}
+use Rattle.fs_session.specs.{Session.{Live, at_start}, Side.{notice_text}, Times.{no_times, at_moment, written_now, tick_at}, Transition.{Machine}}
 
 -- Whose end it is, and of an announcing end what it is to send, whether its OPEN was said, and how many rules were.
 pub record Own : Type 0 where

@@ -1,8 +1,11 @@
 -- What two joined ends come to, whatever happens between them.
 use Rattle.std.specs.{Prelude.{◌≡◌, ◌⊎◌, ℕ, ◌==◌, if◌then◌else◌, Bool, true, false, List, [], ◌∷◌, ◌++◌, take, map, Option, Some, None}, List.{AllByRecursion}}
 use Rattle.fs_base.specs.declared.config.{Config.{Config}, Peer.{Peer}}
-use Rattle.fs_session.specs.{declared.{state.Closed.{Closed, TheVariants.{Fault, Notified}}, times.Tick.TheVariants.{Expires}, sending.Sending.{Sending}}, Handed.{Point}, Laws.{ComesBack}, Sending.{update_sent}, Session.{at_start, session_from}, Times.{at_moment, tick_at}}
-use Rattle.fs_speaker.specs.{declared.event.Event.{Event, TheVariants.{Deliver, Tick}}, Numbers.{HasOwnNumbers, IsFourOctet, IsHoldTime}, World.{World, at_first, happens, run}}
+use Rattle.fs_session.specs.declared.{state.Closed.{Closed, TheVariants.{Fault, Notified}}, times.Tick.TheVariants.{Expires}}
+use Rattle.fs_session.specs.declared.sending.Sending.{Sending}
+use Rattle.fs_session.specs.{Handed.{Point}, Laws.{ComesBack}, Sending.{update_sent}, Session.{at_start, session_from}, Times.{at_moment, tick_at}}
+use Rattle.fs_speaker.specs.{declared.event.Event.{Event, TheVariants.{Deliver, Tick}}, Numbers.{HasOwnNumbers, IsFourOctet, IsHoldTime}}
+use Rattle.fs_speaker.specs.World.{World, at_first, happens, run}
 
 -- The numbers of both OPENs are as a configuration's and the rules' are, and each rule's UPDATE is read as the rule's
 -- update.

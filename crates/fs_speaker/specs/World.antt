@@ -2,7 +2,8 @@
 use Rattle.std.specs.Prelude.{ℕ, ◌+◌, ◌==◌, Bool, true, false, if◌then◌else◌, List, [], ◌∷◌, ◌++◌, take, drop, Option, Some, None}
 use Rattle.fs_base.specs.declared.config.{Config.{Config}, Peer.{Peer}}
 use Rattle.fs_attrs.specs.declared.update.Update.{Update}
-use Rattle.fs_session.specs.{declared.sending.Sending.{Sending}, Announcer.{first_text, is_established, open_sent}, Handed.{Point, Handed, hand}, Sending.{needs_of, text_sent}, Side.{receiver, announcer}, Transition.{Machine}}
+use Rattle.fs_session.specs.{declared.sending.Sending.{Sending}, Announcer.{first_text, is_established, open_sent}, Handed.{Point, Handed, hand}}
+use Rattle.fs_session.specs.{Sending.{needs_of, text_sent}, Side.{receiver, announcer}, Transition.{Machine}}
 use Rattle.fs_speaker.specs.{declared.event.Event.{Event, TheVariants.{Send, Deliver, Tick, Cut}}, End.{first_point, ticked}}
 
 -- Both ends: where each stands, what is in flight to each, how many rules were said, whether the wire is cut, and the

@@ -1,4 +1,5 @@
-use Rattle.fs_tape.proofs.Words.{◌≡◌, ◌≢◌, ℕ, List, ◌∷◌, Some, true, false, ◌+◌, ◌<◌, ◌==◌, length, get_or, drop, refl, ◌∙◌, arith, drop-cons, add-one, if◌then◌else◌, nat_tests, difference_from}
+use Rattle.fs_tape.proofs.Words.{◌≡◌, ◌≢◌, ℕ, List, ◌∷◌, Some, true, false, ◌+◌, ◌<◌, ◌==◌, length, get_or, drop, refl, ◌∙◌, arith, drop-cons}
+use Rattle.fs_tape.proofs.Words.{add-one, if◌then◌else◌, nat_tests, difference_from}
 
 -- The loop that looks for the first difference of two lists, place by place.
 

@@ -1,5 +1,14 @@
 -- A front of a tape gives a front of its items, and ends done or cut.
-use Rattle.fs_tape.proofs.{Words.{◌≡◌, ℕ, List, [], ◌∷◌, ◌++◌, Option, Some, None, Err, Bool, true, false, ◌<◌, ◌≤◌, ◌+◌, ◌-◌, ◌==◌, ◌⊎◌, inl, inr, length, take, drop, refl, ap, sym, subst, ◌∙◌, arith, length-append, flat_map, nat_le, nat_lt, if◌then◌else◌, is_none, cases_lt, drop-append-le, drop_at, length-drop, take-append-le, nat_tests, Config, overlap, take-append-add, take_of_none, at_limit, window, with_part, to_come_end, to_come_step, AllFrom, At, at, text_from, bad, done, ends_short, first_record, head_at, records_to_come, stop, Whole, Wrong, Partial, all_taken, opened_by, nothing, record_found, records_shrink, Cut, Kind, Peer, Moment, Version, One, Two, Stands, behind_peer, head_from, head_size, kind_of, peer_field, size_field, Fits, FrontReads, IsFrontOf, IsTapeOf, after, item_text, magic_field, magic_of, Timed, items_to_come, records, stands, tape_of, version_of}, Items.{has_head, item_read, texts}, ReadsBack.{behind_magic, behind_opening, magic_opens, magic_size, reads_back, text_at}}
+use Rattle.fs_tape.proofs.Words.{◌≡◌, ℕ, List, [], ◌∷◌, ◌++◌, Option, Some, None, Err, Bool, true, false, ◌<◌, ◌≤◌, ◌+◌, ◌-◌, ◌==◌, ◌⊎◌, inl, inr}
+use Rattle.fs_tape.proofs.Words.{length, take, drop, refl, ap, sym, subst, ◌∙◌, arith, length-append, flat_map, nat_le, nat_lt, if◌then◌else◌}
+use Rattle.fs_tape.proofs.Words.{is_none, cases_lt, drop-append-le, drop_at, length-drop, take-append-le, nat_tests, Config, overlap, take-append-add}
+use Rattle.fs_tape.proofs.Words.{take_of_none, at_limit, window, with_part, to_come_end, to_come_step, AllFrom, At, at, text_from, bad, done}
+use Rattle.fs_tape.proofs.Words.{ends_short, first_record, head_at, records_to_come, stop, Whole, Wrong, Partial, all_taken, opened_by, nothing}
+use Rattle.fs_tape.proofs.Words.{record_found, records_shrink, Cut, Kind, Peer, Moment, Version, One, Two, Stands, behind_peer, head_from, head_size}
+use Rattle.fs_tape.proofs.Words.{kind_of, peer_field, size_field, Fits, FrontReads, IsFrontOf, IsTapeOf, after, item_text, magic_field, magic_of}
+use Rattle.fs_tape.proofs.Words.{Timed, items_to_come, records, stands, tape_of, version_of}
+use Rattle.fs_tape.proofs.Items.{has_head, item_read, texts}
+use Rattle.fs_tape.proofs.ReadsBack.{behind_magic, behind_opening, magic_opens, magic_size, reads_back, text_at}
 use Rattle.fs_tape.specs.declared.{fault.TapeReason.{TapeReason}, header.Said.{Said}, item.Kind.{Kind as RecordKind}}
 use Rattle.fs_input.specs.declared.head.Head.{Head}
 use Rattle.byteorder.specs.{Endian.{big_number}, Numbers.{big_from-append}}
@@ -165,7 +174,8 @@ module _ (limit : ℕ) where
       (ap (λ octets. first_record records (at now octets)) judged ∙ item_read now part front fits
       ∙ ap (λ octets. Some (part, at (after now part) octets)) (sym rest)) in
       let all : records_to_come records limit taken now whole ≡ with_part part (records_to_come records limit (taken + length text) (after now part) front) =
-      comes ∙ ap (λ octets. with_part part (records_to_come records limit (taken + length text) (after now part) octets)) (drop_at text front (length text) refl) in
+      comes ∙ ap (λ octets. with_part part (records_to_come records limit (taken + length text) (after now part) octets))
+      (drop_at text front (length text) refl) in
       subst (IsFrontOf (part ∷ items) (taken + length whole)) (sym all)
       (record { later = later.later; items_are = ap (λ more. part ∷ more) later.items_are; end_is = later.end_is })
 
@@ -174,7 +184,9 @@ module _ (limit : ℕ) where
       → IsFrontOf items (taken + length front) (records_to_come records limit taken now front)
   front_items taken now [] front rest fit same below =
       let none : front ≡ [] = nothing front (omega (arith, ap length same, length-append front rest)) in
-      front_ends taken now [] front below (subst (StandsShort now) (sym none) (by_part now [] (ap (head_from now.config now.version now.moment) (take_of_none (head_size now.version) [] refl))))
+      front_ends taken now [] front below
+      (subst (StandsShort now) (sym none)
+      (by_part now [] (ap (head_from now.config now.version now.moment) (take_of_none (head_size now.version) [] refl))))
   front_items taken now (part ∷ items) front rest fit same below =
       let text = item_text now.version part in
       let behind = text_from text_at after (after now part) items in
@@ -186,7 +198,8 @@ module _ (limit : ℕ) where
             (front_step taken now part items parted.between fit.0 (subst (λ octets. taken + length octets < limit) is below)
             (subst
             (λ size. IsFrontOf items size (records_to_come records limit (taken + length text) (after now part) parted.between))
-            (let size : taken + length text + length parted.between ≡ taken + length (text ++ parted.between) = omega (arith, length-append text parted.between) in size)
+            (let size : taken + length text + length parted.between ≡ taken + length (text ++ parted.between) =
+            omega (arith, length-append text parted.between) in size)
             (front_items (taken + length text) (after now part) items parted.between rest fit.1 (sym parted.rest)
             (omega (arith, below, ap length is, length-append text parted.between)))))
         | inl few ↦ front_ends taken now (part ∷ items) front below (record_short now part front rest behind fit.0 same few)

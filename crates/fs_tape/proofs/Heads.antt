@@ -1,5 +1,10 @@
 -- What a whole head says, exactly where its octets are its text.
-use Rattle.fs_tape.{proofs.Words.{◌≡◌, ℕ, List, [], ◌∷◌, ◌++◌, Option, Some, None, Bool, true, false, ◌<◌, ◌≤◌, ◌+◌, ◌^◌, ◌==◌, length, drop, refl, ap, sym, subst, ◌∙◌, arith, take-append-drop, eqb-true, IsSome, is_none, nat_lt, if◌then◌else◌, length-drop, nat_tests, IsOctets, Config, octets_drop, octets_tail, Whole, Wrong, Partial, nothing, Kind, Peer, Length, Moment, Up, Received, Lost, Version, One, Two, IsTimed, allows, behind_peer, head_from, head_size, kind_of, peer_field, size_field, IsNumbered, moment_text}, specs.declared.{header.Said.{Said}, item.Kind.{Kind as RecordKind}}}
+use Rattle.fs_tape.proofs.Words.{◌≡◌, ℕ, List, [], ◌∷◌, ◌++◌, Option, Some, None, Bool, true, false, ◌<◌, ◌≤◌, ◌+◌, ◌^◌, ◌==◌, length, drop, refl, ap}
+use Rattle.fs_tape.proofs.Words.{sym, subst, ◌∙◌, arith, take-append-drop, eqb-true, IsSome, is_none, nat_lt, if◌then◌else◌, length-drop, nat_tests}
+use Rattle.fs_tape.proofs.Words.{IsOctets, Config, octets_drop, octets_tail, Whole, Wrong, Partial, nothing, Kind, Peer, Length, Moment, Up, Received}
+use Rattle.fs_tape.proofs.Words.{Lost, Version, One, Two, IsTimed, allows, behind_peer, head_from, head_size, kind_of, peer_field, size_field}
+use Rattle.fs_tape.proofs.Words.{IsNumbered, moment_text}
+use Rattle.fs_tape.specs.declared.{header.Said.{Said}, item.Kind.{Kind as RecordKind}}
 use Rattle.byteorder.specs.{Endian.{big_bytes, big_number}, Numbers.{big_number-reads_back}}
 use Rattle.fs_base.{specs.Config.{peer_of}, proofs.Digits.{big_below, big_written}}
 

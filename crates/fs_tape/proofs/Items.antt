@@ -1,5 +1,12 @@
 -- A record that is read was written so, and what is written is read back.
-use Rattle.fs_tape.{proofs.{Words.{◌≡◌, ℕ, List, [], ◌∷◌, ◌++◌, Some, true, ◌<◌, ◌≤◌, ◌+◌, ◌^◌, ◌==◌, length, take, drop, refl, ap, sym, subst, ◌∙◌, arith, length-append, take-append-drop, eqb-true, nat_le, flat_map, drop-drop, length-drop, length-take, nat_tests, Config, octets_take, At, ReadsText, SpellsText, at, text_from, first_record, Whole, nothing, HasHead, record_found, Up, Received, Lost, Version, One, Two, IsTimed, Stands, allows, head_from, head_size, kind_of, Fits, IsNumbered, IsWritable, after, item_text, item_text_at, record_text, Item, Timed, came_up, item_of, received, records, stands, timed, was_lost}, Heads.{head_read, head_text, head_told, octet_of, said}}, specs.declared.item.Kind.{Kind as RecordKind}}
+use Rattle.fs_tape.proofs.Words.{◌≡◌, ℕ, List, [], ◌∷◌, ◌++◌, Some, true, ◌<◌, ◌≤◌, ◌+◌, ◌^◌, ◌==◌, length, take, drop, refl, ap, sym, subst, ◌∙◌}
+use Rattle.fs_tape.proofs.Words.{arith, length-append, take-append-drop, eqb-true, nat_le, flat_map, drop-drop, length-drop, length-take, nat_tests}
+use Rattle.fs_tape.proofs.Words.{Config, octets_take, At, ReadsText, SpellsText, at, text_from, first_record, Whole, nothing, HasHead, record_found}
+use Rattle.fs_tape.proofs.Words.{Up, Received, Lost, Version, One, Two, IsTimed, Stands, allows, head_from, head_size, kind_of, Fits, IsNumbered}
+use Rattle.fs_tape.proofs.Words.{IsWritable, after, item_text, item_text_at, record_text, Item, Timed, came_up, item_of, received, records, stands}
+use Rattle.fs_tape.proofs.Words.{timed, was_lost}
+use Rattle.fs_tape.proofs.Heads.{head_read, head_text, head_told, octet_of, said}
+use Rattle.fs_tape.specs.declared.item.Kind.{Kind as RecordKind}
 use Rattle.std.proofs.Math.Seq.{take-append_seam, drop-append_seam}
 
 pub has_head : HasHead records

@@ -1,5 +1,12 @@
 -- A tape is done exactly where it is the text of its items in one of the versions.
-use Rattle.fs_tape.{proofs.{Words.{◌≡◌, ℕ, List, [], ◌∷◌, ◌++◌, Option, Some, None, Result, Ok, Err, Bool, true, false, ◌<◌, ◌≤◌, ◌+◌, ◌==◌, length, take, drop, refl, ap, sym, subst, ◌∙◌, arith, take-append-drop, eqb-true, flat_map, nat_le, nat_lt, if◌then◌else◌, length-drop, length-take, take-take, IsOctets, Config, octets_drop, opened_by, End, done, Whole, Wrong, Partial, opened_whole, all_taken, done_text, text_done, Cut, Version, One, Two, Stands, Fits, IsTapeOf, ReadsBack, after, item_text, difference_from, first_difference, magic_field, magic_of, version_by, Timed, items_to_come, records, stands, tape_of, version_of}, Items.{has_head, item_read, item_spelled, texts}}, specs.declared.fault.TapeReason.{TapeReason}}
+use Rattle.fs_tape.proofs.Words.{◌≡◌, ℕ, List, [], ◌∷◌, ◌++◌, Option, Some, None, Result, Ok, Err, Bool, true, false, ◌<◌, ◌≤◌, ◌+◌, ◌==◌, length}
+use Rattle.fs_tape.proofs.Words.{take, drop, refl, ap, sym, subst, ◌∙◌, arith, take-append-drop, eqb-true, flat_map, nat_le, nat_lt, if◌then◌else◌}
+use Rattle.fs_tape.proofs.Words.{length-drop, length-take, take-take, IsOctets, Config, octets_drop, opened_by, End, done, Whole, Wrong, Partial}
+use Rattle.fs_tape.proofs.Words.{opened_whole, all_taken, done_text, text_done, Cut, Version, One, Two, Stands, Fits, IsTapeOf, ReadsBack, after}
+use Rattle.fs_tape.proofs.Words.{item_text, difference_from, first_difference, magic_field, magic_of, version_by, Timed, items_to_come, records}
+use Rattle.fs_tape.proofs.Words.{stands, tape_of, version_of}
+use Rattle.fs_tape.proofs.Items.{has_head, item_read, item_spelled, texts}
+use Rattle.fs_tape.specs.declared.fault.TapeReason.{TapeReason}
 use Rattle.fs_input.specs.declared.head.Head.{Head}
 
 -- the magic of a version is that of no other

@@ -1,5 +1,7 @@
 -- The moments of a tape of the second version don't fall.
-use Rattle.fs_tape.proofs.{Words.{◌≡◌, ℕ, List, [], ◌∷◌, ◌≤◌, take, sym, ◌∙◌, ap, subst, arith, Config, AllFrom, At, Fitting, at, first_record, stop, record_found, records_shrink, IsTimed, Stands, head_size, AreFrom, MomentsRise, after, Timed, records, stands, Two}, Heads.{head_told}, Items.{has_head}}
+use Rattle.fs_tape.proofs.Words.{◌≡◌, ℕ, List, [], ◌∷◌, ◌≤◌, take, sym, ◌∙◌, ap, subst, arith, Config, AllFrom, At, Fitting, at, first_record, stop}
+use Rattle.fs_tape.proofs.Words.{record_found, records_shrink, IsTimed, Stands, head_size, AreFrom, MomentsRise, after, Timed, records, stands, Two}
+use Rattle.fs_tape.proofs.{Heads.{head_told}, Items.{has_head}}
 use Rattle.fs_input.proofs.PartsOfRecords.{coming_fit}
 
 abbrev Timely : Stands → Timed → Type 0

@@ -5,7 +5,10 @@ use Rattle.std.specs.Prelude.{ℕ, List, [], ◌∷◌, Option, Some, None, IsSo
 use Rattle.byteorder.specs.Endian.{big_number}
 use Rattle.fs_base.specs.{Config.{peer_of}, declared.config.Config.{Config}}
 use Rattle.fs_input.specs.declared.head.Head.{Head, TheVariants.{Whole, Wrong, Partial}}
-use Rattle.fs_tape.specs.declared.{fault.TapeReason.{TapeReason, TheVariants.{Kind, Peer, Length, Moment}}, header.Said.{Said}, item.Kind.{Kind as RecordKind, TheVariants.{Up, Received, Lost}}, magic.Version.{Version, TheVariants.{One, Two}}}
+use Rattle.fs_tape.specs.declared.fault.TapeReason.{TapeReason, TheVariants.{Kind, Peer, Length, Moment}}
+use Rattle.fs_tape.specs.declared.header.Said.{Said}
+use Rattle.fs_tape.specs.declared.item.Kind.{Kind as RecordKind, TheVariants.{Up, Received, Lost}}
+use Rattle.fs_tape.specs.declared.magic.Version.{Version, TheVariants.{One, Two}}
 
 abbrev pub kind_of : ℕ → Option RecordKind
 kind_of octet =

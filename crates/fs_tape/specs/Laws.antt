@@ -3,7 +3,9 @@ use Rattle.std.specs.{Prelude.{ℕ, List, [], ◌∷◌, ◌++◌, IsSome, ◌�
 use Rattle.byteorder.specs.Endian.{big_bytes}
 use Rattle.fs_base.specs.{Language.{IsOctets}, Config.{peer_of}, declared.config.Config.{Config}}
 use Rattle.fs_input.specs.{Parts.{AllFrom}, Records.{End, bad, done}}
-use Rattle.fs_tape.specs.{Header.{IsTimed, Stands, longest_payload}, Magic.{magic_of}, Tape.{Item, Timed, came_up, items_to_come, received, stands, tape_of, was_lost}, declared.{fault.TapeReason.{TapeReason, TheVariants.{Cut}}, magic.Version.{Version, TheVariants.{One, Two}}}}
+use Rattle.fs_tape.specs.{Header.{IsTimed, Stands, longest_payload}, Magic.{magic_of}}
+use Rattle.fs_tape.specs.Tape.{Item, Timed, came_up, items_to_come, received, stands, tape_of, was_lost}
+use Rattle.fs_tape.specs.declared.{fault.TapeReason.{TapeReason, TheVariants.{Cut}}, magic.Version.{Version, TheVariants.{One, Two}}}
 
 abbrev pub moment_text : Version → ℕ → List ℕ
 moment_text One moment = []

@@ -3,7 +3,11 @@
 use Rattle.std.specs.Prelude.{ℕ, List, [], Option, Some, None, IsSome, Result, Ok, Err, ◌≡◌, ◌≤◌, take, drop}
 use Rattle.fs_base.specs.{Config.{peer_of}, declared.config.Config.{Config}}
 use Rattle.fs_input.specs.{Opening.{opening}, Records.{End, Format, records_to_come}, declared.fault.{Ended.{Ended}, Fault.{Fault}}}
-use Rattle.fs_tape.specs.{Header.{IsTimed, Stands, head_from, head_size, longest_payload}, Magic.{magic_field}, declared.{fault.TapeReason.{TapeReason, TheVariants.{Cut}}, header.Said.{Said}, item.{Kind.TheVariants.{Up, Received, Lost}, TapeItem.{TapeItem, TheVariants.{Up as UpItem, Octets, Lost as LostItem}}}, magic.Version.{Version}}}
+use Rattle.fs_tape.specs.{Header.{IsTimed, Stands, head_from, head_size, longest_payload}, Magic.{magic_field}}
+use Rattle.fs_tape.specs.declared.{fault.TapeReason.{TapeReason, TheVariants.{Cut}}, header.Said.{Said}}
+use Rattle.fs_tape.specs.declared.item.Kind.TheVariants.{Up, Received, Lost}
+use Rattle.fs_tape.specs.declared.item.TapeItem.{TapeItem, TheVariants.{Up as UpItem, Octets, Lost as LostItem}}
+use Rattle.fs_tape.specs.declared.magic.Version.{Version}
 
 -- what a record says
 pub data Item : Type 0 where

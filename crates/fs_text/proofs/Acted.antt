@@ -1,9 +1,16 @@
 -- The words of a text up to its actions and among them, and what goes on from there.
 use Rattle.std.proofs.Common.{append-nil}
-use Rattle.fs_text.proofs.{Words.{append_assoc, ◌≡◌, ℕ, ◌+◌, ◌==◌, false, List, [], ◌∷◌, ◌++◌, drop, length, length-append, Some, None, refl, sym, ap, subst, ◌∙◌, arith, codes, bytes_eq, last_or, IsStrictlySortedBy, slice_cmp, nat_cmp, Family, IsOctets, each_append, each_at, Part, AreNormal, IsAction, IsAbove, action_name, action_text, component_name, action_words, component_words, then_words, AreActions, AreWords, Begin, IsBadWord, IsWhole, Acts, Continues, Led, Rests, RestsOf, ahead, front, FitsAbove, IsBadName, IsBadValue, IsNext}, Greatest.{octets_eight}, Pairs.{chosen}, Led.{bad_at, bad_end, bad_value, head_is, no_actions, no_words, tail_is}}
+use Rattle.fs_text.proofs.Words.{append_assoc, ◌≡◌, ℕ, ◌+◌, ◌==◌, false, List, [], ◌∷◌, ◌++◌, drop, length, length-append, Some, None, refl, sym, ap}
+use Rattle.fs_text.proofs.Words.{subst, ◌∙◌, arith, codes, bytes_eq, last_or, IsStrictlySortedBy, slice_cmp, nat_cmp, Family, IsOctets, each_append}
+use Rattle.fs_text.proofs.Words.{each_at, Part, AreNormal, IsAction, IsAbove, action_name, action_text, component_name, action_words, component_words}
+use Rattle.fs_text.proofs.Words.{then_words, AreActions, AreWords, Begin, IsBadWord, IsWhole, Acts, Continues, Led, Rests, RestsOf, ahead, front}
+use Rattle.fs_text.proofs.Words.{FitsAbove, IsBadName, IsBadValue, IsNext}
+use Rattle.fs_text.proofs.{Greatest.{octets_eight}, Pairs.{chosen}}
+use Rattle.fs_text.proofs.Led.{bad_at, bad_end, bad_value, head_is, no_actions, no_words, tail_is}
 use Rattle.fs_actions.proofs.Behind.{actions_more}
 
-above_last : (x : List ℕ) (xs : List (List ℕ)) (a : List ℕ) (rest : List (List ℕ)) → IsStrictlySortedBy (slice_cmp nat_cmp) (x ∷ (xs ++ a ∷ rest)) → IsAbove (last_or (Some x) xs) a
+above_last : (x : List ℕ) (xs : List (List ℕ)) (a : List ℕ) (rest : List (List ℕ)) → IsStrictlySortedBy (slice_cmp nat_cmp) (x ∷ (xs ++ a ∷ rest))
+    → IsAbove (last_or (Some x) xs) a
 unfolding IsStrictlySortedBy
 above_last x [] a rest s = s.0.0
 above_last x (y ∷ ys) a rest s = above_last y ys a rest s.1
@@ -37,7 +44,8 @@ no_then kind e = absurd (let same : bytes_eq (codes "then") (codes "then") ≡ f
     other =
         chosen IsOther (kind == 1) _ _ refl (chosen IsOther (kind == 2) _ _ refl (chosen IsOther (kind == 3) _ _ refl (chosen IsOther (kind == 4) _ _ refl
         (chosen IsOther (kind == 5) _ _ refl (chosen IsOther (kind == 6) _ _ refl (chosen IsOther (kind == 7) _ _ refl (chosen IsOther (kind == 8) _ _ refl
-        (chosen IsOther (kind == 9) _ _ refl (chosen IsOther (kind == 10) _ _ refl (chosen IsOther (kind == 11) _ _ refl (chosen IsOther (kind == 12) _ _ refl refl)))))))))))
+        (chosen IsOther (kind == 9) _ _ refl
+        (chosen IsOther (kind == 10) _ _ refl (chosen IsOther (kind == 11) _ _ refl (chosen IsOther (kind == 12) _ _ refl refl)))))))))))
 
 ahead_first : (family : Family) (parts : List Part) (tail : List (List ℕ)) → ahead family parts [] ++ tail ≡ front family parts ++ codes "then" ∷ tail
 ahead_first family parts tail = append_assoc (front family parts) (codes "then" ∷ []) tail
@@ -54,7 +62,8 @@ acts_first words family parts last place led behind = record {
   where
     goes : RestsOf family parts []
     goes tail f ps said normal are is =
-        let c : Continues family parts (codes "then" ∷ tail) f ps said = led.goes (codes "then" ∷ tail) f ps said normal (sym (ahead_first family parts tail) ∙ is) in
+        let c : Continues family parts (codes "then" ∷ tail) f ps said =
+        led.goes (codes "then" ∷ tail) f ps said normal (sym (ahead_first family parts tail) ∙ is) in
         by c.same c.others said c.split c.behind
       where
         by : f ≡ family → (others : List Part) (said : List (List ℕ)) → ps ≡ parts ++ others → codes "then" ∷ tail ≡ component_words others ++ then_words said
@@ -84,9 +93,11 @@ ahead_more family parts actions a tail =
 
 -- a word that goes on is the name of an action
 abbrev Named : List (List ℕ) → List ℕ → List (List ℕ) → List (List ℕ) → Type 0
-Named actions word more others = (a : List ℕ) × (rest : List (List ℕ)) × (others ≡ a ∷ rest) × FitsAbove actions a × (word ≡ action_name a) × (more ≡ action_text a ∷ action_words rest)
+Named actions word more others = (a : List ℕ) × (rest : List (List ℕ)) × (others ≡ a ∷ rest) × FitsAbove actions a × (word ≡ action_name a)
+    × (more ≡ action_text a ∷ action_words rest)
 
-next_named : (actions : List (List ℕ)) (word : List ℕ) (more others said : List (List ℕ)) → AreActions said → said ≡ actions ++ others → word ∷ more ≡ action_words others
+next_named : (actions : List (List ℕ)) (word : List ℕ) (more others said : List (List ℕ)) → AreActions said → said ≡ actions ++ others
+    → word ∷ more ≡ action_words others
     → Named actions word more others
 next_named actions word more [] said are split is = no_words is
 next_named actions word more (a ∷ rest) said are split is = (a, rest, refl, fits_at actions a rest (subst AreActions split are), head_is is, tail_is is)
@@ -96,7 +107,8 @@ pub acts_next : (words : List (List ℕ)) (family : Family) (parts : List Part) 
     → tail ≡ drop (place + 2) words → Acts words family parts (actions ++ action ∷ []) (place + 2)
 acts_next words family parts actions place action tail acts next tail_is_ = record {
   split =
-      acts.split ∙ ap (λ (l : List (List ℕ)). ahead family parts actions ++ l) (next.split ∙ ap (λ (l : List (List ℕ)). action_name action ∷ action_text action ∷ l) tail_is_)
+      acts.split ∙ ap (λ (l : List (List ℕ)). ahead family parts actions ++ l) (next.split
+      ∙ ap (λ (l : List (List ℕ)). action_name action ∷ action_text action ∷ l) tail_is_)
       ∙ sym (ahead_more family parts actions action (drop (place + 2) words));
   here = size;
   normal = acts.normal;
@@ -106,7 +118,8 @@ acts_next words family parts actions place action tail acts next tail_is_ = reco
   where
     size : place + 2 ≡ length (ahead family parts (actions ++ action ∷ []))
     size =
-        let more : length (ahead family parts (actions ++ action ∷ []) ++ []) ≡ length (ahead family parts actions ++ action_name action ∷ action_text action ∷ []) =
+        let more : length (ahead family parts (actions ++ action ∷ []) ++ [])
+        ≡ length (ahead family parts actions ++ action_name action ∷ action_text action ∷ []) =
         ap length (ahead_more family parts actions action []) in
         omega (
           arith,
@@ -144,9 +157,11 @@ one_fits : FitsAbove [] one_action
 one_fits = record { normal = record { eight = refl; normal = refl }; octets = octets_of; above = tt }
   where
     octets_of : IsOctets one_action
-    octets_of = octets_eight 0x80 0x06 0 0 0 0 0 0 (omega arith) (omega arith) (omega arith) (omega arith) (omega arith) (omega arith) (omega arith) (omega arith)
+    octets_of = octets_eight 0x80 0x06 0 0 0 0 0 0 (omega arith) (omega arith) (omega arith) (omega arith) (omega arith) (omega arith) (omega arith)
+        (omega arith)
 
-begin_acts : (family : Family) (parts : List Part) (actions : List (List ℕ)) → AreNormal family 0 parts → AreActions actions → Begin (ahead family parts actions)
+begin_acts : (family : Family) (parts : List Part) (actions : List (List ℕ)) → AreNormal family 0 parts → AreActions actions
+    → Begin (ahead family parts actions)
 begin_acts family parts [] normal are = record {
   more = action_name one_action ∷ action_text one_action ∷ [];
   whole = record {
@@ -160,17 +175,27 @@ begin_acts family parts [] normal are = record {
 }
 begin_acts family parts (a ∷ actions) normal are = record {
   more = [];
-  whole = record { family = family; parts = parts; actions = a ∷ actions; normal = normal; actions_are = are; words_are = append-nil (ahead family parts (a ∷ actions)) };
+  whole = record {
+    family = family;
+    parts = parts;
+    actions = a ∷ actions;
+    normal = normal;
+    actions_are = are;
+    words_are =
+        append-nil (ahead family parts (a ∷ actions));
+  };
 }
 
 then_some : (actions : List (List ℕ)) (a : List ℕ) → then_words (actions ++ a ∷ []) ≡ codes "then" ∷ action_words (actions ++ a ∷ [])
 then_some [] a = refl
 then_some (b ∷ actions) a = refl
 
-pub bad_action_name : (words : List (List ℕ)) (family : Family) (parts : List Part) (actions : List (List ℕ)) (place : ℕ) → Acts words family parts actions place
+pub bad_action_name : (words : List (List ℕ)) (family : Family) (parts : List Part) (actions : List (List ℕ)) (place : ℕ)
+    → Acts words family parts actions place
     → IsBadName (FitsAbove actions) action_name (drop place words) → IsBadWord words place
 bad_action_name words family parts actions place acts bad =
-    bad_at words (ahead family parts actions) bad.word bad.tail place (acts.split ∙ ap (λ (l : List (List ℕ)). ahead family parts actions ++ l) bad.split) acts.here
+    bad_at words (ahead family parts actions) bad.word bad.tail place (acts.split
+    ∙ ap (λ (l : List (List ℕ)). ahead family parts actions ++ l) bad.split) acts.here
     (begin_acts family parts actions acts.normal acts.actions_are) (
     λ b.
     let r : Rests family parts actions (bad.word ∷ b.more) b.whole.family b.whole.parts b.whole.actions =
@@ -181,7 +206,8 @@ bad_action_name words family parts actions place acts bad =
     )
 
 -- nothing stands behind the word that is before actions
-pub no_action : (words : List (List ℕ)) (family : Family) (parts : List Part) (place : ℕ) → Acts words family parts [] place → drop place words ≡ [] → IsBadWord words place
+pub no_action : (words : List (List ℕ)) (family : Family) (parts : List Part) (place : ℕ) → Acts words family parts [] place → drop place words ≡ []
+    → IsBadWord words place
 no_action words family parts place acts none =
     bad_end words (ahead family parts []) place (acts.split ∙ ap (λ (l : List (List ℕ)). ahead family parts [] ++ l) none) acts.here
     (begin_acts family parts [] acts.normal no_actions) (
@@ -208,7 +234,8 @@ begin_named family parts actions a normal are fits = record {
   };
 }
 
-pub bad_action_value : (words : List (List ℕ)) (family : Family) (parts : List Part) (actions : List (List ℕ)) (place : ℕ) → Acts words family parts actions place
+pub bad_action_value : (words : List (List ℕ)) (family : Family) (parts : List Part) (actions : List (List ℕ)) (place : ℕ)
+    → Acts words family parts actions place
     → IsBadValue (FitsAbove actions) action_name action_text (drop place words) → IsBadWord words (place + 1)
 bad_action_value words family parts actions place acts bad =
     bad_value (FitsAbove actions) action_name action_text words (ahead family parts actions) place acts.split acts.here bad

@@ -1,4 +1,5 @@
-use Rattle.fs_text.proofs.Words.{◌≡◌, ℕ, ◌+◌, List, [], ◌∷◌, ◌++◌, Bool, true, not, ◌<◌, if◌then◌else◌, take, drop, length, refl, ap, ◌∙◌, arith, prefix_len, AllByRecursion, take-append_seam, drop-append_seam, Ends, is_plain, is_sign}
+use Rattle.fs_text.proofs.Words.{◌≡◌, ℕ, ◌+◌, List, [], ◌∷◌, ◌++◌, Bool, true, not, ◌<◌, if◌then◌else◌, take, drop, length, refl, ap, ◌∙◌, arith}
+use Rattle.fs_text.proofs.Words.{prefix_len, AllByRecursion, take-append_seam, drop-append_seam, Ends, is_plain, is_sign}
 
 -- Where a text is cut.
 

@@ -1,5 +1,12 @@
 -- What is read of the parts of an action's word is the action.
-use Rattle.fs_text.{proofs.{Words.{◌≡◌, ℕ, ◌+◌, ◌<◌, ◌^◌, List, [], ◌∷◌, ◌++◌, Bool, true, false, Option, Some, None, Result, Ok, Err, length, drop, take, refl, sym, ap, subst, ◌∙◌, arith, if◌then◌else◌, codes, decimal, slice_index, find, option_map, option_map_or, AllByRecursion, length-drop, take-length, take-append-drop, take_all, eqb-true, none-some, same_Some, big_bytes, big_number, encode_lower, IsOctets, octets_at, octets_drop, big_below, big_written, big_octets, kind_of, listed, significant_of, cleared, Redirect, action_text, name_at, rate_text, target_text, parts_of, Gives, GivesPlain, form_parts, ip4_parts, long_octets, pair_parts, rate_parts, short_octets, IfOk, Compared, IsNamed, Reads}, WordParts.{ip4_runs, one_run, run_decimal, run_octets, two_runs}}, specs.Pieces.{Part}}
+use Rattle.fs_text.proofs.Words.{◌≡◌, ℕ, ◌+◌, ◌<◌, ◌^◌, List, [], ◌∷◌, ◌++◌, Bool, true, false, Option, Some, None, Result, Ok, Err, length, drop}
+use Rattle.fs_text.proofs.Words.{take, refl, sym, ap, subst, ◌∙◌, arith, if◌then◌else◌, codes, decimal, slice_index, find, option_map, option_map_or}
+use Rattle.fs_text.proofs.Words.{AllByRecursion, length-drop, take-length, take-append-drop, take_all, eqb-true, none-some, same_Some, big_bytes}
+use Rattle.fs_text.proofs.Words.{big_number, encode_lower, IsOctets, octets_at, octets_drop, big_below, big_written, big_octets, kind_of, listed}
+use Rattle.fs_text.proofs.Words.{significant_of, cleared, Redirect, action_text, name_at, rate_text, target_text, parts_of, Gives, GivesPlain}
+use Rattle.fs_text.proofs.Words.{form_parts, ip4_parts, long_octets, pair_parts, rate_parts, short_octets, IfOk, Compared, IsNamed, Reads}
+use Rattle.fs_text.proofs.WordParts.{ip4_runs, one_run, run_decimal, run_octets, two_runs}
+use Rattle.fs_text.specs.Pieces.{Part}
 use Rattle.std.specs.Prelude.{◌==◌, ◌||◌, bit_and}
 use Rattle.fs_actions.specs.declared.community.Redirect.TheVariants.{As2, Ip4, As4}
 
@@ -20,14 +27,16 @@ eight (a ∷ b ∷ c ∷ d ∷ e ∷ f ∷ g ∷ i ∷ []) h = record { a0 = a; 
 eight a h = absurd (omega arith)
 
 -- a type, m octets and n as numbers
-numbers_whole : (m n : ℕ) (a : List ℕ) → length a ≡ 2 + (m + n) → IsOctets a → big_bytes 2 (big_number 2 a) ++ (big_bytes m (big_number m (drop 2 a)) ++ big_bytes n (big_number n (drop m (drop 2 a)))) ≡ a
+numbers_whole : (m n : ℕ) (a : List ℕ) → length a ≡ 2 + (m + n) → IsOctets a
+    → big_bytes 2 (big_number 2 a) ++ (big_bytes m (big_number m (drop 2 a)) ++ big_bytes n (big_number n (drop m (drop 2 a)))) ≡ a
 numbers_whole m n a len octets =
     let rest : List ℕ = drop 2 a in
     let held : length rest ≡ m + n = omega (arith, length-drop 2 a, len) in
     let left : length (drop m rest) ≡ n = omega (arith, length-drop m rest, held) in
     let first : take 2 a ≡ big_bytes 2 (big_number 2 a) = big_written 2 a (omega (arith, len)) octets in
     let second : take m rest ≡ big_bytes m (big_number m rest) = big_written m rest (omega (arith, held)) (octets_drop 2 a octets) in
-    let third : take n (drop m rest) ≡ big_bytes n (big_number n (drop m rest)) = big_written n (drop m rest) (omega (arith, left)) (octets_drop m rest (octets_drop 2 a octets)) in
+    let third : take n (drop m rest) ≡ big_bytes n (big_number n (drop m rest)) =
+    big_written n (drop m rest) (omega (arith, left)) (octets_drop m rest (octets_drop 2 a octets)) in
     ap (λ (l : List ℕ). big_bytes 2 (big_number 2 a) ++ (big_bytes m (big_number m rest) ++ l)) (sym third ∙ take_all n (drop m rest) (omega (arith, left)))
     ∙ ap (λ (l : List ℕ). big_bytes 2 (big_number 2 a) ++ l) (ap (λ (l : List ℕ). l ++ drop m rest) (sym second) ∙ take-append-drop m rest)
     ∙ ap (λ (l : List ℕ). l ++ rest) (sym first) ∙ take-append-drop 2 a
@@ -72,7 +81,8 @@ four : (l : List ℕ) → length l ≡ 4 → take 4 l ≡ l
 four l len = subst (λ (n : ℕ). take n l ≡ l) len (take-length l)
 
 -- an action of m octets behind its type, and n of them from a place on
-two_found : (k m n place : ℕ) (parts_are : ℕ → ℕ → List Part) (octets_are : ℕ → ℕ → ℕ → List ℕ) (a : List ℕ) (parts : List Part) (result : Option (List ℕ)) → IsOctets a → kind_of a ≡ k
+two_found : (k m n place : ℕ) (parts_are : ℕ → ℕ → List Part) (octets_are : ℕ → ℕ → ℕ
+    → List ℕ) (a : List ℕ) (parts : List Part) (result : Option (List ℕ)) → IsOctets a → kind_of a ≡ k
     → octets_are (kind_of a) (big_number m (drop 2 a)) (big_number n (drop place a)) ≡ a
     → (big_number m (drop 2 a) < 256 ^ m → big_number n (drop place a) < 256 ^ n → parts ≡ parts_are (big_number m (drop 2 a)) (big_number n (drop place a)))
     → Gives (256 ^ m) (256 ^ n) parts_are (octets_are k) parts result → result ≡ Some a
@@ -92,7 +102,8 @@ rate_found k a parts result len octets kind p gives =
     two_found k 2 4 4 rate_parts short_octets a parts result octets kind (short_whole a len octets) (
     λ (low : big_number 2 (drop 2 a) < 2 ^ 16) high.
     p ∙ ap (λ (l : List ℕ). parts_of (decimal id ++ (codes ":" ++ encode_lower l))) tail
-    ∙ two_runs (decimal id) (encode_lower (big_bytes 4 (big_number 4 (drop 4 a)))) (run_decimal id (omega (arith, low))) (run_octets _ _ (big_octets 4 (big_number 4 (drop 4 a))))
+    ∙ two_runs (decimal id) (encode_lower (big_bytes 4 (big_number 4 (drop 4 a)))) (run_decimal id (omega (arith, low)))
+    (run_octets _ _ (big_octets 4 (big_number 4 (drop 4 a))))
     ) gives
 
 abbrev pub masked : ℕ → List ℕ → List ℕ
@@ -133,11 +144,15 @@ pub record Readings (name : List ℕ) (parts : List Part) (result : Option (List
   pub packets : name ≡ codes "packets" → Gives (2 ^ 16) (2 ^ 32) rate_parts (short_octets 0x800c) parts result
   pub control : name ≡ codes "control" → GivesPlain 0x8007 parts result
   pub mark : name ≡ codes "mark" → GivesPlain 0x8009 parts result
-  pub as2 : name ≡ codes "redirect" → (rest : List Part) → parts ≡ form_parts (codes "as2") rest → Gives (2 ^ 16) (2 ^ 32) pair_parts (short_octets 0x8008) rest result
-  pub ip4 : name ≡ codes "redirect" → (rest : List Part) → parts ≡ form_parts (codes "ip4") rest → Gives (2 ^ 32) (2 ^ 16) ip4_parts (long_octets 0x8108) rest result
-  pub as4 : name ≡ codes "redirect" → (rest : List Part) → parts ≡ form_parts (codes "as4") rest → Gives (2 ^ 32) (2 ^ 16) pair_parts (long_octets 0x8208) rest result
+  pub as2 : name ≡ codes "redirect" → (rest : List Part) → parts ≡ form_parts (codes "as2") rest
+      → Gives (2 ^ 16) (2 ^ 32) pair_parts (short_octets 0x8008) rest result
+  pub ip4 : name ≡ codes "redirect" → (rest : List Part) → parts ≡ form_parts (codes "ip4") rest
+      → Gives (2 ^ 32) (2 ^ 16) ip4_parts (long_octets 0x8108) rest result
+  pub as4 : name ≡ codes "redirect" → (rest : List Part) → parts ≡ form_parts (codes "as4") rest
+      → Gives (2 ^ 32) (2 ^ 16) pair_parts (long_octets 0x8208) rest result
 
-pub found : (name a : List ℕ) (parts : List Part) (result : Option (List ℕ)) → IsNamed name a → parts ≡ parts_of (action_text a) → Readings name parts result → result ≡ Some a
+pub found : (name a : List ℕ) (parts : List Part) (result : Option (List ℕ)) → IsNamed name a → parts ≡ parts_of (action_text a)
+    → Readings name parts result → result ≡ Some a
 found name a parts result is p r =
     each (λ bits. cleared bits a) a listed (kind_of a) P (
       λ k. rate_found 0x8006 a parts result len is.octets k (text k) (r.bytes (named k)),

@@ -1,5 +1,9 @@
 -- The action of a name whose octets are the highest.
-use Rattle.fs_text.proofs.{Words.{◌≡◌, ℕ, ◌+◌, ◌*◌, ◌<◌, ◌≤◌, ◌==◌, List, [], ◌∷◌, Bool, true, false, if◌then◌else◌, Option, Some, None, length, get_or, bit_and, refl, sym, ap, subst, ◌∙◌, arith, codes, slice_index, nat_lt, bytes_eq, slice_cmp, nat_cmp, ordering_then, and_le_r, same_Some, lt-ltb, nat_tests, big_number, IsOctets, octets_at, octets_cons, octets_nil, IsAction, cleared, kind_of, listed, IsAbove, action_name, IsNamed, HasGreatest, name_at}, Found.{IsEight, each, eight, masked, normal_at}}
+use Rattle.fs_text.proofs.Words.{◌≡◌, ℕ, ◌+◌, ◌*◌, ◌<◌, ◌≤◌, ◌==◌, List, [], ◌∷◌, Bool, true, false, if◌then◌else◌, Option, Some, None, length}
+use Rattle.fs_text.proofs.Words.{get_or, bit_and, refl, sym, ap, subst, ◌∙◌, arith, codes, slice_index, nat_lt, bytes_eq, slice_cmp, nat_cmp}
+use Rattle.fs_text.proofs.Words.{ordering_then, and_le_r, same_Some, lt-ltb, nat_tests, big_number, IsOctets, octets_at, octets_cons, octets_nil}
+use Rattle.fs_text.proofs.Words.{IsAction, cleared, kind_of, listed, IsAbove, action_name, IsNamed, HasGreatest, name_at}
+use Rattle.fs_text.proofs.Found.{IsEight, each, eight, masked, normal_at}
 use Rattle.std.{specs.declared.cmp.Ordering.{Ordering, TheVariants.{Less, Equal, Greater}}, proofs.lemmas.{Cmp.{nat_list_cmp_total}, Map.Lookups.{exact_bytes}}}
 
 abbrev NotAbove : List ℕ → List ℕ → Type 0
@@ -80,7 +84,8 @@ full_cells first second k a b c d e f g i h kind small_kind small = by (nat_lt a
           ),
         )
 
-full_above : (first second k : ℕ) (action : List ℕ) → length action ≡ 8 → IsOctets action → kind_of action ≡ k → k ≤ first * 256 + second → second < 256 → NotAbove action (full first second)
+full_above : (first second k : ℕ) (action : List ℕ) → length action ≡ 8 → IsOctets action → kind_of action ≡ k → k ≤ first * 256 + second
+    → second < 256 → NotAbove action (full first second)
 full_above first second k action len octets kind small_kind small =
     let e : IsEight action = eight action len in
     subst (λ (l : List ℕ). NotAbove l (full first second)) (sym e.is)
@@ -107,12 +112,14 @@ plain_cells second bits k a b c d e f g i h kind same small clear =
       ),
     )
 
-plain_above : (second bits k : ℕ) (action : List ℕ) → length action ≡ 8 → IsOctets action → kind_of action ≡ k → k ≡ 0x80 * 256 + second → second < 256 → masked bits action ≡ action
+plain_above : (second bits k : ℕ) (action : List ℕ) → length action ≡ 8 → IsOctets action → kind_of action ≡ k → k ≡ 0x80 * 256 + second
+    → second < 256 → masked bits action ≡ action
     → NotAbove action (plain second bits)
 plain_above second bits k action len octets kind same small clear =
     let e : IsEight action = eight action len in
     subst (λ (l : List ℕ). NotAbove l (plain second bits)) (sym e.is)
-    (plain_cells second bits k e.a0 e.a1 e.a2 e.a3 e.a4 e.a5 e.a6 e.a7 (subst IsOctets e.is octets) (sym (ap kind_of e.is) ∙ kind) same small (subst (λ (l : List ℕ). masked bits l ≡ l) e.is clear))
+    (plain_cells second bits k e.a0 e.a1 e.a2 e.a3 e.a4 e.a5 e.a6 e.a7 (subst IsOctets e.is octets) (sym (ap kind_of e.is)
+    ∙ kind) same small (subst (λ (l : List ℕ). masked bits l ≡ l) e.is clear))
 
 -- the highest octets of an action of the name
 abbrev pub highest_of : List ℕ → List ℕ
@@ -157,14 +164,17 @@ not_above name action is =
     normal : {k : ℕ} → kind_of action ≡ k → normal_at action k ≡ Some action
     normal kind = sym (ap (normal_at action) kind) ∙ is.normal.normal
 
-pub octets_eight : (a b c d e f g i : ℕ) → a < 256 → b < 256 → c < 256 → d < 256 → e < 256 → f < 256 → g < 256 → i < 256 → IsOctets (a ∷ b ∷ c ∷ d ∷ e ∷ f ∷ g ∷ i ∷ [])
+pub octets_eight : (a b c d e f g i : ℕ) → a < 256 → b < 256 → c < 256 → d < 256 → e < 256 → f < 256 → g < 256 → i < 256
+    → IsOctets (a ∷ b ∷ c ∷ d ∷ e ∷ f ∷ g ∷ i ∷ [])
 octets_eight a b c d e f g i ka kb kc kd ke kf kg ki =
     octets_cons a (b ∷ c ∷ d ∷ e ∷ f ∷ g ∷ i ∷ []) ka (octets_cons b (c ∷ d ∷ e ∷ f ∷ g ∷ i ∷ []) kb (octets_cons c (d ∷ e ∷ f ∷ g ∷ i ∷ []) kc
-    (octets_cons d (e ∷ f ∷ g ∷ i ∷ []) kd (octets_cons e (f ∷ g ∷ i ∷ []) ke (octets_cons f (g ∷ i ∷ []) kf (octets_cons g (i ∷ []) kg (octets_cons i [] ki octets_nil)))))))
+    (octets_cons d (e ∷ f ∷ g ∷ i ∷ []) kd
+    (octets_cons e (f ∷ g ∷ i ∷ []) ke (octets_cons f (g ∷ i ∷ []) kf (octets_cons g (i ∷ []) kg (octets_cons i [] ki octets_nil)))))))
 
 -- the highest octets are an action of the name
 full_named : (first second : ℕ) → first < 256 → second < 256 → IsOctets (full first second)
-full_named first second a b = octets_eight first second 255 255 255 255 255 255 a b (omega arith) (omega arith) (omega arith) (omega arith) (omega arith) (omega arith)
+full_named first second a b = octets_eight first second 255 255 255 255 255 255 a b (omega arith) (omega arith) (omega arith) (omega arith)
+    (omega arith) (omega arith)
 
 pub is_top : (first second : ℕ) (name : List ℕ) (r : Option (List ℕ)) → r ≡ Some (full first second) → first < 256 → second < 256 → IsAction (full first second)
     → action_name (full first second) ≡ name → highest_of name ≡ full first second → HasGreatest name r

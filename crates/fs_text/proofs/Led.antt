@@ -1,6 +1,10 @@
 -- The words of a text that were read, and what goes on from there.
 use Rattle.std.proofs.Common.{append-nil}
-use Rattle.fs_text.proofs.Words.{append_assoc, ◌≡◌, inl, inr, ⊎_elim, ℕ, zero, suc, map, get_or, ◌+◌, ◌<◌, List, [], ◌∷◌, ◌++◌, take, drop, length, length-append, refl, sym, ap, subst, ◌∙◌, arith, codes, slice_index, take-append-drop, take-append_seam, IsStrictlySortedBy, slice_cmp, nat_cmp, Family, V4, V6, Part, AreNormal, component_name, value_text, component_words, family_word, then_words, AreActions, AreWords, Begin, IsBadWord, IsWhole, Continues, Goes, Led, front, last_kind, FitsBehind, IsBadName, IsBadValue, IsNext, IsNoEnd, part_name}
+use Rattle.fs_text.proofs.Words.{append_assoc, ◌≡◌, inl, inr, ⊎_elim, ℕ, zero, suc, map, get_or, ◌+◌, ◌<◌, List, [], ◌∷◌, ◌++◌, take, drop, length}
+use Rattle.fs_text.proofs.Words.{length-append, refl, sym, ap, subst, ◌∙◌, arith, codes, slice_index, take-append-drop, take-append_seam}
+use Rattle.fs_text.proofs.Words.{IsStrictlySortedBy, slice_cmp, nat_cmp, Family, V4, V6, Part, AreNormal, component_name, value_text, component_words}
+use Rattle.fs_text.proofs.Words.{family_word, then_words, AreActions, AreWords, Begin, IsBadWord, IsWhole, Continues, Goes, Led, front, last_kind}
+use Rattle.fs_text.proofs.Words.{FitsBehind, IsBadName, IsBadValue, IsNext, IsNoEnd, part_name}
 
 pub head_is : {X : Type 0} {x y : X} {xs ys : List X} → x ∷ xs ≡ y ∷ ys → x ≡ y
 head_is e = cc
@@ -31,7 +35,8 @@ bad_at words front word tail place split here begin none = record {
         ∙ take-append_seam (front ++ word ∷ []) tail
 
 -- all words are a front
-pub bad_end : (words front : List (List ℕ)) (place : ℕ) → words ≡ front ++ [] → place ≡ length front → Begin front → (AreWords front → ⊥) → IsBadWord words place
+pub bad_end : (words front : List (List ℕ)) (place : ℕ) → words ≡ front ++ [] → place ≡ length front → Begin front → (AreWords front → ⊥)
+    → IsBadWord words place
 bad_end words front place split here begin none = record {
   before = subst Begin (sym first) begin;
   at = inr (here ∙ ap length (sym same), λ w. none (subst AreWords same w));
@@ -44,9 +49,11 @@ bad_end words front place split here begin none = record {
     first = ap (λ (k : ℕ). take k words) here ∙ ap (take (length front)) split ∙ take-append_seam front []
 
 -- a name, and a value that none has: what stands behind the name is a value of one that fits
-pub bad_value : {A : Type 0} (Fits : A → Type 0) (name value : A → List ℕ) (words ahead : List (List ℕ)) (place : ℕ) → words ≡ ahead ++ drop place words → place ≡ length ahead
+pub bad_value : {A : Type 0} (Fits : A → Type 0) (name value : A → List ℕ) (words ahead : List (List ℕ)) (place : ℕ)
+    → words ≡ ahead ++ drop place words → place ≡ length ahead
     → (bad : IsBadValue Fits name value (drop place words)) → Begin (ahead ++ name bad.item ∷ [])
-    → ((more : List (List ℕ)) → AreWords (ahead ++ name bad.item ∷ more) → (a : A) × (rest : List (List ℕ)) × Fits a × (name a ≡ name bad.item) × (more ≡ value a ∷ rest))
+    → ((more : List (List ℕ)) → AreWords (ahead ++ name bad.item ∷ more) → (a : A) × (rest : List (List ℕ)) × Fits a × (name a ≡ name bad.item)
+    × (more ≡ value a ∷ rest))
     → IsBadWord words (place + 1)
 bad_value Fits name value words ahead place at here bad begin valued = by bad.tail refl
   where
@@ -74,7 +81,8 @@ bad_value Fits name value words ahead place at here bad begin valued = by bad.ta
 -- a text has no bad word
 pub never_bad : (words : List (List ℕ)) (place : ℕ) → IsBadWord words place → AreWords words → ⊥
 never_bad words place bad whole =
-    ⊎_elim (λ in_. in_.1 (record { more = drop (place + 1) words; whole = subst AreWords (sym (take-append-drop (place + 1) words)) whole })) (λ end. end.1 whole) bad.at
+    ⊎_elim (λ in_. in_.1 (record { more = drop (place + 1) words; whole = subst AreWords (sym (take-append-drop (place + 1) words)) whole }))
+    (λ end. end.1 whole) bad.at
 
 none_rising : IsStrictlySortedBy (slice_cmp nat_cmp) []
 unfolding IsStrictlySortedBy
@@ -92,7 +100,8 @@ one_family V4 V6 e = let same : 54 ≡ 52 = ap second_of e in absurd (omega (ari
 one_family V6 V4 e = let same : 52 ≡ 54 = ap second_of e in absurd (omega (arith, same))
 one_family V6 V6 e = refl
 
-normal_more : (family : Family) (last : ℕ) (parts : List Part) (part : Part) → AreNormal family last parts → FitsBehind family (last_kind last parts) part → AreNormal family last (parts ++ part ∷ [])
+normal_more : (family : Family) (last : ℕ) (parts : List Part) (part : Part) → AreNormal family last parts
+    → FitsBehind family (last_kind last parts) part → AreNormal family last (parts ++ part ∷ [])
 normal_more family last [] part is fits = (fits.0, fits.1, tt)
 normal_more family last (p ∷ parts) part is fits = (is.0, is.1, normal_more family p.kind parts part is.2 fits)
 
@@ -180,10 +189,12 @@ bad_part_name words family parts last place led bad no_end =
         let c : Continues family parts (bad.word ∷ b.more) b.whole.family b.whole.parts b.whole.actions =
         led.goes (bad.word ∷ b.more) b.whole.family b.whole.parts b.whole.actions b.whole.normal
         (sym (append_assoc (front family parts) (bad.word ∷ []) b.more) ∙ b.whole.words_are) in
-        let n : Named family (last_kind 0 parts) bad.word b.more c.others = next_named family (last_kind 0 parts) bad.word b.more c.others b.whole.actions c.normal not_then c.behind in
+        let n : Named family (last_kind 0 parts) bad.word b.more c.others =
+        next_named family (last_kind 0 parts) bad.word b.more c.others b.whole.actions c.normal not_then c.behind in
         bad.none n.0 (subst (λ (k : ℕ). FitsBehind family k n.0) (sym led.last_is) n.3) (sym n.4)
 
-begin_named : (family : Family) (parts : List Part) (part : Part) → AreNormal family 0 parts → FitsBehind family (last_kind 0 parts) part → Begin (front family parts ++ part_name part ∷ [])
+begin_named : (family : Family) (parts : List Part) (part : Part) → AreNormal family 0 parts → FitsBehind family (last_kind 0 parts) part
+    → Begin (front family parts ++ part_name part ∷ [])
 begin_named family parts part normal fits = record {
   more = value_text part ∷ [];
   whole = record {
@@ -248,7 +259,8 @@ begin_none = record {
   whole = record { family = V4; parts = []; actions = []; normal = tt; actions_are = no_actions; words_are = refl };
 }
 
-pub bad_family : (words : List (List ℕ)) (word : List ℕ) (tail : List (List ℕ)) → words ≡ word ∷ tail → ((family : Family) → family_word family ≡ word → ⊥) → IsBadWord words 0
+pub bad_family : (words : List (List ℕ)) (word : List ℕ) (tail : List (List ℕ)) → words ≡ word ∷ tail
+    → ((family : Family) → family_word family ≡ word → ⊥) → IsBadWord words 0
 bad_family words word tail split none =
     bad_at words [] word tail 0 split refl begin_none (λ b. none b.whole.family (sym (head_is b.whole.words_are)))
 

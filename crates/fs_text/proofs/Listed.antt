@@ -1,5 +1,10 @@
 -- Components by their names, and what is read of their words.
-use Rattle.fs_text.{proofs.Words.{◌≡◌, ℕ, ◌<◌, ◌≤◌, ◌==◌, zero, suc, List, [], ◌∷◌, Bool, true, false, Option, Some, None, Result, Ok, Err, refl, sym, ap, subst, ◌∙◌, arith, inr, option_map, IfOk, eqb-true, none-some, same_Some, nat_tests, Family, V4, V6, Kind, Numeric, Bitmask, IsNormal, Component, body_of, part_of, ListForm, form_of, fragment_bits, prefix_form, Body, V4Body, V6Body, ListBody, Part, part, IsNormalAt, IsNormalBody, list_text, body_text, component_name, list_kind, value_text, Reads}, specs.Components.{Compared, HasType, IsPart, Loosely, Matched, last_type}}
+use Rattle.fs_text.proofs.Words.{◌≡◌, ℕ, ◌<◌, ◌≤◌, ◌==◌, zero, suc, List, [], ◌∷◌, Bool, true, false, Option, Some, None, Result, Ok, Err, refl, sym}
+use Rattle.fs_text.proofs.Words.{ap, subst, ◌∙◌, arith, inr, option_map, IfOk, eqb-true, none-some, same_Some, nat_tests, Family, V4, V6, Kind}
+use Rattle.fs_text.proofs.Words.{Numeric, Bitmask, IsNormal, Component, body_of, part_of, ListForm, form_of, fragment_bits, prefix_form, Body, V4Body}
+use Rattle.fs_text.proofs.Words.{V6Body, ListBody, Part, part, IsNormalAt, IsNormalBody, list_text, body_text, component_name, list_kind, value_text}
+use Rattle.fs_text.proofs.Words.{Reads}
+use Rattle.fs_text.specs.Components.{Compared, HasType, IsPart, Loosely, Matched, last_type}
 use Rattle.fs_nlri.specs.declared.component.PrefixForm.{PrefixForm}
 use Rattle.fs_ops.specs.Fault.{all_widths}
 
@@ -31,14 +36,21 @@ listed family (suc (suc (suc zero))) body is no_first no_second = listed_at 3 Nu
 listed family (suc (suc (suc (suc zero)))) body is no_first no_second = listed_at 4 Numeric all_widths None body refl (omega arith) (omega arith) is
 listed family (suc (suc (suc (suc (suc zero))))) body is no_first no_second = listed_at 5 Numeric all_widths None body refl (omega arith) (omega arith) is
 listed family (suc (suc (suc (suc (suc (suc zero)))))) body is no_first no_second = listed_at 6 Numeric all_widths None body refl (omega arith) (omega arith) is
-listed family (suc (suc (suc (suc (suc (suc (suc zero))))))) body is no_first no_second = listed_at 7 Numeric all_widths None body refl (omega arith) (omega arith) is
-listed family (suc (suc (suc (suc (suc (suc (suc (suc zero)))))))) body is no_first no_second = listed_at 8 Numeric all_widths None body refl (omega arith) (omega arith) is
-listed family (suc (suc (suc (suc (suc (suc (suc (suc (suc zero))))))))) body is no_first no_second = listed_at 9 Bitmask (0 ∷ 1 ∷ []) None body refl (omega arith) (omega arith) is
-listed family (suc (suc (suc (suc (suc (suc (suc (suc (suc (suc zero)))))))))) body is no_first no_second = listed_at 10 Numeric all_widths None body refl (omega arith) (omega arith) is
-listed family (suc (suc (suc (suc (suc (suc (suc (suc (suc (suc (suc zero))))))))))) body is no_first no_second = listed_at 11 Numeric (0 ∷ []) (Some 0x3f) body refl (omega arith) (omega arith) is
-listed family (suc (suc (suc (suc (suc (suc (suc (suc (suc (suc (suc (suc zero)))))))))))) body is no_first no_second = listed_at 12 Bitmask (0 ∷ []) (Some (fragment_bits family)) body refl (omega arith) (omega arith) is
+listed family (suc (suc (suc (suc (suc (suc (suc zero))))))) body is no_first no_second =
+    listed_at 7 Numeric all_widths None body refl (omega arith) (omega arith) is
+listed family (suc (suc (suc (suc (suc (suc (suc (suc zero)))))))) body is no_first no_second =
+    listed_at 8 Numeric all_widths None body refl (omega arith) (omega arith) is
+listed family (suc (suc (suc (suc (suc (suc (suc (suc (suc zero))))))))) body is no_first no_second =
+    listed_at 9 Bitmask (0 ∷ 1 ∷ []) None body refl (omega arith) (omega arith) is
+listed family (suc (suc (suc (suc (suc (suc (suc (suc (suc (suc zero)))))))))) body is no_first no_second =
+    listed_at 10 Numeric all_widths None body refl (omega arith) (omega arith) is
+listed family (suc (suc (suc (suc (suc (suc (suc (suc (suc (suc (suc zero))))))))))) body is no_first no_second =
+    listed_at 11 Numeric (0 ∷ []) (Some 0x3f) body refl (omega arith) (omega arith) is
+listed family (suc (suc (suc (suc (suc (suc (suc (suc (suc (suc (suc (suc zero)))))))))))) body is no_first no_second =
+    listed_at 12 Bitmask (0 ∷ []) (Some (fragment_bits family)) body refl (omega arith) (omega arith) is
 listed V4 (suc (suc (suc (suc (suc (suc (suc (suc (suc (suc (suc (suc (suc zero))))))))))))) body is no_first no_second = absurd is
-listed V6 (suc (suc (suc (suc (suc (suc (suc (suc (suc (suc (suc (suc (suc zero))))))))))))) body is no_first no_second = listed_at 13 Numeric all_widths None body refl (omega arith) (omega arith) is
+listed V6 (suc (suc (suc (suc (suc (suc (suc (suc (suc (suc (suc (suc (suc zero))))))))))))) body is no_first no_second =
+    listed_at 13 Numeric all_widths None body refl (omega arith) (omega arith) is
 listed V4 (suc (suc (suc (suc (suc (suc (suc (suc (suc (suc (suc (suc (suc (suc kind)))))))))))))) body is no_first no_second = absurd is
 listed V6 (suc (suc (suc (suc (suc (suc (suc (suc (suc (suc (suc (suc (suc (suc kind)))))))))))))) body is no_first no_second = absurd is
 
@@ -66,14 +78,16 @@ pub listed_loosely : (family : Family) (kind : ℕ) (word : List ℕ) (read : Op
 listed_loosely family kind word read above loose own same normal told =
     subst (λ (k : ℕ). Lists k → option_map part_of read ≡ Some own) same (
     λ lists.
-    let l : IsListed own.kind own.body = listed family own.kind own.body normal (λ e. absurd (omega (arith, e, same, above))) (λ e. absurd (omega (arith, e, same, above))) in
+    let l : IsListed own.kind own.body =
+    listed family own.kind own.body normal (λ e. absurd (omega (arith, e, same, above))) (λ e. absurd (omega (arith, e, same, above))) in
     lists l.pairs l.low l.high l.normal (told ∙ ap (body_text own.kind) l.body_is)
     ∙ ap (λ (b : Body). let made : Option Part = Some (part own.kind b) in made) (sym l.body_is)
     ) loose
   where
     Lists : ℕ → Type 0
     Lists k =
-        (pairs : List (ℕ × ℕ)) → 2 < k → k ≤ 13 → IsNormal (list_kind k) pairs → word ≡ list_text (list_kind k) pairs → option_map part_of read ≡ Some (part k (ListBody pairs))
+        (pairs : List (ℕ × ℕ)) → 2 < k → k ≤ 13 → IsNormal (list_kind k) pairs → word ≡ list_text (list_kind k) pairs
+        → option_map part_of read ≡ Some (part k (ListBody pairs))
 
 pub lists_loosely : {E : Type 0} (family : Family) (kind : ℕ) (word : List ℕ) (r : Result (Option Component) E) → 2 < kind
     → IfOk r (λ read. (pairs : List (ℕ × ℕ)) → 2 < kind → kind ≤ 13 → IsNormal (list_kind kind) pairs → word ≡ list_text (list_kind kind) pairs
@@ -116,7 +130,8 @@ at_most family zero body is = omega arith
 at_most family (suc zero) body is = omega arith
 at_most family (suc (suc zero)) body is = omega arith
 at_most family (suc (suc (suc kind))) body is =
-    let l : IsListed (suc (suc (suc kind))) body = listed family (suc (suc (suc kind))) body is (λ e. absurd (omega (arith, e))) (λ e. absurd (omega (arith, e))) in
+    let l : IsListed (suc (suc (suc kind))) body =
+    listed family (suc (suc (suc kind))) body is (λ e. absurd (omega (arith, e))) (λ e. absurd (omega (arith, e))) in
     l.high
 
 no_label : (kind : ℕ) (body : Body) → IsNormalAt (form_of V4 kind) body → kind ≡ 13 → ⊥
@@ -154,12 +169,17 @@ some_of family (suc (suc (suc (suc (suc (suc zero)))))) low high = record { body
 some_of family (suc (suc (suc (suc (suc (suc (suc zero))))))) low high = record { body = ListBody ((129, 0) ∷ []); normal = (numbers, refl, refl) }
 some_of family (suc (suc (suc (suc (suc (suc (suc (suc zero)))))))) low high = record { body = ListBody ((129, 0) ∷ []); normal = (numbers, refl, refl) }
 some_of family (suc (suc (suc (suc (suc (suc (suc (suc (suc zero))))))))) low high = record { body = ListBody ((129, 0) ∷ []); normal = (masks, refl, refl) }
-some_of family (suc (suc (suc (suc (suc (suc (suc (suc (suc (suc zero)))))))))) low high = record { body = ListBody ((129, 0) ∷ []); normal = (numbers, refl, refl) }
-some_of family (suc (suc (suc (suc (suc (suc (suc (suc (suc (suc (suc zero))))))))))) low high = record { body = ListBody ((129, 0) ∷ []); normal = (numbers, refl, refl) }
-some_of V4 (suc (suc (suc (suc (suc (suc (suc (suc (suc (suc (suc (suc zero)))))))))))) low high = record { body = ListBody ((129, 0) ∷ []); normal = (masks, refl, refl) }
-some_of V6 (suc (suc (suc (suc (suc (suc (suc (suc (suc (suc (suc (suc zero)))))))))))) low high = record { body = ListBody ((129, 0) ∷ []); normal = (masks, refl, refl) }
+some_of family (suc (suc (suc (suc (suc (suc (suc (suc (suc (suc zero)))))))))) low high =
+    record { body = ListBody ((129, 0) ∷ []); normal = (numbers, refl, refl) }
+some_of family (suc (suc (suc (suc (suc (suc (suc (suc (suc (suc (suc zero))))))))))) low high =
+    record { body = ListBody ((129, 0) ∷ []); normal = (numbers, refl, refl) }
+some_of V4 (suc (suc (suc (suc (suc (suc (suc (suc (suc (suc (suc (suc zero)))))))))))) low high =
+    record { body = ListBody ((129, 0) ∷ []); normal = (masks, refl, refl) }
+some_of V6 (suc (suc (suc (suc (suc (suc (suc (suc (suc (suc (suc (suc zero)))))))))))) low high =
+    record { body = ListBody ((129, 0) ∷ []); normal = (masks, refl, refl) }
 some_of V4 (suc (suc (suc (suc (suc (suc (suc (suc (suc (suc (suc (suc (suc kind))))))))))))) low high = absurd (omega (arith, high))
-some_of V6 (suc (suc (suc (suc (suc (suc (suc (suc (suc (suc (suc (suc (suc zero))))))))))))) low high = record { body = ListBody ((129, 0) ∷ []); normal = (numbers, refl, refl) }
+some_of V6 (suc (suc (suc (suc (suc (suc (suc (suc (suc (suc (suc (suc (suc zero))))))))))))) low high =
+    record { body = ListBody ((129, 0) ∷ []); normal = (numbers, refl, refl) }
 some_of V6 (suc (suc (suc (suc (suc (suc (suc (suc (suc (suc (suc (suc (suc (suc kind)))))))))))))) low high = absurd (omega (arith, high))
 
 pub type_named : (family : Family) (name : List ℕ) (kind : ℕ) → 1 ≤ kind → kind ≤ last_type family → component_name kind ≡ name

@@ -1,4 +1,5 @@
-use Rattle.fs_text.proofs.Words.{◌≡◌, ℕ, ◌+◌, ◌<◌, ◌≤◌, ◌==◌, zero, suc, List, Bool, true, false, if◌then◌else◌, bit_and, refl, sym, subst, arith, bytes_eq, and_le_r, eqb-true, nat_tests, Kind, Numeric, Bitmask, ends, meant_bits, plain_of, joined_bit}
+use Rattle.fs_text.proofs.Words.{◌≡◌, ℕ, ◌+◌, ◌<◌, ◌≤◌, ◌==◌, zero, suc, List, Bool, true, false, if◌then◌else◌, bit_and, refl, sym, subst, arith}
+use Rattle.fs_text.proofs.Words.{bytes_eq, and_le_r, eqb-true, nat_tests, Kind, Numeric, Bitmask, ends, meant_bits, plain_of, joined_bit}
 
 -- An operator in normal form is the sum of its bits.
 
@@ -20,7 +21,8 @@ pub below : (p : ℕ → Bool) (n k : ℕ) → all_below p n ≡ true → k < n 
 below p zero k all h = absurd (omega arith)
 below p (suc n) k all h = by (below p n k) (p n) refl all (k == n) refl
   where
-    by : (all_below p n ≡ true → k < n → p k ≡ true) → (b : Bool) → p n ≡ b → (if b then all_below p n else false) ≡ true → (c : Bool) → (k == n) ≡ c → p k ≡ true
+    by : (all_below p n ≡ true → k < n → p k ≡ true) → (b : Bool) → p n ≡ b → (if b then all_below p n else false) ≡ true → (c : Bool) → (k == n) ≡ c
+        → p k ≡ true
     by more false e all c same = absurd cc
     by more true e all true same = subst (λ (j : ℕ). p j ≡ true) (sym (eqb-true k n same)) e
     by more true e all false same = more all (grind (arith, nat_tests, h, same))

@@ -1,12 +1,17 @@
 -- A number's text is read back.
-use Rattle.fs_text.proofs.Words.{◌/◌, ◌≡◌, ℕ, ◌<◌, ◌≤◌, ◌^◌, List, [], ◌∷◌, Bool, true, false, Result, Ok, Err, if◌then◌else◌, length, drop, zero, suc, refl, sym, ap, ◌∙◌, subst, arith, OkIff, nat_le, nat_lt, cond, IsAscii, AllDigits, IsNumeral, ParsesUnsigned, digits_value, without_leading_plus, digits, digits_is_IsNumeral, AllByRecursion, slice_index, le-ltb, lt-ltb, ne_eqb, nat_tests, big_bytes, big_number, big_number-reads_back, encode_lower, decode_sized, decode_sized-encode_lower, append-nil, mod-lt, is_plain}
+use Rattle.fs_text.proofs.Words.{◌/◌, ◌≡◌, ℕ, ◌<◌, ◌≤◌, ◌^◌, List, [], ◌∷◌, Bool, true, false, Result, Ok, Err, if◌then◌else◌, length, drop, zero}
+use Rattle.fs_text.proofs.Words.{suc, refl, sym, ap, ◌∙◌, subst, arith, OkIff, nat_le, nat_lt, cond, IsAscii, AllDigits, IsNumeral, ParsesUnsigned}
+use Rattle.fs_text.proofs.Words.{digits_value, without_leading_plus, digits, digits_is_IsNumeral, AllByRecursion, slice_index, le-ltb, lt-ltb, ne_eqb}
+use Rattle.fs_text.proofs.Words.{nat_tests, big_bytes, big_number, big_number-reads_back, encode_lower, decode_sized, decode_sized-encode_lower}
+use Rattle.fs_text.proofs.Words.{append-nil, mod-lt, is_plain}
 use Rattle.std.specs.Char.{digit_value}
 
 plain : (radix : ℕ) (ds : List ℕ) → radix ≤ 16 → AllDigits radix ds → AllByRecursion (λ c. is_plain c ≡ true) ds
 plain radix [] low d = tt
 plain radix (c ∷ cs) low d = (lt-ltb (digit_value c) 36 (omega (arith, d.0)), plain radix cs low d.1)
 
-pub plain_digits : (radix n : ℕ) → 2 ≤ radix → radix ≤ 16 → n < radix ^ 64 → (0 < length (digits radix false n)) × AllByRecursion (λ c. is_plain c ≡ true) (digits radix false n)
+pub plain_digits : (radix n : ℕ) → 2 ≤ radix → radix ≤ 16 → n < radix ^ 64
+    → (0 < length (digits radix false n)) × AllByRecursion (λ c. is_plain c ≡ true) (digits radix false n)
 plain_digits radix n low high small =
     let is = (digits_is_IsNumeral radix false low high n small).0 in
     (is.0, plain radix (digits radix false n) high is.1)
@@ -29,16 +34,19 @@ figure_read n small = subst (λ (l : List ℕ). big_number 4 l ≡ n) (append-ni
 after_plus : (ds : List ℕ) → IsNumeral 16 ds → without_leading_plus ds ≡ ds
 after_plus [] h = refl
 after_plus (c ∷ cs) h =
-    ap (λ (b : Bool). drop (cond b 1 0) (c ∷ cs)) (ne_eqb c 43 (λ e. let k : digit_value 43 < 16 = subst (λ (x : ℕ). digit_value x < 16) e h.1.0 in absurd (omega (arith, k))))
+    ap (λ (b : Bool). drop (cond b 1 0) (c ∷ cs))
+    (ne_eqb c 43 (λ e. let k : digit_value 43 < 16 = subst (λ (x : ℕ). digit_value x < 16) e h.1.0 in absurd (omega (arith, k))))
 
 pub parse_group : {E : Type 0} (k n : ℕ) (bs : List ℕ) (r : Result ℕ E) → n < 2 ^ k → n < 2 ^ 64 → bs ≡ digits 16 false n → ParsesUnsigned k 16 bs r → r ≡ Ok n
 parse_group {E} k n bs r fits small is h =
-    by r (subst (λ (l : List ℕ). OkIff r (IsNumeral 16 l × (digits_value 16 l < 2 ^ k)) (digits_value 16 l)) (ap without_leading_plus is ∙ after_plus (digits 16 false n) numeral.0) h)
+    by r (subst (λ (l : List ℕ). OkIff r (IsNumeral 16 l × (digits_value 16 l < 2 ^ k)) (digits_value 16 l)) (ap without_leading_plus is
+    ∙ after_plus (digits 16 false n) numeral.0) h)
   where
     numeral : IsNumeral 16 (digits 16 false n) × (digits_value 16 (digits 16 false n) ≡ n)
     numeral = digits_is_IsNumeral 16 false (omega arith) (omega arith) n (omega arith)
 
-    by : (q : Result ℕ E) → OkIff q (IsNumeral 16 (digits 16 false n) × (digits_value 16 (digits 16 false n) < 2 ^ k)) (digits_value 16 (digits 16 false n)) → q ≡ Ok n
+    by : (q : Result ℕ E) → OkIff q (IsNumeral 16 (digits 16 false n) × (digits_value 16 (digits 16 false n) < 2 ^ k))
+        (digits_value 16 (digits 16 false n)) → q ≡ Ok n
     by (Ok x) p = ap (λ (m : ℕ). Ok m) (p.1 ∙ numeral.1)
     by (Err d) p = absurd (p (numeral.0, subst (λ (m : ℕ). m < 2 ^ k) (sym numeral.1) fits))
 

@@ -1,5 +1,13 @@
 -- The text of a list is that of no other list.
-use Rattle.fs_text.proofs.{Words.{◌≡◌, ℕ, ◌+◌, ◌*◌, ◌^◌, ◌<◌, ◌≤◌, ◌==◌, List, [], ◌∷◌, ◌++◌, Bool, true, false, not, if◌then◌else◌, length, bit_and, Result, Ok, Err, refl, sym, ap, subst, ◌∙◌, arith, codes, decimal, flat_map, AllByRecursion, bytes_eq, digits_value, digits, eqb-true, digits_is_IsNumeral, and_le_r, big_bytes, big_number, big_number-reads_back, decode_sized, FromHexError, append-nil, Kind, Numeric, Bitmask, ends, joins, meant_bits, width_code, width_of, IsNormal, IsNormalPair, octets_text, joined_text, least_code, list_text, mask_sign, number_sign, operand_text, pair_text, sign, width_text, width_word, code_at, is_sign, is_within, joined_bit, plain_of, relation_of, Ends, is_plain, first_normal}, Led.{head_is, no_words, tail_is}, Made.{all_below, below, made, number_with}, Pairs.{are_signs, bit_if, code_small, joiner_by, octets_run, others_end, pair_within, value_small, width_ends}, Wide.{code_back, octets_decoded, octets_len}, WordParts.{IsRun, run_decimal}}
+use Rattle.fs_text.proofs.Words.{◌≡◌, ℕ, ◌+◌, ◌*◌, ◌^◌, ◌<◌, ◌≤◌, ◌==◌, List, [], ◌∷◌, ◌++◌, Bool, true, false, not, if◌then◌else◌, length, bit_and}
+use Rattle.fs_text.proofs.Words.{Result, Ok, Err, refl, sym, ap, subst, ◌∙◌, arith, codes, decimal, flat_map, AllByRecursion, bytes_eq, digits_value}
+use Rattle.fs_text.proofs.Words.{digits, eqb-true, digits_is_IsNumeral, and_le_r, big_bytes, big_number, big_number-reads_back, decode_sized}
+use Rattle.fs_text.proofs.Words.{FromHexError, append-nil, Kind, Numeric, Bitmask, ends, joins, meant_bits, width_code, width_of, IsNormal}
+use Rattle.fs_text.proofs.Words.{IsNormalPair, octets_text, joined_text, least_code, list_text, mask_sign, number_sign, operand_text, pair_text, sign}
+use Rattle.fs_text.proofs.Words.{width_text, width_word, code_at, is_sign, is_within, joined_bit, plain_of, relation_of, Ends, is_plain, first_normal}
+use Rattle.fs_text.proofs.{Led.{head_is, no_words, tail_is}, Made.{all_below, below, made, number_with}}
+use Rattle.fs_text.proofs.Pairs.{are_signs, bit_if, code_small, joiner_by, octets_run, others_end, pair_within, value_small, width_ends}
+use Rattle.fs_text.proofs.{Wide.{code_back, octets_decoded, octets_len}, WordParts.{IsRun, run_decimal}}
 use Rattle.fs_ops.specs.OperatorList.{AreNormal}
 
 -- what a number's text says
@@ -36,7 +44,8 @@ one_split p (x ∷ a) (y ∷ b) r s all also end stop e =
 -- numbers below n whose texts all differ are told by them
 text_tells : (f : ℕ → List ℕ) (n a b : ℕ) → all_below (λ k. number_with f n (f k) == k) n ≡ true → a < n → b < n → f a ≡ f b → a ≡ b
 text_tells f n a b all low high same =
-    let back : (k : ℕ) → k < n → number_with f n (f k) ≡ k = λ k small. eqb-true (number_with f n (f k)) k (below (λ j. number_with f n (f j) == j) n k all small) in
+    let back : (k : ℕ) → k < n → number_with f n (f k) ≡ k =
+    λ k small. eqb-true (number_with f n (f k)) k (below (λ j. number_with f n (f j) == j) n k all small) in
     sym (back a low) ∙ ap (number_with f n) same ∙ back b high
 
 one_sign : (kind : Kind) (a b : ℕ) → sign kind a ≡ sign kind b → relation_of kind a ≡ relation_of kind b
@@ -76,7 +85,8 @@ Same a b = (width_code a.0 ≡ width_code b.0) × (a.1 ≡ b.1)
 
 one_number : (a b : ℕ × ℕ) → a.1 < 2 ^ 64 → b.1 < 2 ^ 64 → operand_text Numeric a.0 a.1 ≡ operand_text Numeric b.0 b.1 → Same a b
 one_number a b small low e =
-    let split = one_split is_plain (decimal a.1) (decimal b.1) (width_word a.1 (width_code a.0)) (width_word b.1 (width_code b.0)) (run_decimal a.1 small).1 (run_decimal b.1 low).1
+    let split = one_split is_plain (decimal a.1) (decimal b.1) (width_word a.1 (width_code a.0)) (width_word b.1 (width_code b.0))
+    (run_decimal a.1 small).1 (run_decimal b.1 low).1
     (width_ends a.1 (width_code a.0)) (width_ends b.1 (width_code b.0)) e in
     let value : a.1 ≡ b.1 = sym (decimal_back a.1 small) ∙ ap (digits_value 10) split.0 ∙ decimal_back b.1 low in
     let width : width_word a.1 (width_code a.0) ≡ width_word a.1 (width_code b.0) =
@@ -108,7 +118,8 @@ one_bits a b small low e =
           ∙ octets_number (width_of b.0) b.1 low,
     )
 
-one_operand : (kind : Kind) (a b : ℕ × ℕ) → a.1 < 256 ^ width_of a.0 → b.1 < 256 ^ width_of b.0 → operand_text kind a.0 a.1 ≡ operand_text kind b.0 b.1 → Same a b
+one_operand : (kind : Kind) (a b : ℕ × ℕ) → a.1 < 256 ^ width_of a.0 → b.1 < 256 ^ width_of b.0
+    → operand_text kind a.0 a.1 ≡ operand_text kind b.0 b.1 → Same a b
 one_operand Numeric a b small low e = one_number a b (value_small a.0 a.1 small) (value_small b.0 b.1 low) e
 one_operand Bitmask a b small low e = one_bits a b small low e
 
@@ -126,7 +137,8 @@ operand_ends Bitmask pair small =
 one_pair : (kind : Kind) (a b : ℕ × ℕ) → a.1 < 256 ^ width_of a.0 → b.1 < 256 ^ width_of b.0 → pair_text kind a ≡ pair_text kind b
     → (plain_of kind a.0 ≡ plain_of kind b.0) × (a.1 ≡ b.1)
 one_pair kind a b small low e =
-    let split = one_split is_sign (sign kind a.0) (sign kind b.0) (operand_text kind a.0 a.1) (operand_text kind b.0 b.1) (are_signs kind a.0) (are_signs kind b.0)
+    let split = one_split is_sign (sign kind a.0) (sign kind b.0) (operand_text kind a.0 a.1) (operand_text kind b.0 b.1) (are_signs kind a.0)
+    (are_signs kind b.0)
     (operand_ends kind a small) (operand_ends kind b low) e in
     let same : Same a b = one_operand kind a b small low split.1 in
     let relation : relation_of kind a.0 ≡ relation_of kind b.0 = one_sign kind a.0 b.0 split.0 in
@@ -158,7 +170,8 @@ one_joined : (kind : Kind) (a b : ℕ × ℕ) (front back : List (ℕ × ℕ)) �
     → (joined_bit a.0 ≡ joined_bit b.0) × (pair_text kind a ++ flat_map (joined_text kind) front ≡ pair_text kind b ++ flat_map (joined_text kind) back)
 one_joined kind a b front back e = by (joins a.0) (joins b.0) e
   where
-    by : (x y : Bool) → (joiner_by x ++ pair_text kind a) ++ flat_map (joined_text kind) front ≡ (joiner_by y ++ pair_text kind b) ++ flat_map (joined_text kind) back
+    by : (x y : Bool) → (joiner_by x ++ pair_text kind a) ++ flat_map (joined_text kind) front ≡ (joiner_by y ++ pair_text kind b)
+        ++ flat_map (joined_text kind) back
         → (bit_if x ≡ bit_if y) × (pair_text kind a ++ flat_map (joined_text kind) front ≡ pair_text kind b ++ flat_map (joined_text kind) back)
     by true true h = (refl, tail_is h)
     by true false h = let same : 38 ≡ 44 = head_is h in absurd (omega (arith, same))
@@ -177,7 +190,8 @@ splits : (kind : Kind) (a b : ℕ × ℕ) (front back : List (ℕ × ℕ)) → A
 splits kind a b front back is are joined e =
     let first : IsNormalPair (meant_bits kind) a = first_normal (meant_bits kind) a front is in
     let second : IsNormalPair (meant_bits kind) b = first_normal (meant_bits kind) b back are in
-    let split = one_split is_within (pair_text kind a) (pair_text kind b) (flat_map (joined_text kind) front) (flat_map (joined_text kind) back) (pair_within kind a first.fits)
+    let split = one_split is_within (pair_text kind a) (pair_text kind b) (flat_map (joined_text kind) front) (flat_map (joined_text kind) back)
+    (pair_within kind a first.fits)
     (pair_within kind b second.fits) (others_end kind front) (others_end kind back) e in
     let pairs = one_pair kind a b first.fits second.fits split.0 in
     record { same = λ end. pair_is kind a b first second pairs.0 joined end pairs.1; rest = split.1 }
@@ -194,7 +208,8 @@ one_from kind a b (c ∷ cs) (d ∷ ds) is are joined e =
     ap (λ (x : ℕ × ℕ). x ∷ c ∷ cs) (split.same (is.1 ∙ sym are.1))
     ∙ ap (λ (l : List (ℕ × ℕ)). b ∷ l) (one_from kind c d cs ds is.2 are.2 next.0 next.1)
 
-pub one_list : (kind : Kind) (pairs others : List (ℕ × ℕ)) → IsNormal kind pairs → IsNormal kind others → list_text kind pairs ≡ list_text kind others → pairs ≡ others
+pub one_list : (kind : Kind) (pairs others : List (ℕ × ℕ)) → IsNormal kind pairs → IsNormal kind others → list_text kind pairs ≡ list_text kind others
+    → pairs ≡ others
 one_list kind [] others is are e = absurd is.normal
 one_list kind (a ∷ front) [] is are e = absurd are.normal
 one_list kind (a ∷ front) (b ∷ back) is are e = one_from kind a b front back is.normal are.normal (ap bit_if (is.first ∙ sym are.first)) e

@@ -1,5 +1,19 @@
 -- A text is that of no two rules with actions.
-use Rattle.fs_text.{proofs.{Words.{◌≡◌, inl, inr, ℕ, ◌+◌, ◌-◌, ◌*◌, ◌/◌, ◌%◌, ◌^◌, ◌<◌, ◌≤◌, ◌==◌, zero, suc, List, [], ◌∷◌, ◌++◌, drop, get_or, Bool, true, false, if◌then◌else◌, Option, Some, Result, refl, sym, ap, subst, ◌∙◌, arith, codes, decimal, AllByRecursion, bytes_eq, digits_value, div-le_self, mod-lt, cases_lt, eqb-true, same_Some, big_bytes, big_number, decode_sized, encode_lower, FromHexError, IsOctets, Family, V4, V6, form_of, prefix_form, Body, V4Body, V6Body, ListBody, Ruled, part, ruled, AreNormal, IsNormalAt, IsNormalBody, IsRule, IsAction, action_words, component_words, text_of, then_words, words_of, action_name, action_text, hexadecimal, body_text, component_name, list_kind, value_text, Gives, GivesPlain, form_parts, ip4_parts, long_octets, pair_parts, rate_parts, short_octets, IsNamed, Run, Delimiter, parts_of, GivesV4, GivesV6, range_parts, wide_parts, AreActions, words_in}, Acted.{no_then}, Found.{Readings, found}, Led.{head_is, no_words, one_family, tail_is}, Listed.{IsListed, at_most, listed, low_type, prefix_normal, prefix_text}, Made.{below, number_with}, Numerals.{figure_decoded, figure_read}, OneList.{decimal_back, hexadecimal_back, octets_in, one_list}, Prefixed.{pattern_back, pattern_small, range_offset, v4_found, v6_found}, Spaceless.{words_back}}, specs.Pieces.{Part}}
+use Rattle.fs_text.proofs.Words.{◌≡◌, inl, inr, ℕ, ◌+◌, ◌-◌, ◌*◌, ◌/◌, ◌%◌, ◌^◌, ◌<◌, ◌≤◌, ◌==◌, zero, suc, List, [], ◌∷◌, ◌++◌, drop, get_or, Bool}
+use Rattle.fs_text.proofs.Words.{true, false, if◌then◌else◌, Option, Some, Result, refl, sym, ap, subst, ◌∙◌, arith, codes, decimal, AllByRecursion}
+use Rattle.fs_text.proofs.Words.{bytes_eq, digits_value, div-le_self, mod-lt, cases_lt, eqb-true, same_Some, big_bytes, big_number, decode_sized}
+use Rattle.fs_text.proofs.Words.{encode_lower, FromHexError, IsOctets, Family, V4, V6, form_of, prefix_form, Body, V4Body, V6Body, ListBody, Ruled}
+use Rattle.fs_text.proofs.Words.{part, ruled, AreNormal, IsNormalAt, IsNormalBody, IsRule, IsAction, action_words, component_words, text_of}
+use Rattle.fs_text.proofs.Words.{then_words, words_of, action_name, action_text, hexadecimal, body_text, component_name, list_kind, value_text, Gives}
+use Rattle.fs_text.proofs.Words.{GivesPlain, form_parts, ip4_parts, long_octets, pair_parts, rate_parts, short_octets, IsNamed, Run, Delimiter}
+use Rattle.fs_text.proofs.Words.{parts_of, GivesV4, GivesV6, range_parts, wide_parts, AreActions, words_in}
+use Rattle.fs_text.proofs.{Acted.{no_then}, Found.{Readings, found}, Led.{head_is, no_words, one_family, tail_is}}
+use Rattle.fs_text.proofs.Listed.{IsListed, at_most, listed, low_type, prefix_normal, prefix_text}
+use Rattle.fs_text.proofs.{Made.{below, number_with}, Numerals.{figure_decoded, figure_read}}
+use Rattle.fs_text.proofs.OneList.{decimal_back, hexadecimal_back, octets_in, one_list}
+use Rattle.fs_text.proofs.Prefixed.{pattern_back, pattern_small, range_offset, v4_found, v6_found}
+use Rattle.fs_text.proofs.Spaceless.{words_back}
+use Rattle.fs_text.specs.Pieces.{Part}
 use Rattle.fs_nlri.specs.Parts.{Part as AnyPart}
 
 -- what the parts of a word say, read as numbers
@@ -76,7 +90,8 @@ own_half n =
 
 groups_back : (n : ℕ) → own_half n ≡ n % 18446744073709551616
 groups_back n =
-    same_half _ _ _ _ (n / 2 ^ 48 % 2 ^ 16) (n / 2 ^ 32 % 2 ^ 16) (n / 2 ^ 16 % 2 ^ 16) (n % 2 ^ 16) (group_back (n / 2 ^ 48)) (group_back (n / 2 ^ 32)) (group_back (n / 2 ^ 16)) (group_back n)
+    same_half _ _ _ _ (n / 2 ^ 48 % 2 ^ 16) (n / 2 ^ 32 % 2 ^ 16) (n / 2 ^ 16 % 2 ^ 16) (n % 2 ^ 16) (group_back (n / 2 ^ 48))
+    (group_back (n / 2 ^ 32)) (group_back (n / 2 ^ 16)) (group_back n)
     ∙ half_back n
 
 abbrev wide_at : List Part → ℕ
@@ -95,7 +110,8 @@ wide_back n tail small =
 offset_back : (n len offset : ℕ) → offset < 128 → number_at (wide_parts n (range_parts len offset)) 18 ≡ offset
 offset_back n len offset low = by (offset == 0) refl
   where
-    by : (b : Bool) → (offset == 0) ≡ b → number_at (wide_parts n (Delimiter 47 ∷ Run (decimal len) ∷ (if b then [] else Delimiter 45 ∷ Run (decimal offset) ∷ []))) 18 ≡ offset
+    by : (b : Bool) → (offset == 0) ≡ b
+        → number_at (wide_parts n (Delimiter 47 ∷ Run (decimal len) ∷ (if b then [] else Delimiter 45 ∷ Run (decimal offset) ∷ []))) 18 ≡ offset
     by true e = sym (eqb-true offset 0 e)
     by false e = decimal_back offset (omega (arith, low))
 
@@ -103,7 +119,8 @@ abbrev v6_at : List Part → Option Body
 v6_at parts = Some (V6Body (number_at parts 16) (number_at parts 18) (wide_at parts * 2 ^ number_at parts 18 % 340282366920938463463374607431768211456))
 
 v6_made : (l len o offset a n : ℕ) → l ≡ len → o ≡ offset → a ≡ n
-    → Some (V6Body l o (a * 2 ^ o % 340282366920938463463374607431768211456)) ≡ Some (V6Body len offset (n * 2 ^ offset % 340282366920938463463374607431768211456))
+    → Some (V6Body l o (a * 2 ^ o % 340282366920938463463374607431768211456))
+    ≡ Some (V6Body len offset (n * 2 ^ offset % 340282366920938463463374607431768211456))
 v6_made l len o offset a n p q r =
     ap (λ (k : ℕ). let made : Option Body = Some (V6Body k o (a * 2 ^ o % 340282366920938463463374607431768211456)) in made) p
     ∙ ap (λ (k : ℕ). let made : Option Body = Some (V6Body len k (a * 2 ^ k % 340282366920938463463374607431768211456)) in made) q
@@ -132,7 +149,8 @@ one_prefix V6 x y is are e =
 
 -- components
 
-one_body : (family : Family) (kind : ℕ) (x y : Body) → IsNormalAt (form_of family kind) x → IsNormalAt (form_of family kind) y → body_text kind x ≡ body_text kind y → x ≡ y
+one_body : (family : Family) (kind : ℕ) (x y : Body) → IsNormalAt (form_of family kind) x → IsNormalAt (form_of family kind) y
+    → body_text kind x ≡ body_text kind y → x ≡ y
 one_body family kind x y is are e = elim (cases_lt 2 kind) [ inl high ↦ lists high | inr low ↦ prefixes low ]
   where
     prefixes : kind ≤ 2 → x ≡ y
@@ -151,7 +169,8 @@ one_body family kind x y is are e = elim (cases_lt 2 kind) [ inl high ↦ lists 
 
 kind_back : (kind : ℕ) → 1 ≤ kind → kind ≤ 13 → number_with component_name 14 (component_name kind) ≡ kind
 kind_back zero low high = absurd (omega arith)
-kind_back (suc k) low high = eqb-true (number_with component_name 14 (component_name (suc k))) (suc k) (below (λ n. number_with component_name 14 (component_name (suc n)) == suc n) 13 k refl (omega arith))
+kind_back (suc k) low high = eqb-true (number_with component_name 14 (component_name (suc k))) (suc k)
+    (below (λ n. number_with component_name 14 (component_name (suc n)) == suc n) 13 k refl (omega arith))
 
 one_part : (family : Family) (p q : AnyPart) → IsNormalAt (form_of family p.kind) p.body → IsNormalAt (form_of family q.kind) q.body
     → component_name p.kind ≡ component_name q.kind → value_text p ≡ value_text q → p ≡ q
@@ -166,7 +185,8 @@ one_part family p q is are names texts =
 -- actions
 
 made_of : (f : ℕ → ℕ → List ℕ) (a b c d : ℕ) → a ≡ c → b ≡ d → Some (f a b) ≡ Some (f c d)
-made_of f a b c d p q = ap (λ (k : ℕ). let made : Option (List ℕ) = Some (f k b) in made) p ∙ ap (λ (k : ℕ). let made : Option (List ℕ) = Some (f c k) in made) q
+made_of f a b c d p q = ap (λ (k : ℕ). let made : Option (List ℕ) = Some (f k b) in made) p
+    ∙ ap (λ (k : ℕ). let made : Option (List ℕ) = Some (f c k) in made) q
 
 abbrev rate_at : ℕ → List Part → Option (List ℕ)
 rate_at kind parts = Some (short_octets kind (number_at parts 0) (figure_of (text_at parts 2)))
@@ -216,7 +236,8 @@ given r s e gives first last p q is = e ∙ gives first last p q is
 given_plain : (kind : ℕ) (parts : List Part) (r s : Option (List ℕ)) → r ≡ s → GivesPlain kind parts s → GivesPlain kind parts r
 given_plain kind parts r s e gives last p is = e ∙ gives last p is
 
-target : (name : List ℕ) (parts rest : List Part) (form : List ℕ) → name ≡ codes "redirect" → parts ≡ form_parts form rest → action_at name parts ≡ target_at form rest
+target : (name : List ℕ) (parts rest : List Part) (form : List ℕ) → name ≡ codes "redirect" → parts ≡ form_parts form rest
+    → action_at name parts ≡ target_at form rest
 target name parts rest form e is = ap (λ (n : List ℕ). action_at n parts) e ∙ ap (λ (l : List Part). target_at (text_at l 0) (drop 2 l)) is
 
 readings : (name : List ℕ) (parts : List Part) → Readings name parts (action_at name parts)
@@ -239,10 +260,13 @@ one_action a b is small are low names texts =
     let parts : List Part = parts_of (action_text a) in
     let first : IsNamed (action_name b) a = record { normal = is; octets = small; named = names } in
     let second : IsNamed (action_name b) b = record { normal = are; octets = low; named = refl } in
-    same_Some _ _ (sym (found (action_name b) a (parts_of (action_text a)) (action_at (action_name b) (parts_of (action_text a))) first refl (readings (action_name b) (parts_of (action_text a))))
-    ∙ found (action_name b) b (parts_of (action_text a)) (action_at (action_name b) (parts_of (action_text a))) second (ap parts_of texts) (readings (action_name b) (parts_of (action_text a))))
+    same_Some _ _ (sym (found (action_name b) a (parts_of (action_text a)) (action_at (action_name b) (parts_of (action_text a))) first refl
+    (readings (action_name b) (parts_of (action_text a))))
+    ∙ found (action_name b) b (parts_of (action_text a)) (action_at (action_name b) (parts_of (action_text a))) second (ap parts_of texts)
+    (readings (action_name b) (parts_of (action_text a))))
 
-one_actions : (said told : List (List ℕ)) → AllByRecursion IsAction said → AllByRecursion IsOctets said → AllByRecursion IsAction told → AllByRecursion IsOctets told
+one_actions : (said told : List (List ℕ)) → AllByRecursion IsAction said → AllByRecursion IsOctets said → AllByRecursion IsAction told
+    → AllByRecursion IsOctets told
     → action_words said ≡ action_words told → said ≡ told
 one_actions [] [] is small are low e = refl
 one_actions [] (b ∷ told) is small are low e = no_words (sym e)
@@ -266,7 +290,8 @@ then_named : {A : Type 0} (q : AnyPart) (more : List (List ℕ)) (said : List (L
 then_named q more [] e = no_words (sym e)
 then_named q more (a ∷ said) e = absurd (no_then q.kind (sym (head_is e)))
 
-one_words : (family : Family) (last low : ℕ) (ps qs : List AnyPart) (said told : List (List ℕ)) → AreNormal family last ps → AreNormal family low qs → AreActions said → AreActions told
+one_words : (family : Family) (last low : ℕ) (ps qs : List AnyPart) (said told : List (List ℕ)) → AreNormal family last ps → AreNormal family low qs
+    → AreActions said → AreActions told
     → component_words ps ++ then_words said ≡ component_words qs ++ then_words told → Both ps qs said told
 one_words family last low [] [] said told is are given_ also e = (refl, one_then said told given_ also e)
 one_words family last low [] (q ∷ qs) said told is are given_ also e = then_named q _ said e
@@ -276,7 +301,8 @@ one_words family last low (p ∷ ps) (q ∷ qs) said told is are given_ also e =
     let later : Both ps qs said told = one_words family p.kind q.kind ps qs said told is.2 are.2 given_ also (tail_is (tail_is e)) in
     (ap (λ (x : AnyPart). x ∷ ps) same ∙ ap (λ (l : List AnyPart). q ∷ l) later.0, later.1)
 
-pub one_text : (rule other : Ruled) (said told : List (List ℕ)) → IsRule rule → AreActions said → IsRule other → AreActions told → text_of rule said ≡ text_of other told
+pub one_text : (rule other : Ruled) (said told : List (List ℕ)) → IsRule rule → AreActions said → IsRule other → AreActions told
+    → text_of rule said ≡ text_of other told
     → (rule ≡ other) × (said ≡ told)
 one_text rule other said told is are also too e =
     let words : words_of rule said ≡ words_of other told =

@@ -1,5 +1,11 @@
 -- The texts of pairs, cut and read.
-use Rattle.fs_text.proofs.{Words.{append_assoc, ◌≡◌, ℕ, ◌+◌, ◌*◌, ◌/◌, ◌^◌, ◌<◌, ◌≤◌, ◌==◌, zero, suc, List, [], ◌∷◌, ◌++◌, Option, Some, Bool, true, false, not, ◌||◌, if◌then◌else◌, length, bit_and, refl, sym, ap, subst, ◌∙◌, arith, codes, decimal, flat_map, AllByRecursion, and_le_r, nat_tests, append-nil, same_Some, some_pair_parts, big_octets, each_append, each_weaker, Kind, Numeric, Bitmask, joins, ends, meant_bits, width_code, width_of, IsNormal, first_normal, octets_text, joined_text, least_code, list_text, mask_sign, number_sign, operand_text, pair_text, sign, width_word, is_sign, is_within, joined_bit, plain_of, relation_of, Ends, is_plain}, WordParts.{IsRun, run_decimal, run_octets}, Made.{made}}
+use Rattle.fs_text.proofs.Words.{append_assoc, ◌≡◌, ℕ, ◌+◌, ◌*◌, ◌/◌, ◌^◌, ◌<◌, ◌≤◌, ◌==◌, zero, suc, List, [], ◌∷◌, ◌++◌, Option, Some, Bool, true}
+use Rattle.fs_text.proofs.Words.{false, not, ◌||◌, if◌then◌else◌, length, bit_and, refl, sym, ap, subst, ◌∙◌, arith, codes, decimal, flat_map}
+use Rattle.fs_text.proofs.Words.{AllByRecursion, and_le_r, nat_tests, append-nil, same_Some, some_pair_parts, big_octets, each_append, each_weaker}
+use Rattle.fs_text.proofs.Words.{Kind, Numeric, Bitmask, joins, ends, meant_bits, width_code, width_of, IsNormal, first_normal, octets_text}
+use Rattle.fs_text.proofs.Words.{joined_text, least_code, list_text, mask_sign, number_sign, operand_text, pair_text, sign, width_word, is_sign}
+use Rattle.fs_text.proofs.Words.{is_within, joined_bit, plain_of, relation_of, Ends, is_plain}
+use Rattle.fs_text.proofs.{WordParts.{IsRun, run_decimal, run_octets}, Made.{made}}
 use Rattle.fs_ops.specs.OperatorList.{AreNormal}
 
 -- a choice keeps what both have
@@ -74,14 +80,17 @@ coded_run (suc (suc (suc (suc code)))) value small = absurd (omega arith)
 pub octets_run : (operator value : ℕ) → IsRun (octets_text (width_of operator) value)
 octets_run operator value = coded_run (width_code operator) value (code_small operator)
 
-operands : (P : ℕ → Type 0) → OfPlain P → P 58 → (kind : Kind) (operator value : ℕ) → value < 256 ^ width_of operator → AllByRecursion P (operand_text kind operator value)
+operands : (P : ℕ → Type 0) → OfPlain P → P 58 → (kind : Kind) (operator value : ℕ) → value < 256 ^ width_of operator
+    → AllByRecursion P (operand_text kind operator value)
 operands P plain colon Numeric operator value h =
-    each_append P (decimal value) (width_word value (width_code operator)) (run_all P plain (decimal value) (run_decimal value (value_small operator value h)).1)
+    each_append P (decimal value) (width_word value (width_code operator))
+    (run_all P plain (decimal value) (run_decimal value (value_small operator value h)).1)
     (widths P plain colon value (width_code operator))
 operands P plain colon Bitmask operator value h = run_all P plain (octets_text (width_of operator) value) (octets_run operator value).1
 
 -- what holds of letters, digits and these marks holds of the text of a pair
-pub pair_all : (P : ℕ → Type 0) → OfSigns P → OfPlain P → P 58 → (kind : Kind) (pair : ℕ × ℕ) → pair.1 < 256 ^ width_of pair.0 → AllByRecursion P (pair_text kind pair)
+pub pair_all : (P : ℕ → Type 0) → OfSigns P → OfPlain P → P 58 → (kind : Kind) (pair : ℕ × ℕ) → pair.1 < 256 ^ width_of pair.0
+    → AllByRecursion P (pair_text kind pair)
 pair_all P m plain colon kind pair h =
     each_append P (sign kind pair.0) (operand_text kind pair.0 pair.1) (signs P m kind pair.0) (operands P plain colon kind pair.0 pair.1 h)
 
@@ -95,7 +104,8 @@ plain_within o h = by (o == 38) refl (o == 44) refl
 
 pub pair_within : (kind : Kind) (pair : ℕ × ℕ) → pair.1 < 256 ^ width_of pair.0 → AllByRecursion (λ o. is_within o ≡ true) (pair_text kind pair)
 pair_within kind pair h =
-    pair_all (λ o. is_within o ≡ true) (record { bang = refl; star = refl; less = refl; equal = refl; greater = refl; tilde = refl }) plain_within refl kind pair h
+    pair_all (λ o. is_within o ≡ true) (record { bang = refl; star = refl; less = refl; equal = refl; greater = refl; tilde = refl }) plain_within
+    refl kind pair h
 
 abbrev pub joiner_by : Bool → List ℕ
 joiner_by b = if b then codes "&" else codes ","

@@ -1,5 +1,12 @@
 -- The parts of the words of prefixes, and the prefixes that are read of them.
-use Rattle.fs_text.{proofs.{Words.{append_assoc, ◌≡◌, ℕ, ◌+◌, ◌-◌, ◌*◌, ◌/◌, ◌%◌, ◌^◌, ◌<◌, ◌≤◌, ◌==◌, List, [], ◌∷◌, ◌++◌, Bool, true, false, Option, Some, None, if◌then◌else◌, refl, sym, ap, ◌∙◌, subst, arith, ⊎_elim, decimal, AllByRecursion, append-nil, pow_pos, pow-add, div-div-eq-div-mul, div-le_self, mod-eq_of_lt, mod-lt, mul-div_cancel, mul_assoc, eqb-true, none-some, some_pair_parts, Family, V4Form, V6Form, Body, V4Body, V6Body, IsNormalBody, hexadecimal, groups_text, offset_text, v6_text, wide_address_text, body_text, Run, Delimiter, is_plain, parts_of, GivesV4, GivesV6, offset_parts, range_parts, wide_parts}, Numerals.{plain_digits}, WordParts.{IsRun, one_run, run_decimal, run_mark, v4_runs}}, specs.Pieces.{Part}}
+use Rattle.fs_text.proofs.Words.{append_assoc, ◌≡◌, ℕ, ◌+◌, ◌-◌, ◌*◌, ◌/◌, ◌%◌, ◌^◌, ◌<◌, ◌≤◌, ◌==◌, List, [], ◌∷◌, ◌++◌, Bool, true, false, Option}
+use Rattle.fs_text.proofs.Words.{Some, None, if◌then◌else◌, refl, sym, ap, ◌∙◌, subst, arith, ⊎_elim, decimal, AllByRecursion, append-nil, pow_pos}
+use Rattle.fs_text.proofs.Words.{pow-add, div-div-eq-div-mul, div-le_self, mod-eq_of_lt, mod-lt, mul-div_cancel, mul_assoc, eqb-true, none-some}
+use Rattle.fs_text.proofs.Words.{some_pair_parts, Family, V4Form, V6Form, Body, V4Body, V6Body, IsNormalBody, hexadecimal, groups_text, offset_text}
+use Rattle.fs_text.proofs.Words.{v6_text, wide_address_text, body_text, Run, Delimiter, is_plain, parts_of, GivesV4, GivesV6, offset_parts}
+use Rattle.fs_text.proofs.Words.{range_parts, wide_parts}
+use Rattle.fs_text.proofs.{Numerals.{plain_digits}, WordParts.{IsRun, one_run, run_decimal, run_mark, v4_runs}}
+use Rattle.fs_text.specs.Pieces.{Part}
 use Rattle.std.specs.{Int.{to_be_bytes, w128}, Net.Addr.{segments_of}}
 use Rattle.fs_base.specs.Bits.{IsBlock, block_below, block_of, cleared}
 use Rattle.fs_nlri.specs.Spelling.{IsRange}
@@ -47,7 +54,8 @@ small_group m = let h : m % 65536 < 65536 = mod-lt m (omega arith) in omega (ari
 range_cut : (len offset : ℕ) → len < 2 ^ 64 → offset < 2 ^ 64 → parts_of (decimal len ++ offset_text offset) ≡ Run (decimal len) ∷ offset_parts offset
 range_cut len offset small low = by (offset == 0)
   where
-    by : (b : Bool) → parts_of (decimal len ++ (if b then [] else 45 ∷ decimal offset)) ≡ Run (decimal len) ∷ (if b then [] else Delimiter 45 ∷ Run (decimal offset) ∷ [])
+    by : (b : Bool) → parts_of (decimal len ++ (if b then [] else 45 ∷ decimal offset))
+        ≡ Run (decimal len) ∷ (if b then [] else Delimiter 45 ∷ Run (decimal offset) ∷ [])
     by true = ap parts_of (append-nil (decimal len)) ∙ one_run (decimal len) (run_decimal len small)
     by false =
         run_mark (decimal len) (decimal offset) 45 (run_decimal len small) refl
@@ -57,7 +65,8 @@ eight_cut : (a b c d e f g h mark : ℕ) (rest : List ℕ) → is_plain mark ≡
     → parts_of (
     groups_text ((a % 65536) ∷ (b % 65536) ∷ (c % 65536) ∷ (d % 65536) ∷ (e % 65536) ∷ (f % 65536) ∷ (g % 65536) ∷ (h % 65536) ∷ []) ++ mark ∷ rest
     )
-    ≡ group_parts (a % 65536) ((b % 65536) ∷ (c % 65536) ∷ (d % 65536) ∷ (e % 65536) ∷ (f % 65536) ∷ (g % 65536) ∷ (h % 65536) ∷ []) (Delimiter mark ∷ parts_of rest)
+    ≡ group_parts (a % 65536) ((b % 65536) ∷ (c % 65536) ∷ (d % 65536) ∷ (e % 65536) ∷ (f % 65536) ∷ (g % 65536) ∷ (h % 65536) ∷ [])
+    (Delimiter mark ∷ parts_of rest)
 eight_cut a b c d e f g h mark rest is =
     groups_cut (a % 65536) ((b % 65536) ∷ (c % 65536) ∷ (d % 65536) ∷ (e % 65536) ∷ (f % 65536) ∷ (g % 65536) ∷ (h % 65536) ∷ []) mark rest
     (small_group a, (small_group b, (small_group c, (small_group d, (small_group e, (small_group f, (small_group g, (small_group h, tt)))))))) is
@@ -76,11 +85,13 @@ v6_runs len offset pattern small low = by (pattern / 2 ^ offset)
 -- a length and an offset, by whether the offset is 0
 pub range_read : (parts : List Part) (r : Option (ℕ × ℕ))
     → ((len : ℕ) → len < 256 → parts ≡ Delimiter 47 ∷ Run (decimal len) ∷ [] → r ≡ Some (len, 0))
-    → ((len offset : ℕ) → len < 256 → offset < 256 → parts ≡ Delimiter 47 ∷ Run (decimal len) ∷ Delimiter 45 ∷ Run (decimal offset) ∷ [] → r ≡ Some (len, offset))
+    → ((len offset : ℕ) → len < 256 → offset < 256 → parts ≡ Delimiter 47 ∷ Run (decimal len) ∷ Delimiter 45 ∷ Run (decimal offset) ∷ []
+    → r ≡ Some (len, offset))
     → (len offset : ℕ) → len < 256 → offset < 256 → parts ≡ range_parts len offset → r ≡ Some (len, offset)
 range_read parts r whole part len offset small low is = by (offset == 0) refl is
   where
-    by : (b : Bool) → (offset == 0) ≡ b → parts ≡ Delimiter 47 ∷ Run (decimal len) ∷ (if b then [] else Delimiter 45 ∷ Run (decimal offset) ∷ []) → r ≡ Some (len, offset)
+    by : (b : Bool) → (offset == 0) ≡ b → parts ≡ Delimiter 47 ∷ Run (decimal len) ∷ (if b then [] else Delimiter 45 ∷ Run (decimal offset) ∷ [])
+        → r ≡ Some (len, offset)
     by true e p = whole len small p ∙ ap (λ (k : ℕ). let made : Option (ℕ × ℕ) = Some (len, k) in made) (sym (eqb-true offset 0 e))
     by false e p = part len offset small low p
 
@@ -147,14 +158,16 @@ pub wide_made : (whole n : ℕ) (range also : ℕ × ℕ) → whole ≡ n → ra
 wide_made whole n range also p q =
     ap (λ (k : ℕ). let made : Option (ℕ × (ℕ × ℕ)) = Some (k, range) in made) p ∙ ap (λ (k : ℕ × ℕ). let made : Option (ℕ × (ℕ × ℕ)) = Some (n, k) in made) q
 
-pub v4_found : (body : Body) (parts : List Part) (result : Option Body) → IsNormalBody V4Form body → parts ≡ parts_of (body_text 1 body) → GivesV4 parts result → result ≡ Some body
+pub v4_found : (body : Body) (parts : List Part) (result : Option Body) → IsNormalBody V4Form body → parts ≡ parts_of (body_text 1 body)
+    → GivesV4 parts result → result ≡ Some body
 v4_found (V4Body family len bits) parts result is p gives =
     let short : len ≤ 32 = is.1 in
     gives len bits short (block_below 32 len bits (block_of 32 len bits short is.2)) is.2 (p ∙ v4_runs len bits (omega (arith, short)))
     ∙ ap (λ (f : Family). let made : Option Body = Some (V4Body f len bits) in made) (sym is.0)
 v4_found body parts result is p gives = absurd is
 
-pub v6_found : (body : Body) (parts : List Part) (result : Option Body) → IsNormalBody V6Form body → parts ≡ parts_of (body_text 1 body) → GivesV6 parts result → result ≡ Some body
+pub v6_found : (body : Body) (parts : List Part) (result : Option Body) → IsNormalBody V6Form body → parts ≡ parts_of (body_text 1 body)
+    → GivesV6 parts result → result ≡ Some body
 v6_found (V6Body len offset pattern) parts result is p gives =
     let high : len ≤ 128 = is.0.0 in
     let low : offset < 128 = range_offset len offset is.0 in

@@ -1,4 +1,5 @@
-use Rattle.fs_text.proofs.Words.{◌≡◌, ℕ, ◌<◌, ◌+◌, suc, List, [], ◌∷◌, ◌++◌, Bool, true, false, if◌then◌else◌, take, drop, length, refl, sym, ap, subst, ◌∙◌, arith, prefix_len, AllByRecursion, Run, Delimiter, with_octet, parts_by, Ends}
+use Rattle.fs_text.proofs.Words.{◌≡◌, ℕ, ◌<◌, ◌+◌, suc, List, [], ◌∷◌, ◌++◌, Bool, true, false, if◌then◌else◌, take, drop, length, refl, sym, ap}
+use Rattle.fs_text.proofs.Words.{subst, ◌∙◌, arith, prefix_len, AllByRecursion, Run, Delimiter, with_octet, parts_by, Ends}
 
 -- A run at the front of a text.
 
@@ -33,7 +34,8 @@ run_onto : (p : ℕ → Bool) (octet : ℕ) (run rest : List ℕ) → AllByRecur
     → with_octet octet (parts_by p (run ++ rest)) ≡ Run (octet ∷ run) ∷ parts_by p rest
 run_onto p octet [] [] all ends = refl
 run_onto p octet [] (x ∷ xs) all e =
-    subst (λ (c : Bool). with_octet octet (if c then with_octet x (parts_by p xs) else Delimiter x ∷ parts_by p xs) ≡ Run (octet ∷ []) ∷ (if c then with_octet x (parts_by p xs) else Delimiter x ∷ parts_by p xs)) (sym e) refl
+    subst (λ (c : Bool). with_octet octet (if c then with_octet x (parts_by p xs) else Delimiter x ∷ parts_by p xs)
+    ≡ Run (octet ∷ []) ∷ (if c then with_octet x (parts_by p xs) else Delimiter x ∷ parts_by p xs)) (sym e) refl
 run_onto p octet (x ∷ run) rest all ends =
     ap (λ (c : Bool). with_octet octet (if c then with_octet x (parts_by p (run ++ rest)) else Delimiter x ∷ parts_by p (run ++ rest))) all.0
     ∙ ap (with_octet octet) (run_onto p x run rest all.1 ends)

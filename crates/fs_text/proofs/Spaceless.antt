@@ -1,5 +1,15 @@
 -- No word of a text has a space, so that a text is cut into its words.
-use Rattle.fs_text.proofs.{Words.{◌≡◌, ℕ, ◌/◌, ◌%◌, ◌^◌, ◌<◌, ◌≤◌, ◌==◌, List, [], ◌∷◌, ◌++◌, Bool, true, false, Option, ◌||◌, drop, refl, sym, ap, subst, ◌∙◌, arith, decimal, flat_map, slice_index, AllByRecursion, join_with_byte, option_map_or, All-from_recursion, slice_split_at, slice_split_none, eqb-true, mod-lt, big_number, encode_lower, Family, V4, V6, IsOctets, big_below, each_append, octets_at, octets_drop, Kind, joins, width_of, form_of, Body, V4Body, V6Body, ListBody, Part, ruled, AreNormal, kind_of, Redirect, action_name, action_text, plain_text, target_text, joined_text, joiner, list_text, pair_text, address_text, groups_text, offset_text, wide_address_text, body_text, component_name, list_kind, action_words, component_words, family_word, text_of, then_words, words_of, is_plain, AreActions, words_in, first_normal}, Pairs.{chosen, pair_all, run_all}, Prefixed.{eight_groups, range_offset, run_hexadecimal, small_group}, WordParts.{plain_octets, run_decimal}}
+use Rattle.fs_text.proofs.Words.{◌≡◌, ℕ, ◌/◌, ◌%◌, ◌^◌, ◌<◌, ◌≤◌, ◌==◌, List, [], ◌∷◌, ◌++◌, Bool, true, false, Option, ◌||◌, drop, refl, sym, ap}
+use Rattle.fs_text.proofs.Words.{subst, ◌∙◌, arith, decimal, flat_map, slice_index, AllByRecursion, join_with_byte, option_map_or, All-from_recursion}
+use Rattle.fs_text.proofs.Words.{slice_split_at, slice_split_none, eqb-true, mod-lt, big_number, encode_lower, Family, V4, V6, IsOctets, big_below}
+use Rattle.fs_text.proofs.Words.{each_append, octets_at, octets_drop, Kind, joins, width_of, form_of, Body, V4Body, V6Body, ListBody, Part, ruled}
+use Rattle.fs_text.proofs.Words.{AreNormal, kind_of, Redirect, action_name, action_text, plain_text, target_text, joined_text, joiner, list_text}
+use Rattle.fs_text.proofs.Words.{pair_text, address_text, groups_text, offset_text, wide_address_text, body_text, component_name, list_kind}
+use Rattle.fs_text.proofs.Words.{action_words, component_words, family_word, text_of, then_words, words_of, is_plain, AreActions, words_in}
+use Rattle.fs_text.proofs.Words.{first_normal}
+use Rattle.fs_text.proofs.Pairs.{chosen, pair_all, run_all}
+use Rattle.fs_text.proofs.Prefixed.{eight_groups, range_offset, run_hexadecimal, small_group}
+use Rattle.fs_text.proofs.WordParts.{plain_octets, run_decimal}
 use Rattle.fs_ops.specs.OperatorList.{AreNormal as AreNormalPairs}
 use Rattle.fs_nlri.{specs.Sound.{IsSoundBody}, proofs.Sound.{sound_part}}
 
@@ -41,7 +51,8 @@ others_free kind bits pair (next ∷ others) normal =
 list_free : (kind : Kind) (bits : ℕ) (pairs : List (ℕ × ℕ)) → AreNormalPairs bits pairs → Free (list_text kind pairs)
 list_free kind bits [] normal = tt
 list_free kind bits (pair ∷ others) normal =
-    free_append (pair_text kind pair) (flat_map (joined_text kind) others) (pair_free kind pair (first_normal bits pair others normal).fits) (others_free kind bits pair others normal)
+    free_append (pair_text kind pair) (flat_map (joined_text kind) others) (pair_free kind pair (first_normal bits pair others normal).fits)
+    (others_free kind bits pair others normal)
 
 -- prefixes
 
@@ -92,13 +103,30 @@ body_free kind (ListBody pairs) is = list_free (list_kind kind) _ pairs is.1.nor
 
 name_free : (kind : ℕ) → Free (component_name kind)
 name_free kind =
-    chosen Free (kind == 1) _ _ (refl, (refl, (refl, tt))) (chosen Free (kind == 2) _ _ (refl, (refl, (refl, tt))) (chosen Free (kind == 3) _ _ (refl, (refl, (refl, (refl, (refl, tt))))) (chosen Free (kind == 4) _ _ (refl, (refl, (refl, (refl, tt)))) (chosen Free (kind == 5) _ _ (refl, (refl, (refl, (refl, (refl, tt))))) (chosen Free (kind == 6) _ _ (refl, (refl, (refl, (refl, (refl, tt))))) (chosen Free (kind == 7) _ _ (refl, (refl, (refl, (refl, (refl, tt))))) (chosen Free (kind == 8) _ _ (refl, (refl, (refl, (refl, (refl, tt))))) (chosen Free (kind == 9) _ _ (refl, (refl, (refl, tt))) (chosen Free (kind == 10) _ _ (refl, (refl, (refl, tt))) (chosen Free (kind == 11) _ _ (refl, (refl, (refl, (refl, tt)))) (chosen Free (kind == 12) _ _ (refl, (refl, (refl, (refl, tt)))) (refl, (refl, (refl, (refl, (refl, tt))))))))))))))))
+    chosen Free (kind == 1) _ _ (refl, (refl, (refl, tt)))
+    (chosen Free (kind == 2) _ _ (refl, (refl, (refl, tt)))
+    (chosen Free (kind == 3) _ _ (refl, (refl, (refl, (refl, (refl, tt)))))
+    (chosen Free (kind == 4) _ _ (refl, (refl, (refl, (refl, tt))))
+    (chosen Free (kind == 5) _ _ (refl, (refl, (refl, (refl, (refl, tt)))))
+    (chosen Free (kind == 6) _ _ (refl, (refl, (refl, (refl, (refl, tt)))))
+    (chosen Free (kind == 7) _ _ (refl, (refl, (refl, (refl, (refl, tt)))))
+    (chosen Free (kind == 8) _ _ (refl, (refl, (refl, (refl, (refl, tt)))))
+    (chosen Free (kind == 9) _ _ (refl, (refl, (refl, tt)))
+    (chosen Free (kind == 10) _ _ (refl, (refl, (refl, tt)))
+    (chosen Free (kind == 11) _ _ (refl, (refl, (refl, (refl, tt))))
+    (chosen Free (kind == 12) _ _ (refl, (refl, (refl, (refl, tt)))) (refl, (refl, (refl, (refl, (refl, tt))))))))))))))))
 
 -- actions
 
 action_name_free : (action : List ℕ) → Free (action_name action)
 action_name_free action =
-    chosen Free (kind_of action == 0x8006) _ _ (refl, (refl, (refl, (refl, (refl, tt))))) (chosen Free (kind_of action == 0x800c) _ _ (refl, (refl, (refl, (refl, (refl, (refl, (refl, tt))))))) (chosen Free (kind_of action == 0x8007) _ _ (refl, (refl, (refl, (refl, (refl, (refl, (refl, tt))))))) (chosen Free (kind_of action == 0x8009) _ _ (refl, (refl, (refl, (refl, tt)))) (refl, (refl, (refl, (refl, (refl, (refl, (refl, (refl, tt)))))))))))
+    chosen Free (kind_of action == 0x8006) _ _ (refl, (refl, (refl, (refl, (refl, tt)))))
+    (chosen Free (kind_of action == 0x800c) _ _ (refl, (refl, (refl, (refl, (refl, (refl, (refl, tt)))))))
+    (chosen Free (kind_of action == 0x8007) _ _ (refl, (refl, (refl, (refl, (refl, (refl, (refl, tt)))))))
+    (chosen Free (kind_of action == 0x8009) _ _ (refl, (refl, (refl, (refl, tt)))) (
+      refl,
+      (refl, (refl, (refl, (refl, (refl, (refl, (refl, tt))))))),
+    ))))
 
 two_free : (a b : List ℕ) → Free a → Free b → Free (a ++ 58 ∷ b)
 two_free a b p q = free_append a (58 ∷ b) p (refl, q)
@@ -108,9 +136,18 @@ TargetFree action target = Free (option_map_or target_text target (plain_text ac
 
 action_free : (action : List ℕ) → IsOctets action → Free (action_text action)
 action_free action octets =
-    chosen (TargetFree action) (kind_of action == 0x8008) _ _ (refl, (refl, (refl, (refl, two_free _ _ (decimal_free _ (omega (arith, low2))) (decimal_free _ (omega (arith, high4)))))))
-    (chosen (TargetFree action) (kind_of action == 0x8108) _ _ (refl, (refl, (refl, (refl, two_free _ _ (address_free _) (decimal_free _ (omega (arith, low6)))))))
-    (chosen (TargetFree action) (kind_of action == 0x8208) _ _ (refl, (refl, (refl, (refl, two_free _ _ (decimal_free _ (omega (arith, high2))) (decimal_free _ (omega (arith, low6)))))))
+    chosen (TargetFree action) (kind_of action == 0x8008) _ _ (
+      refl,
+      (refl, (refl, (refl, two_free _ _ (decimal_free _ (omega (arith, low2))) (decimal_free _ (omega (arith, high4)))))),
+    )
+    (chosen (TargetFree action) (kind_of action == 0x8108) _ _ (
+      refl,
+      (refl, (refl, (refl, two_free _ _ (address_free _) (decimal_free _ (omega (arith, low6)))))),
+    )
+    (chosen (TargetFree action) (kind_of action == 0x8208) _ _ (
+      refl,
+      (refl, (refl, (refl, two_free _ _ (decimal_free _ (omega (arith, high2))) (decimal_free _ (omega (arith, low6)))))),
+    )
     (chosen Free ((kind_of action == 0x8006) || (kind_of action == 0x800c)) _ _
     (two_free _ _ (decimal_free _ (omega (arith, low2))) (run_free (encode_lower (drop 4 action)) (plain_octets (drop 4 action) (octets_drop 4 action octets))))
     (decimal_free (slice_index action 7) (omega (arith, last))))))
@@ -134,8 +171,13 @@ action_free action octets =
 
 components_free : (family : Family) (last : ℕ) (parts : List Part) → AreNormal family last parts → AllByRecursion Free (component_words parts)
 components_free family last [] normal = tt
-components_free family last (part ∷ parts) normal =
-    (name_free part.kind, (body_free part.kind part.body (sound_part (form_of family part.kind) part.body normal.1), components_free family part.kind parts normal.2))
+components_free family last (part ∷ parts) normal = (
+  name_free part.kind,
+  (
+    body_free part.kind part.body (sound_part (form_of family part.kind) part.body normal.1),
+    components_free family part.kind parts normal.2,
+  ),
+)
 
 actions_free : (actions : List (List ℕ)) → AllByRecursion IsOctets actions → AllByRecursion Free (action_words actions)
 actions_free [] all = tt

@@ -1,5 +1,7 @@
 -- Which actions can stand behind others.
-use Rattle.fs_text.proofs.{Words.{◌≡◌, inr, ℕ, ◌+◌, List, ◌∷◌, Option, Some, None, refl, sym, ap, subst, ◌∙◌, IfNone, IfSome, last_or, action_text, IsNamed, Reads, CanStand, FitsAbove, IsActionFault, IsGreatest, ReadsAbove, StandsBehind, Bad}, Greatest.{above_too}, Led.{head_is}}
+use Rattle.fs_text.proofs.Words.{◌≡◌, inr, ℕ, ◌+◌, List, ◌∷◌, Option, Some, None, refl, sym, ap, subst, ◌∙◌, IfNone, IfSome, last_or, action_text}
+use Rattle.fs_text.proofs.Words.{IsNamed, Reads, CanStand, FitsAbove, IsActionFault, IsGreatest, ReadsAbove, StandsBehind, Bad}
+use Rattle.fs_text.proofs.{Greatest.{above_too}, Led.{head_is}}
 
 pub none_stands : (actions : List (List ℕ)) (name greatest : List ℕ) → IsGreatest name greatest → (StandsBehind actions greatest → ⊥)
     → (action : List ℕ) → IsNamed name action → StandsBehind actions action → ⊥

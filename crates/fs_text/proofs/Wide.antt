@@ -1,9 +1,14 @@
 -- Octets in hexadecimal are read back.
-use Rattle.fs_text.proofs.{Words.{◌≡◌, ℕ, ◌*◌, ◌%◌, ◌^◌, ◌<◌, ◌≤◌, ◌++◌, zero, suc, List, Option, Some, Result, Ok, Err, length, take, refl, sym, ap, subst, ◌∙◌, arith, MatchResult, eqb-true, big_bytes, big_number, big_from-take, big_number-reads_back, length-bytes_high_first, decode_sized, FromHexError, decode_sized-encode_lower, length-encode_with, lower_digits, big_octets, octets_at, octets_text, code_at}, Made.{below}}
+use Rattle.fs_text.proofs.Words.{◌≡◌, ℕ, ◌*◌, ◌%◌, ◌^◌, ◌<◌, ◌≤◌, ◌++◌, zero, suc, List, Option, Some, Result, Ok, Err, length, take, refl, sym, ap}
+use Rattle.fs_text.proofs.Words.{subst, ◌∙◌, arith, MatchResult, eqb-true, big_bytes, big_number, big_from-take, big_number-reads_back}
+use Rattle.fs_text.proofs.Words.{length-bytes_high_first, decode_sized, FromHexError, decode_sized-encode_lower, length-encode_with, lower_digits}
+use Rattle.fs_text.proofs.Words.{big_octets, octets_at, octets_text, code_at}
+use Rattle.fs_text.proofs.Made.{below}
 use Rattle.std.specs.Prelude.{◌==◌}
 
 pub octets_decoded : (width n : ℕ) → decode_sized (octets_text width n) width ≡ Ok (big_bytes width n)
-octets_decoded width n = decode_sized-encode_lower (big_bytes width n) width (length-bytes_high_first width n) (octets_at (big_bytes width n) (big_octets width n))
+octets_decoded width n = decode_sized-encode_lower (big_bytes width n) width (length-bytes_high_first width n)
+    (octets_at (big_bytes width n) (big_octets width n))
 
 pub octets_told : (digits new : List ℕ) (len width n : ℕ) (r : Result (Unit {0}) FromHexError) → len ≡ width
     → MatchResult (decode_sized digits len) (λ bytes. (r ≡ Ok tt) × (new ≡ bytes)) (λ e. r ≡ Err e)

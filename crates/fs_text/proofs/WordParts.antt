@@ -1,5 +1,10 @@
 -- The parts of the words of actions.
-use Rattle.fs_text.{proofs.{Words.{append_assoc, ◌≡◌, ℕ, ◌<◌, ◌/◌, ◌%◌, ◌^◌, List, [], ◌∷◌, ◌++◌, Bool, true, false, length, refl, sym, ap, ◌∙◌, arith, if◌then◌else◌, append-nil, All-from_recursion, mod-lt, AllByRecursion, codes, decimal, slice_index, encode_lower, encode_with, lower_digits, IsOctets, octets_head, octets_tail, Run, Delimiter, is_plain, parts_of, with_octet, ip4_parts, address_parts, v4_parts, address_text, v4_text}, Runs.{run_first}, Numerals.{plain_digits}}, specs.Pieces.{Part}}
+use Rattle.fs_text.proofs.Words.{append_assoc, ◌≡◌, ℕ, ◌<◌, ◌/◌, ◌%◌, ◌^◌, List, [], ◌∷◌, ◌++◌, Bool, true, false, length, refl, sym, ap, ◌∙◌, arith}
+use Rattle.fs_text.proofs.Words.{if◌then◌else◌, append-nil, All-from_recursion, mod-lt, AllByRecursion, codes, decimal, slice_index, encode_lower}
+use Rattle.fs_text.proofs.Words.{encode_with, lower_digits, IsOctets, octets_head, octets_tail, Run, Delimiter, is_plain, parts_of, with_octet}
+use Rattle.fs_text.proofs.Words.{ip4_parts, address_parts, v4_parts, address_text, v4_text}
+use Rattle.fs_text.proofs.{Runs.{run_first}, Numerals.{plain_digits}}
+use Rattle.fs_text.specs.Pieces.{Part}
 
 abbrev pub IsRun : List ℕ → Type 0
 IsRun run = (0 < length run) × AllByRecursion (λ o. is_plain o ≡ true) run
@@ -39,7 +44,8 @@ small_octet : (n k : ℕ) → n / k % 256 < 2 ^ 64
 small_octet n k = let h : n / k % 256 < 256 = mod-lt (n / k) (omega arith) in omega arith
 
 dotted : (a b c d n : List ℕ) (mark : ℕ) → is_plain mark ≡ false → IsRun a → IsRun b → IsRun c → IsRun d → IsRun n
-    → parts_of ((a ++ 46 ∷ (b ++ 46 ∷ (c ++ 46 ∷ d))) ++ mark ∷ n) ≡ Run a ∷ Delimiter 46 ∷ Run b ∷ Delimiter 46 ∷ Run c ∷ Delimiter 46 ∷ Run d ∷ Delimiter mark ∷ Run n ∷ []
+    → parts_of ((a ++ 46 ∷ (b ++ 46 ∷ (c ++ 46 ∷ d))) ++ mark ∷ n) ≡ Run a ∷ Delimiter 46 ∷ Run b ∷ Delimiter 46 ∷ Run c ∷ Delimiter 46 ∷ Run d
+    ∷ Delimiter mark ∷ Run n ∷ []
 dotted a b c d n mark is p q r s t =
     let third : (c ++ 46 ∷ d) ++ mark ∷ n ≡ c ++ 46 ∷ (d ++ mark ∷ n) = append_assoc c (46 ∷ d) (mark ∷ n) in
     let second : (b ++ 46 ∷ (c ++ 46 ∷ d)) ++ mark ∷ n ≡ b ++ 46 ∷ (c ++ 46 ∷ (d ++ mark ∷ n)) =
@@ -56,9 +62,11 @@ dotted a b c d n mark is p q r s t =
 address_runs : (address number mark : ℕ) → is_plain mark ≡ false → number < 2 ^ 64
     → parts_of (address_text address ++ mark ∷ decimal number) ≡ address_parts mark address number
 address_runs address number mark is small =
-    dotted (decimal (address / 16777216 % 256)) (decimal (address / 65536 % 256)) (decimal (address / 256 % 256)) (decimal (address % 256)) (decimal number) mark is
+    dotted (decimal (address / 16777216 % 256)) (decimal (address / 65536 % 256)) (decimal (address / 256 % 256)) (decimal (address % 256))
+    (decimal number) mark is
     (run_decimal (address / 16777216 % 256) (small_octet address 16777216)) (run_decimal (address / 65536 % 256) (small_octet address 65536))
-    (run_decimal (address / 256 % 256) (small_octet address 256)) (run_decimal (address % 256) (let h : address % 256 < 256 = mod-lt address (omega arith) in omega arith)) (run_decimal number small)
+    (run_decimal (address / 256 % 256) (small_octet address 256))
+    (run_decimal (address % 256) (let h : address % 256 < 256 = mod-lt address (omega arith) in omega arith)) (run_decimal number small)
 
 pub ip4_runs : (address number : ℕ) → number < 2 ^ 64 → parts_of (address_text address ++ (codes ":" ++ decimal number)) ≡ ip4_parts address number
 ip4_runs address number small = address_runs address number 58 refl small

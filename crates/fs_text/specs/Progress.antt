@@ -52,7 +52,8 @@ pub record Rests (family : Family) (parts : List Part) (actions tail : List (Lis
 
 abbrev pub RestsOf : Family → List Part → List (List ℕ) → Type 0
 RestsOf family parts actions =
-    (tail : List (List ℕ)) (f : Family) (ps : List Part) (said : List (List ℕ)) → AreNormal f 0 ps → AreActions said → ahead family parts actions ++ tail ≡ words_of (ruled f ps) said
+    (tail : List (List ℕ)) (f : Family) (ps : List Part) (said : List (List ℕ)) → AreNormal f 0 ps → AreActions said
+    → ahead family parts actions ++ tail ≡ words_of (ruled f ps) said
     → Rests family parts actions tail f ps said
 
 pub record Acts (words : List (List ℕ)) (family : Family) (parts : List Part) (actions : List (List ℕ)) (place : ℕ) : Type 0 where

@@ -1,5 +1,6 @@
 -- A name and a value behind what was read: of components by rising types, of actions by rising octets.
-use Rattle.std.specs.{Prelude.{◌≡◌, ◌<◌, ◌+◌, ◌⊎◌, ℕ, List, [], ◌∷◌, Option, Some, None, drop, codes}, List.{last_or}, Cmp.Lexicographic.{slice_cmp}, Ordering.{nat_cmp}, declared.cmp.Ordering.TheVariants.{Greater}}
+use Rattle.std.specs.Prelude.{◌≡◌, ◌<◌, ◌+◌, ◌⊎◌, ℕ, List, [], ◌∷◌, Option, Some, None, drop, codes}
+use Rattle.std.specs.{List.{last_or}, Cmp.Lexicographic.{slice_cmp}, Ordering.{nat_cmp}, declared.cmp.Ordering.TheVariants.{Greater}}
 use Rattle.fs_base.specs.{declared.prefix.Family.{Family}, Language.{IsOctets}}
 use Rattle.fs_nlri.specs.{Forms.{form_of}, Parts.{Part}, Rule.{IsNormalAt}}
 use Rattle.fs_actions.specs.{Community.{IsAction}, Actions.{IsAbove}}

@@ -6,7 +6,8 @@ ghost use Rattle.hex.specs.Hex.{encode_lower};
 ghost use Rattle.fs_base.specs.Language.{IsOctets};
 ghost use Rattle.fs_actions.specs.Community.{IsAction};
 ghost use Rattle.fs_words.specs.Actions.{action_name, action_text};
-ghost use Rattle.fs_text.specs.{ActionParts.{Gives, GivesPlain, form_parts, ip4_parts, long_octets, pair_parts, plain_parts, rate_parts, short_octets}, ActionWord.{Compared, IsNamed}, Pieces.{Delimiter, Part, Run, parts_of}, Reading.{Reads}, Parts.{as_part}};
+ghost use Rattle.fs_text.specs.ActionParts.{Gives, GivesPlain, form_parts, ip4_parts, long_octets, pair_parts, plain_parts, rate_parts, short_octets};
+ghost use Rattle.fs_text.specs.{ActionWord.{Compared, IsNamed}, Pieces.{Delimiter, Part, Run, parts_of}, Reading.{Reads}, Parts.{as_part}};
 
 use crate::figures::{loose_decimal, loose_figure};
 use crate::parts::{Piece, parts_of};

@@ -1,6 +1,7 @@
 //! The words of lists of operators and values, read loosely (RFC 8955 section 4.2.1).
 
-ghost use Rattle.std.specs.{Prelude.{◌≡◌, ◌<◌, ◌≤◌, ◌^◌, ◌++◌, ◌==◌, true, if◌then◌else◌, ℕ, List, codes, decimal, length, Some, IfOk, IfSome}, List.{prefix_len, AllByRecursion}, Option.{option_map}};
+ghost use Rattle.std.specs.Prelude.{◌≡◌, ◌<◌, ◌≤◌, ◌^◌, ◌++◌, ◌==◌, true, if◌then◌else◌, ℕ, List, codes, decimal, length, Some, IfOk, IfSome};
+ghost use Rattle.std.specs.{List.{prefix_len, AllByRecursion}, Option.{option_map}};
 ghost use Rattle.fs_ops.specs.{Operator.{width_code, width_of}, OperatorList.{IsNormal}, declared.kind.Kind.TheVariants.{Numeric, Bitmask}};
 ghost use Rattle.fs_words.specs.{Figures.{octets_text}, Operators.{list_text, mask_sign, number_sign, operand_text, pair_text, sign, width_text, width_word}};
 ghost use Rattle.fs_text.specs.{ListWord.{code_at, is_sign, is_within, plain_of, relation_of}, Pieces.{Ends, is_plain}};

@@ -4,7 +4,9 @@ ghost use Rattle.std.specs.{Prelude.{◌≡◌, ◌-◌, ◌/◌, ◌%◌, ◌<�
 ghost use Rattle.fs_base.specs.{Bits.{cleared}, declared.prefix.Family.TheVariants.{V4 as Four}};
 ghost use Rattle.fs_nlri.specs.{Component.{body_of}, Forms.{prefix_form}, Parts.{Body, V4Body, V6Body}, Rule.{IsNormalBody}, Spelling.{IsRange}};
 ghost use Rattle.fs_words.specs.{Figures.{hexadecimal}, Values.{body_text}};
-ghost use Rattle.fs_text.specs.{Pieces.{Delimiter, Part, Run, parts_of}, PrefixParts.{GivesV4, GivesV6, address_parts, half_parts, range_parts, wide_parts}, Parts.{as_part}};
+ghost use Rattle.fs_text.specs.Pieces.{Delimiter, Part, Run, parts_of};
+ghost use Rattle.fs_text.specs.PrefixParts.{GivesV4, GivesV6, address_parts, half_parts, range_parts, wide_parts};
+ghost use Rattle.fs_text.specs.Parts.{as_part};
 
 use crate::figures::{loose_address, loose_decimal, loose_group, loose_octet};
 use crate::parts::Piece;

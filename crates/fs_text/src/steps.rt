@@ -2,7 +2,9 @@
 
 ghost use Rattle.std.specs.Prelude.{◌≡◌, ◌<◌, ◌≤◌, ◌+◌, ◌∷◌, [], ℕ, List, codes, drop, false, length, map, true, Some, IfErr, IfNone, IfOk, IfSome};
 ghost use Rattle.fs_nlri.specs.{Component.{part_of}, Parts.{Part}};
-ghost use Rattle.fs_text.specs.{ActionWord.{IsNamed}, Components.{IsPart}, Steps.{CanStand, GoesOn, HasGreatest, IsActionFault, IsEnd, IsNextAction, IsNextPart, IsNoEnd, IsPartFault, ReadsAbove, StandsBehind}};
+ghost use Rattle.fs_text.specs.{ActionWord.{IsNamed}, Components.{IsPart}};
+ghost use Rattle.fs_text.specs.Steps.{CanStand, GoesOn, HasGreatest, IsActionFault, IsEnd, IsNextAction, IsNextPart, IsNoEnd, IsPartFault};
+ghost use Rattle.fs_text.specs.Steps.{ReadsAbove, StandsBehind};
 
 use crate::actions::read_action;
 use crate::fault::TextFault;

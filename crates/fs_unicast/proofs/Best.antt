@@ -1,10 +1,17 @@
 -- The best of some routes is one of them, and none of them is preferred to it.
-use Rattle.std.proofs.{Common.{MatchOption}, lemmas.{Cmp.{back_total}, List.Elements.{Contains-push, Contains-append_left, Contains-append_right, Contains-append_cases}}}
-use Rattle.fs_unicast.{proofs.Words.{ℕ, ◌≡◌, refl, sym, ap, ◌∙◌, cond, ◌⊎◌, inl, inr, Bool, true, false, true≢false, List, [], ◌∷◌, Option, Some, None, fold, Ordering, Less, Equal, Greater, is_lt, Contains, ordering_reverse, IsTotalOrder, alike_right, tied_itself, on_total, then_total, nat_cmp_total, bool_cmp_total, Path, less_of_is_lt, path_length, preference_cmp, preferred, better, best_of}, specs.Laws.{IsMostPreferred, IsBest}}
+use Rattle.std.proofs.Common.{MatchOption}
+use Rattle.std.proofs.lemmas.{Cmp.{back_total}, List.Elements.{Contains-push, Contains-append_left, Contains-append_right, Contains-append_cases}}
+use Rattle.fs_unicast.proofs.Words.{ℕ, ◌≡◌, refl, sym, ap, ◌∙◌, cond, ◌⊎◌, inl, inr, Bool, true, false, true≢false, List, [], ◌∷◌, Option, Some, None}
+use Rattle.fs_unicast.proofs.Words.{fold, Ordering, Less, Equal, Greater, is_lt, Contains, ordering_reverse, IsTotalOrder, alike_right, tied_itself}
+use Rattle.fs_unicast.proofs.Words.{on_total, then_total, nat_cmp_total, bool_cmp_total, Path, less_of_is_lt, path_length, preference_cmp, preferred}
+use Rattle.fs_unicast.proofs.Words.{better, best_of}
+use Rattle.fs_unicast.specs.Laws.{IsMostPreferred, IsBest}
 
 pub preference_total : IsTotalOrder preference_cmp
-preference_total = then_total (back_total (on_total (λ (r : ℕ × Path). r.1.local_pref) nat_cmp_total)) (then_total (on_total (λ (r : ℕ × Path). path_length r.1.segments) nat_cmp_total)
-    (then_total (on_total (λ (r : ℕ × Path). r.1.origin) nat_cmp_total) (then_total (back_total (on_total (λ (r : ℕ × Path). r.1.external) bool_cmp_total)) (on_total (λ (r : ℕ × Path). r.0) nat_cmp_total))))
+preference_total = then_total (back_total (on_total (λ (r : ℕ × Path). r.1.local_pref) nat_cmp_total))
+    (then_total (on_total (λ (r : ℕ × Path). path_length r.1.segments) nat_cmp_total)
+    (then_total (on_total (λ (r : ℕ × Path). r.1.origin) nat_cmp_total)
+    (then_total (back_total (on_total (λ (r : ℕ × Path). r.1.external) bool_cmp_total)) (on_total (λ (r : ℕ × Path). r.0) nat_cmp_total))))
 
 not_itself : (r : ℕ × Path) → preferred r r ≡ false
 not_itself r = ap is_lt (tied_itself preference_total r)
@@ -26,7 +33,8 @@ before_both : (r s b : ℕ × Path) → preferred r s ≡ true → preferred r b
 before_both r s b h k = at (preferred s b) refl where
   at : (b' : Bool) → preferred s b ≡ b' → preferred s b ≡ false
   at false e = e
-  at true e = absurd (true≢false (sym (ap is_lt (preference_total.trans r s b (less_of_is_lt (preference_cmp r s) h) (less_of_is_lt (preference_cmp s b) e))) ∙ k))
+  at true e = absurd (true≢false
+      (sym (ap is_lt (preference_total.trans r s b (less_of_is_lt (preference_cmp r s) h) (less_of_is_lt (preference_cmp s b) e))) ∙ k))
 
 -- of s and some more routes
 abbrev IsFound : ℕ × Path → List (ℕ × Path) → Option (ℕ × Path) → Type 0
@@ -52,7 +60,8 @@ found_without s r rs (Some b) h f = record {
 found_from : (rs : List (ℕ × Path)) (s : ℕ × Path) → IsFound s rs (fold better (Some s) rs)
 found_from [] s = record { there = Contains-push [] s; none_before = (not_itself s, tt) }
 found_from (r ∷ rs) s = at (preferred r s) refl (found_from rs r) (found_from rs s) where
-  at : (b : Bool) → preferred r s ≡ b → IsFound r rs (fold better (Some r) rs) → IsFound s rs (fold better (Some s) rs) → IsFound s (r ∷ rs) (fold better (cond b (Some r) (Some s)) rs)
+  at : (b : Bool) → preferred r s ≡ b → IsFound r rs (fold better (Some r) rs) → IsFound s rs (fold better (Some s) rs)
+      → IsFound s (r ∷ rs) (fold better (cond b (Some r) (Some s)) rs)
   at true e f g = found_with s r rs (fold better (Some r) rs) e f
   at false e f g = found_without s r rs (fold better (Some s) rs) e g
 

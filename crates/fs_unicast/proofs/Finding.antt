@@ -1,9 +1,13 @@
-use Rattle.fs_unicast.proofs.Words.{◌≡◌, refl, sym, ap, subst, ◌∙◌, Bool, true, false, true≢false, cond, ◌&&◌, List, [], ◌∷◌, ◌++◌, map, filter, find, option_map, slice_get, Option, Some, None, Ordering, Less, MatchOption, AllByRecursion, list_any, last_or, IsStrictlySortedBy, sorted_head, sorted_tail, same_Some, and_both, and_first, each, each_weaker, each_of_map, none_each, find_last, later}
+use Rattle.fs_unicast.proofs.Words.{◌≡◌, refl, sym, ap, subst, ◌∙◌, Bool, true, false, true≢false, cond, ◌&&◌, List, [], ◌∷◌, ◌++◌, map, filter, find}
+use Rattle.fs_unicast.proofs.Words.{option_map, slice_get, Option, Some, None, Ordering, Less, MatchOption, AllByRecursion, list_any, last_or}
+use Rattle.fs_unicast.proofs.Words.{IsStrictlySortedBy, sorted_head, sorted_tail, same_Some, and_both, and_first, each, each_weaker, each_of_map}
+use Rattle.fs_unicast.proofs.Words.{none_each, find_last, later}
 
 -- The first and the last element of a list that pass a test.
 
 -- what an iterator's next call shows is the head of what is left
-pub shows_first : {A X : Type 0} (shows : A → X) (s t : List X) (r : Option A) → MatchOption r ((s ≡ []) × (t ≡ [])) (λ x. s ≡ shows x ∷ t) → option_map shows r ≡ slice_get s 0
+pub shows_first : {A X : Type 0} (shows : A → X) (s t : List X) (r : Option A) → MatchOption r ((s ≡ []) × (t ≡ [])) (λ x. s ≡ shows x ∷ t)
+    → option_map shows r ≡ slice_get s 0
 shows_first shows s t None h = sym (ap (λ xs. slice_get xs 0) h.0)
 shows_first shows s t (Some x) h = sym (ap (λ xs. slice_get xs 0) h)
 
@@ -12,7 +16,8 @@ last_appended o x [] = refl
 last_appended o x (y ∷ ys) = last_appended (Some y) x ys
 
 -- what its last call shows is the end of it
-pub shows_last : {A X : Type 0} (shows : A → X) (s t : List X) (r : Option A) → MatchOption r ((s ≡ []) × (t ≡ [])) (λ x. s ≡ t ++ shows x ∷ []) → option_map shows r ≡ last_or None s
+pub shows_last : {A X : Type 0} (shows : A → X) (s t : List X) (r : Option A) → MatchOption r ((s ≡ []) × (t ≡ [])) (λ x. s ≡ t ++ shows x ∷ [])
+    → option_map shows r ≡ last_or None s
 shows_last shows s t None h = sym (ap (last_or None) h.0)
 shows_last shows s t (Some x) h = sym (ap (last_or None) h ∙ last_appended None (shows x) t)
 
@@ -56,7 +61,8 @@ found_passes test xs x h = found_both test (λ y. test y ≡ true) xs x h (each 
 pub none_found : {X : Type 0} (test : X → Bool) (xs : List X) → find test xs ≡ None → AllByRecursion (λ x. test x ≡ false) xs
 none_found test [] h = tt
 none_found test (y ∷ ys) h = at (test y) refl (none_found test ys) h where
-  at : (b : Bool) → test y ≡ b → (find test ys ≡ None → AllByRecursion (λ x. test x ≡ false) ys) → cond b (Some y) (find test ys) ≡ None → (test y ≡ false) × AllByRecursion (λ x. test x ≡ false) ys
+  at : (b : Bool) → test y ≡ b → (find test ys ≡ None → AllByRecursion (λ x. test x ≡ false) ys) → cond b (Some y) (find test ys) ≡ None
+      → (test y ≡ false) × AllByRecursion (λ x. test x ≡ false) ys
   at true e ih k = cc
   at false e ih k = (e, ih k)
 
@@ -68,17 +74,20 @@ find_none test (y ∷ ys) h = at (test y) h.0 (find_none test ys h.1) where
   at false e ih = ih
 
 -- the first that passes, where it passes a narrower test too
-pub find_narrower : {X : Type 0} (test narrow : X → Bool) → ((x : X) → narrow x ≡ true → test x ≡ true) → (xs : List X) (x : X) → find test xs ≡ Some x → narrow x ≡ true → find narrow xs ≡ Some x
+pub find_narrower : {X : Type 0} (test narrow : X → Bool) → ((x : X) → narrow x ≡ true → test x ≡ true) → (xs : List X) (x : X)
+    → find test xs ≡ Some x → narrow x ≡ true → find narrow xs ≡ Some x
 find_narrower test narrow f [] x h k = cc
 find_narrower {X} test narrow f (y ∷ ys) x h k = at (test y) (narrow y) (f y) refl (λ l. find_narrower test narrow f ys x l k) h where
-  at : (b c : Bool) → (c ≡ true → b ≡ true) → narrow y ≡ c → (find test ys ≡ Some x → find narrow ys ≡ Some x) → cond b (Some y) (find test ys) ≡ Some x → cond c (Some y) (find narrow ys) ≡ Some x
+  at : (b c : Bool) → (c ≡ true → b ≡ true) → narrow y ≡ c → (find test ys ≡ Some x → find narrow ys ≡ Some x)
+      → cond b (Some y) (find test ys) ≡ Some x → cond c (Some y) (find narrow ys) ≡ Some x
   at true true g e ih l = l
   at true false g e ih l = absurd (true≢false (sym (ap narrow (same_Some y x l) ∙ k) ∙ e))
   at false true g e ih l = absurd (true≢false (sym (g refl)))
   at false false g e ih l = ih l
 
 pub find_both : {X : Type 0} (test more : X → Bool) (xs : List X) (x : X) → find test xs ≡ Some x → more x ≡ true → find (λ y. test y && more y) xs ≡ Some x
-find_both test more xs x h k = find_narrower test (λ y. test y && more y) (λ y e. and_first (test y) (more y) e) xs x h (and_both (test x) (more x) (found_passes test xs x h) k)
+find_both test more xs x h k =
+    find_narrower test (λ y. test y && more y) (λ y e. and_first (test y) (more y) e) xs x h (and_both (test x) (more x) (found_passes test xs x h) k)
 
 true_from : (b : Bool) → (b ≡ false → ⊥) → b ≡ true
 true_from true h = refl
@@ -92,16 +101,21 @@ module _ {K X : Type 0} (cmp : K → K → Ordering) (key : X → K) where
   pub after_found : (test : X → Bool) (P : X → Type 0) (xs : List X) → IsStrictlySortedBy cmp (map key xs) → (x : X) → find test xs ≡ Some x
       → P x → ((y : X) → cmp (key x) (key y) ≡ Less → P y) → AllByRecursion (λ y. test y ≡ true → P y) xs
   after_found test P [] sorted x h here more = tt
-  after_found test P (y ∷ ys) sorted x h here more = at (test y) refl (λ k. after_found test P ys (sorted_tail cmp (key y) (map key ys) sorted) x k here more) h where
-    at : (b : Bool) → test y ≡ b → (find test ys ≡ Some x → AllByRecursion (λ y. test y ≡ true → P y) ys) → cond b (Some y) (find test ys) ≡ Some x → (test y ≡ true → P y) × AllByRecursion (λ y. test y ≡ true → P y) ys
-    at true e ih k = (
-      (λ _. subst P (sym (same_Some y x k)) here),
-      each_weaker (λ z. cmp (key y) (key z) ≡ Less) (λ z. test z ≡ true → P z) (λ z less _. more z (subst (λ a. cmp (key a) (key z) ≡ Less) (same_Some y x k) less)) ys (each_of_map key (λ k. cmp (key y) k ≡ Less) ys (sorted_head cmp (key y) (map key ys) sorted)),
-    )
-    at false e ih k = ((λ t. absurd (true≢false (sym t ∙ e))), ih k)
+  after_found test P (y ∷ ys) sorted x h here more =
+      at (test y) refl (λ k. after_found test P ys (sorted_tail cmp (key y) (map key ys) sorted) x k here more) h where
+        at : (b : Bool) → test y ≡ b → (find test ys ≡ Some x → AllByRecursion (λ y. test y ≡ true → P y) ys) → cond b (Some y) (find test ys) ≡ Some x
+            → (test y ≡ true → P y) × AllByRecursion (λ y. test y ≡ true → P y) ys
+        at true e ih k = (
+          (λ _. subst P (sym (same_Some y x k)) here),
+          each_weaker (λ z. cmp (key y) (key z) ≡ Less) (λ z. test z ≡ true
+              → P z) (λ z less _. more z (subst (λ a. cmp (key a) (key z) ≡ Less) (same_Some y x k) less)) ys
+              (each_of_map key (λ k. cmp (key y) k ≡ Less) ys (sorted_head cmp (key y) (map key ys) sorted)),
+        )
+        at false e ih k = ((λ t. absurd (true≢false (sym t ∙ e))), ih k)
 
 -- what holds of each that passes holds of the last one that is found
-last_both : {X : Type 0} (test : X → Bool) (P : X → Type 0) (xs : List X) (x : X) → find_last test xs ≡ Some x → AllByRecursion (λ y. test y ≡ true → P y) xs → P x
+last_both : {X : Type 0} (test : X → Bool) (P : X → Type 0) (xs : List X) (x : X) → find_last test xs ≡ Some x
+    → AllByRecursion (λ y. test y ≡ true → P y) xs → P x
 last_both test P [] x h all = cc
 last_both {X} test P (y ∷ ys) x h all = at (find_last test ys) (test y) refl (λ k. last_both test P ys x k all.1) h where
   at : (o : Option X) (b : Bool) → test y ≡ b → (o ≡ Some x → P x) → later o (cond b (Some y) None) ≡ Some x → P x
@@ -118,7 +132,8 @@ last_passes test xs x h = last_both test (λ y. test y ≡ true) xs x h (each (�
 pub no_last : {X : Type 0} (test : X → Bool) (xs : List X) → find_last test xs ≡ None → AllByRecursion (λ x. test x ≡ false) xs
 no_last test [] h = tt
 no_last {X} test (y ∷ ys) h = at (find_last test ys) (test y) refl (no_last test ys) h where
-  at : (o : Option X) (b : Bool) → test y ≡ b → (o ≡ None → AllByRecursion (λ x. test x ≡ false) ys) → later o (cond b (Some y) None) ≡ None → (test y ≡ false) × AllByRecursion (λ x. test x ≡ false) ys
+  at : (o : Option X) (b : Bool) → test y ≡ b → (o ≡ None → AllByRecursion (λ x. test x ≡ false) ys) → later o (cond b (Some y) None) ≡ None
+      → (test y ≡ false) × AllByRecursion (λ x. test x ≡ false) ys
   at (Some z) b e ih k = cc
   at None true e ih k = cc
   at None false e ih k = (e, ih refl)
@@ -128,15 +143,18 @@ module _ {K X : Type 0} (cmp : K → K → Ordering) (key : X → K) where
   pub before_last : (test : X → Bool) (P : X → Type 0) (xs : List X) → IsStrictlySortedBy cmp (map key xs) → (x : X) → find_last test xs ≡ Some x
       → P x → ((y : X) → cmp (key y) (key x) ≡ Less → P y) → AllByRecursion (λ y. test y ≡ true → P y) xs
   before_last test P [] sorted x h here more = tt
-  before_last test P (y ∷ ys) sorted x h here more = at (find_last test ys) refl (test y) refl (λ k. before_last test P ys (sorted_tail cmp (key y) (map key ys) sorted) x k here more) h where
-    first : find_last test ys ≡ Some x → P y
-    first k = more y (last_each test (λ z. cmp (key y) (key z) ≡ Less) ys x k (each_of_map key (λ k. cmp (key y) k ≡ Less) ys (sorted_head cmp (key y) (map key ys) sorted)))
+  before_last test P (y ∷ ys) sorted x h here more =
+      at (find_last test ys) refl (test y) refl (λ k. before_last test P ys (sorted_tail cmp (key y) (map key ys) sorted) x k here more) h where
+        first : find_last test ys ≡ Some x → P y
+        first k = more y (last_each test (λ z. cmp (key y) (key z) ≡ Less) ys x k
+            (each_of_map key (λ k. cmp (key y) k ≡ Less) ys (sorted_head cmp (key y) (map key ys) sorted)))
 
-    none : find_last test ys ≡ None → AllByRecursion (λ y. test y ≡ true → P y) ys
-    none k = each_weaker (λ z. test z ≡ false) (λ z. test z ≡ true → P z) (λ z no yes. absurd (true≢false (sym yes ∙ no))) ys (no_last test ys k)
+        none : find_last test ys ≡ None → AllByRecursion (λ y. test y ≡ true → P y) ys
+        none k = each_weaker (λ z. test z ≡ false) (λ z. test z ≡ true → P z) (λ z no yes. absurd (true≢false (sym yes ∙ no))) ys (no_last test ys k)
 
-    at : (o : Option X) → find_last test ys ≡ o → (b : Bool) → test y ≡ b → (find_last test ys ≡ Some x → AllByRecursion (λ y. test y ≡ true → P y) ys) → later o (cond b (Some y) None) ≡ Some x
-        → (test y ≡ true → P y) × AllByRecursion (λ y. test y ≡ true → P y) ys
-    at (Some z) f b e ih k = ((λ _. first (f ∙ k)), ih (f ∙ k))
-    at None f true e ih k = ((λ _. subst P (sym (same_Some y x k)) here), none f)
-    at None f false e ih k = cc
+        at : (o : Option X) → find_last test ys ≡ o → (b : Bool) → test y ≡ b
+            → (find_last test ys ≡ Some x → AllByRecursion (λ y. test y ≡ true → P y) ys) → later o (cond b (Some y) None) ≡ Some x
+            → (test y ≡ true → P y) × AllByRecursion (λ y. test y ≡ true → P y) ys
+        at (Some z) f b e ih k = ((λ _. first (f ∙ k)), ih (f ∙ k))
+        at None f true e ih k = ((λ _. subst P (sym (same_Some y x k)) here), none f)
+        at None f false e ih k = cc

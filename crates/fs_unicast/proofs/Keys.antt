@@ -1,5 +1,6 @@
 -- The last address of a prefix and its length tell the prefix.
-use Rattle.fs_unicast.proofs.Words.{ℕ, ◌≡◌, ◌+◌, ◌-◌, ◌*◌, ◌^◌, ◌<◌, ◌≤◌, refl, sym, ap, subst, ◌∙◌, min, arith, nat_tests, Prefix, width_of, cleared, prefix_of, last_address, same_prefix, IsKey, family_of, high_of, low_of, bit_of, last_of, least, shown}
+use Rattle.fs_unicast.proofs.Words.{ℕ, ◌≡◌, ◌+◌, ◌-◌, ◌*◌, ◌^◌, ◌<◌, ◌≤◌, refl, sym, ap, subst, ◌∙◌, min, arith, nat_tests, Prefix, width_of, cleared}
+use Rattle.fs_unicast.proofs.Words.{prefix_of, last_address, same_prefix, IsKey, family_of, high_of, low_of, bit_of, last_of, least, shown}
 use Rattle.std.proofs.lemmas.Nat.{pow_pos}
 use Rattle.fs_base.{specs.declared.prefix.Family.{Family, TheVariants.{V4, V6}}, proofs.Blocks.{IsBlock, block_of, block_meeting}}
 
@@ -9,7 +10,8 @@ last_block w n b h = record {
   short = omega arith;
   count = b + 2 ^ (w - n) - 1;
   spelled = sym (one (w - w) (omega arith) (b + 2 ^ (w - n) - 1));
-  within = let some : 0 < 2 ^ (w - n) = pow_pos (w - n) in let e : 2 ^ (w - w) ≡ 1 = ap (λ k. 2 ^ k) (let z : w - w ≡ 0 = omega arith in z) in omega (arith, h.within, e);
+  within = let some : 0 < 2 ^ (w - n) = pow_pos (w - n) in let e : 2 ^ (w - w) ≡ 1 = ap (λ k. 2 ^ k) (let z : w - w ≡ 0 = omega arith in z) in
+      omega (arith, h.within, e);
 } where
   one : (k : ℕ) → k ≡ 0 → (x : ℕ) → x * 2 ^ k ≡ x
   one k z x = ap (λ i. x * 2 ^ i) z ∙ (let e : x * 2 ^ 0 ≡ x = omega arith in e)
@@ -43,7 +45,9 @@ family_again V6 x h = grind (arith, nat_tests)
 
 -- what a key of a prefix shows
 pub shown_again : (p : Prefix) → shown (high_of p.family (last_address p)) (low_of p.family (last_address p)) (bit_of p.family (last_address p)) p.length ≡ p
-shown_again p = ap (λ f. prefix_of f (last_of f (high_of p.family (last_address p)) (low_of p.family (last_address p)) (bit_of p.family (last_address p))) p.length) (family_again p.family (last_address p) (last_within p))
+shown_again p = ap (λ f. prefix_of f
+    (last_of f (high_of p.family (last_address p)) (low_of p.family (last_address p)) (bit_of p.family (last_address p))) p.length)
+    (family_again p.family (last_address p) (last_within p))
     ∙ ap (λ x. prefix_of p.family x p.length) (last_again p.family (last_address p)) ∙ key_again p
 
 pub key_is : (p : Prefix) → IsKey (high_of p.family (last_address p)) (low_of p.family (last_address p)) (bit_of p.family (last_address p)) p.length

@@ -1,5 +1,8 @@
 -- The order of places.
-use Rattle.fs_unicast.proofs.Words.{◌≡◌, ◌⊎◌, inl, inr, refl, sym, ap, ◌∙◌, Bool, true, false, true≢false, not, Ordering, Less, Equal, Greater, is_eq, is_le, is_lt, ordering_reverse, ordering_then, IsTotalOrder, alike_right, tied_itself, on_total, then_total, nat_cmp_total, and_both, and_first, and_second, true_of_not, ap₂, prefix_cmp, prefix_total, equal_of_is_eq, less_of_is_lt, same_from_cmp, Place, place_cmp, lies_between}
+use Rattle.fs_unicast.proofs.Words.{◌≡◌, ◌⊎◌, inl, inr, refl, sym, ap, ◌∙◌, Bool, true, false, true≢false, not, Ordering, Less, Equal, Greater, is_eq}
+use Rattle.fs_unicast.proofs.Words.{is_le, is_lt, ordering_reverse, ordering_then, IsTotalOrder, alike_right, tied_itself, on_total, then_total}
+use Rattle.fs_unicast.proofs.Words.{nat_cmp_total, and_both, and_first, and_second, true_of_not, ap₂, prefix_cmp, prefix_total, equal_of_is_eq}
+use Rattle.fs_unicast.proofs.Words.{less_of_is_lt, same_from_cmp, Place, place_cmp, lies_between}
 use Rattle.std.{specs.Ordering.{nat_cmp}, proofs.lemmas.Map.Lookups.{exact_unsigned}}
 
 pub place_total : IsTotalOrder place_cmp
@@ -82,7 +85,8 @@ pub exact_place : (a b : Place) → is_eq (place_cmp a b) ≡ true → a ≡ b
 exact_place a b h = at (prefix_cmp a.prefix b.prefix) refl h where
   at : (o : Ordering) → prefix_cmp a.prefix b.prefix ≡ o → is_eq (ordering_then o (nat_cmp a.peer b.peer)) ≡ true → a ≡ b
   at Less e k = absurd (true≢false (sym k))
-  at Equal e k = ap₂ (λ p n. record { prefix = p; peer = n }) (same_from_cmp a.prefix b.prefix (ap is_eq e)) (exact_unsigned a.peer b.peer (equal_of_is_eq (nat_cmp a.peer b.peer) k))
+  at Equal e k = ap₂ (λ p n. record { prefix = p; peer = n }) (same_from_cmp a.prefix b.prefix (ap is_eq e))
+      (exact_unsigned a.peer b.peer (equal_of_is_eq (nat_cmp a.peer b.peer) k))
   at Greater e k = absurd (true≢false (sym k))
 
 -- what lies between two places is after the one and not after the other

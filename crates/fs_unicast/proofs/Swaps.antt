@@ -1,7 +1,15 @@
 -- The best route at a prefix, by one peer's route there and those of the other peers.
 use Rattle.fs_base.proofs.Lists.{filter-remove_other}
 use Rattle.std.{specs.Ordering.{bool_cmp}, proofs.lemmas.{Map.{lookup-none, none_passes_from_lookup}, Map.Lookups.{exact_unsigned}}}
-use Rattle.fs_unicast.{specs.{Search.{is_beside, old_route}, Unicast.{IsSwap, IsSwapOf, path_at, take_path, swap_at}, declared.unicast.Swap.{Swap}}, proofs.{Words.{ℕ, ◌≡◌, refl, sym, ap, subst, ◌∙◌, cond, Bool, true, false, true≢false, not, ◌&&◌, ◌==◌, List, [], ◌∷◌, Option, Some, None, fold, filter, map, option_map, Ordering, Less, Equal, Greater, ordering_then, ordering_reverse, is_eq, is_lt, arith, nat_cmp, nat_tests, AllByRecursion, is_at, lookup, keys_of, insert_entry, remove_entry, match_ordering, IsStrictlySortedBy, sorted_head, sorted_tail, each_weaker, each_of_map, filter_filtered, and_first, equal_of_is_eq, less_of_is_lt, range_contains, path_length, IsFront, entries_between, Included, Unbounded, Path, Prefix, Place, Route, place_cmp, prefix_cmp, candidate, is_same_prefix, best_at, better, preferred, preference_cmp}, Best.{preference_total}, PlaceOrder.{place_total, falsified}, Ranges.{place, place_itself, from_same}}}
+use Rattle.fs_unicast.specs.{Search.{is_beside, old_route}, Unicast.{IsSwap, IsSwapOf, path_at, take_path, swap_at}, declared.unicast.Swap.{Swap}}
+use Rattle.fs_unicast.proofs.Words.{ℕ, ◌≡◌, refl, sym, ap, subst, ◌∙◌, cond, Bool, true, false, true≢false, not, ◌&&◌, ◌==◌, List, [], ◌∷◌, Option}
+use Rattle.fs_unicast.proofs.Words.{Some, None, fold, filter, map, option_map, Ordering, Less, Equal, Greater, ordering_then, ordering_reverse, is_eq}
+use Rattle.fs_unicast.proofs.Words.{is_lt, arith, nat_cmp, nat_tests, AllByRecursion, is_at, lookup, keys_of, insert_entry, remove_entry}
+use Rattle.fs_unicast.proofs.Words.{match_ordering, IsStrictlySortedBy, sorted_head, sorted_tail, each_weaker, each_of_map, filter_filtered}
+use Rattle.fs_unicast.proofs.Words.{and_first, equal_of_is_eq, less_of_is_lt, range_contains, path_length, IsFront, entries_between, Included}
+use Rattle.fs_unicast.proofs.Words.{Unbounded, Path, Prefix, Place, Route, place_cmp, prefix_cmp, candidate, is_same_prefix, best_at, better}
+use Rattle.fs_unicast.proofs.Words.{preferred, preference_cmp}
+use Rattle.fs_unicast.proofs.{Best.{preference_total}, PlaceOrder.{place_total, falsified}, Ranges.{place, place_itself, from_same}}
 
 last_equal : (o p : Ordering) → ordering_then o p ≡ Equal → p ≡ Equal
 last_equal Less p h = cc
@@ -24,12 +32,14 @@ unlike a b h e = true≢false (sym (itself a.0 b.0 (exact_unsigned a.0 b.0 same)
   by_length = ordering_then (nat_cmp (path_length a.1.segments) (path_length b.1.segments)) by_origin
 
   same : nat_cmp a.0 b.0 ≡ Equal
-  same = last_equal (bool_cmp b.1.external a.1.external) (nat_cmp a.0 b.0) (last_equal (nat_cmp a.1.origin b.1.origin) by_external (last_equal (nat_cmp (path_length a.1.segments) (path_length b.1.segments)) by_origin
+  same = last_equal (bool_cmp b.1.external a.1.external) (nat_cmp a.0 b.0)
+      (last_equal (nat_cmp a.1.origin b.1.origin) by_external (last_equal (nat_cmp (path_length a.1.segments) (path_length b.1.segments)) by_origin
       (last_equal (nat_cmp b.1.local_pref a.1.local_pref) by_length e)))
 
 -- of what isn't preferred to s nothing is preferred to what is
 through : (a b s : ℕ × Path) → preferred a s ≡ true → preferred b s ≡ false → preferred b a ≡ false
-through a b s h k = falsified (preferred b a) (λ l. sym (ap is_lt (preference_total.trans b a s (less_of_is_lt (preference_cmp b a) l) (less_of_is_lt (preference_cmp a s) h))) ∙ k)
+through a b s h k = falsified (preferred b a)
+    (λ l. sym (ap is_lt (preference_total.trans b a s (less_of_is_lt (preference_cmp b a) l) (less_of_is_lt (preference_cmp a s) h))) ∙ k)
 
 -- two routes of other peers count in any order
 first_two : (a b : ℕ × Path) → (a.0 == b.0) ≡ false → better (Some a) b ≡ better (Some b) a
@@ -65,53 +75,63 @@ module _ (p : Prefix) (peer : ℕ) where
     at Greater = refl
 
   -- behind the peer's route at the prefix there is no other one
-  none_behind : (r : Route) (held : List Route) → IsStrictlySortedBy place_cmp (keys_of (r ∷ held)) → is_eq (place_cmp (place p peer) r.0) ≡ true → path_at peer p held ≡ None
-  none_behind r held sorted h = lookup-none (is_at (place_cmp (place p peer))) held (each_weaker (λ s. place_cmp r.0 s.0 ≡ Less) (λ s. is_eq (place_cmp (place p peer) s.0) ≡ false)
+  none_behind : (r : Route) (held : List Route) → IsStrictlySortedBy place_cmp (keys_of (r ∷ held)) → is_eq (place_cmp (place p peer) r.0) ≡ true
+      → path_at peer p held ≡ None
+  none_behind r held sorted h = lookup-none (is_at (place_cmp (place p peer))) held
+      (each_weaker (λ s. place_cmp r.0 s.0 ≡ Less) (λ s. is_eq (place_cmp (place p peer) s.0) ≡ false)
       (λ s less. ap is_eq (place_total.congr (place p peer) r.0 s.0 (equal_of_is_eq (place_cmp (place p peer) r.0) h) ∙ less)) held
       (each_of_map (λ s. s.0) (λ q. place_cmp r.0 q ≡ Less) held (sorted_head place_cmp r.0 (keys_of held) sorted)))
 
   -- the best of the routes at the prefix and one more, by the peer's path there and the other routes
   best_by_own : (held : List Route) → IsStrictlySortedBy place_cmp (keys_of held) → (best : Option (ℕ × Path))
-      → fold better best (map candidate (filter (λ r. is_same_prefix p r.0.prefix) held)) ≡ fold better (with_own peer (path_at peer p held) best) (map candidate (filter (λ r. is_beside p peer r.0) held))
+      → fold better best (map candidate (filter (λ r. is_same_prefix p r.0.prefix) held))
+      ≡ fold better (with_own peer (path_at peer p held) best) (map candidate (filter (λ r. is_beside p peer r.0) held))
   best_by_own [] sorted best = refl
-  best_by_own (r ∷ held) sorted best = at (is_same_prefix p r.0.prefix) (r.0.peer == peer) refl (is_eq (place_cmp (place p peer) r.0)) refl (at_place r.0) (best_by_own held (sorted_tail place_cmp r.0 (keys_of held) sorted)) where
-    all : List Route
-    all = filter (λ s. is_same_prefix p s.0.prefix) held
+  best_by_own (r ∷ held) sorted best =
+      at (is_same_prefix p r.0.prefix) (r.0.peer == peer) refl (is_eq (place_cmp (place p peer) r.0)) refl (at_place r.0)
+      (best_by_own held (sorted_tail place_cmp r.0 (keys_of held) sorted)) where
+        all : List Route
+        all = filter (λ s. is_same_prefix p s.0.prefix) held
 
-    others : List Route
-    others = filter (λ s. is_beside p peer s.0) held
+        others : List Route
+        others = filter (λ s. is_beside p peer s.0) held
 
-    own : Option Path
-    own = path_at peer p held
+        own : Option Path
+        own = path_at peer p held
 
-    its : (c : Bool) → c ≡ true → (r.0.peer == peer) ≡ c → r.0.peer ≡ peer
-    its c e f = grind (arith, nat_tests)
+        its : (c : Bool) → c ≡ true → (r.0.peer == peer) ≡ c → r.0.peer ≡ peer
+        its c e f = grind (arith, nat_tests)
 
-    join : (o : Option Path) → (r.0.peer == peer) ≡ false → with_own peer o (better best (candidate r)) ≡ better (with_own peer o best) (candidate r)
-    join None f = refl
-    join (Some path) f = swapped best (candidate r) (peer, path) f
+        join : (o : Option Path) → (r.0.peer == peer) ≡ false → with_own peer o (better best (candidate r)) ≡ better (with_own peer o best) (candidate r)
+        join None f = refl
+        join (Some path) f = swapped best (candidate r) (peer, path) f
 
-    at : (b c : Bool) → (r.0.peer == peer) ≡ c → (d : Bool) → is_eq (place_cmp (place p peer) r.0) ≡ d → d ≡ (b && c)
-        → ((best : Option (ℕ × Path)) → fold better best (map candidate all) ≡ fold better (with_own peer own best) (map candidate others))
-        → fold better best (map candidate (cond b (r ∷ all) all)) ≡ fold better (with_own peer (cond d (Some r.1) own) best) (map candidate (cond (b && not c) (r ∷ others) others))
-    at false c f true g h ih = absurd (true≢false h)
-    at false c f false g h ih = ih best
-    at true true f true g h ih = ih (better best (candidate r))
-        ∙ ap (λ o. fold better (with_own peer o (better best (candidate r))) (map candidate others)) (none_behind r held sorted g)
-        ∙ ap (λ n. fold better (better best (n, r.1)) (map candidate others)) (its true refl f)
-    at true true f false g h ih = absurd (true≢false (sym h))
-    at true false f true g h ih = absurd (true≢false h)
-    at true false f false g h ih = ih (better best (candidate r)) ∙ ap (λ o. fold better o (map candidate others)) (join own f)
+        at : (b c : Bool) → (r.0.peer == peer) ≡ c → (d : Bool) → is_eq (place_cmp (place p peer) r.0) ≡ d → d ≡ (b && c)
+            → ((best : Option (ℕ × Path)) → fold better best (map candidate all) ≡ fold better (with_own peer own best) (map candidate others))
+            → fold better best (map candidate (cond b (r ∷ all) all))
+            ≡ fold better (with_own peer (cond d (Some r.1) own) best) (map candidate (cond (b && not c) (r ∷ others) others))
+        at false c f true g h ih = absurd (true≢false h)
+        at false c f false g h ih = ih best
+        at true true f true g h ih = ih (better best (candidate r))
+            ∙ ap (λ o. fold better (with_own peer o (better best (candidate r))) (map candidate others)) (none_behind r held sorted g)
+            ∙ ap (λ n. fold better (better best (n, r.1)) (map candidate others)) (its true refl f)
+        at true true f false g h ih = absurd (true≢false (sym h))
+        at true false f true g h ih = absurd (true≢false h)
+        at true false f false g h ih = ih (better best (candidate r)) ∙ ap (λ o. fold better o (map candidate others)) (join own f)
 
 -- where the first route isn't at the prefix, none is
-pub none_beside : (p : Prefix) (peer : ℕ) (found : List Route) (r : Route) (rest : List Route) → IsFront p found → found ≡ r ∷ rest → is_same_prefix p r.0.prefix ≡ false → filter (λ s. is_beside p peer s.0) found ≡ []
-none_beside p peer found r rest h e k = sym (filter_filtered (λ s. is_beside p peer s.0) at_prefix (λ s. and_first (is_same_prefix p s.0.prefix) (not (s.0.peer == peer))) found)
-    ∙ ap (filter (λ s. is_beside p peer s.0)) (ap (filter at_prefix) e ∙ ap (λ b. cond b (r ∷ filter at_prefix rest) (filter at_prefix rest)) k ∙ (subst (IsFront p) e h).0 k) where
+pub none_beside : (p : Prefix) (peer : ℕ) (found : List Route) (r : Route) (rest : List Route) → IsFront p found → found ≡ r ∷ rest
+    → is_same_prefix p r.0.prefix ≡ false → filter (λ s. is_beside p peer s.0) found ≡ []
+none_beside p peer found r rest h e k =
+    sym (filter_filtered (λ s. is_beside p peer s.0) at_prefix (λ s. and_first (is_same_prefix p s.0.prefix) (not (s.0.peer == peer))) found)
+    ∙ ap (filter (λ s. is_beside p peer s.0)) (ap (filter at_prefix) e ∙ ap (λ b. cond b (r ∷ filter at_prefix rest) (filter at_prefix rest)) k
+    ∙ (subst (IsFront p) e h).0 k) where
       at_prefix : Route → Bool
       at_prefix s = is_same_prefix p s.0.prefix
 
 -- what a swap's route and the other peers' routes are the best of is the best before
-pub best_before : (swap : Swap) (earlier now found : List Route) → IsSwap swap earlier now → found ≡ entries_between place_cmp (Included (place swap.prefix 0)) Unbounded now
+pub best_before : (swap : Swap) (earlier now found : List Route) → IsSwap swap earlier now
+    → found ≡ entries_between place_cmp (Included (place swap.prefix 0)) Unbounded now
     → fold better (old_route swap) (map candidate (filter (λ r. is_beside swap.prefix swap.peer r.0) found)) ≡ best_at earlier swap.prefix
 best_before swap earlier now found h e = ap (λ rs. fold better (old_route swap) (map candidate rs)) beside
     ∙ sym (best_by_own swap.prefix swap.peer earlier h.sorted None ∙ ap (λ o. fold better (with_own swap.peer o None) (map candidate (others earlier))) h.was
@@ -134,8 +154,10 @@ best_before swap earlier now found h e = ap (λ rs. fold better (old_route swap)
       taken held = filter-remove_other (is_beside swap.prefix swap.peer) (is_at (place_cmp (place swap.prefix swap.peer))) apart held
 
       beside : others found ≡ others earlier
-      beside = ap others e ∙ filter_filtered (λ r. is_beside swap.prefix swap.peer r.0) (λ r. range_contains place_cmp (Included (place swap.prefix 0)) Unbounded r.0)
-          (λ r k. from_same (prefix_cmp swap.prefix r.0.prefix) r.0.peer (and_first (is_same_prefix swap.prefix r.0.prefix) (not (r.0.peer == swap.peer)) k)) now
+      beside = ap others e ∙ filter_filtered (λ r. is_beside swap.prefix swap.peer r.0)
+          (λ r. range_contains place_cmp (Included (place swap.prefix 0)) Unbounded r.0)
+          (λ r k. from_same (prefix_cmp swap.prefix r.0.prefix) r.0.peer
+          (and_first (is_same_prefix swap.prefix r.0.prefix) (not (r.0.peer == swap.peer)) k)) now
           ∙ sym (taken now) ∙ ap others (sym h.beside) ∙ taken earlier
 
 -- nothing is taken where nothing is at the place
@@ -162,7 +184,8 @@ take_put z path (r ∷ held) sorted = at (place_cmp z r.0) refl (take_put z path
   at Greater e ih = ap (λ c. cond (is_eq c) (insert_entry place_cmp held z path) (r ∷ take (insert_entry place_cmp held z path))) e ∙ ap (λ rs. r ∷ rs) ih
 
 -- a path comes to a place
-pub swap_put : (z : Place) (path : Path) (old : Option Path) (held made : List Route) → IsStrictlySortedBy place_cmp (keys_of held) → IsStrictlySortedBy place_cmp (keys_of made)
+pub swap_put : (z : Place) (path : Path) (old : Option Path) (held made : List Route) → IsStrictlySortedBy place_cmp (keys_of held)
+    → IsStrictlySortedBy place_cmp (keys_of made)
     → made ≡ insert_entry place_cmp held z path → old ≡ lookup (is_at (place_cmp z)) held → IsSwap (swap_at z old) held made
 swap_put z path old held made sorted ordered e k = record {
   was = sym k;
@@ -173,7 +196,8 @@ swap_put z path old held made sorted ordered e k = record {
 
 -- the path at a place goes
 pub swap_taken : (z : Place) (path : Path) (held left : List Route) → IsStrictlySortedBy place_cmp (keys_of held) → IsStrictlySortedBy place_cmp (keys_of left)
-    → left ≡ remove_entry (is_at (place_cmp z)) held → lookup (is_at (place_cmp z)) left ≡ None → lookup (is_at (place_cmp z)) held ≡ Some path → IsSwap (swap_at z (Some path)) held left
+    → left ≡ remove_entry (is_at (place_cmp z)) held → lookup (is_at (place_cmp z)) left ≡ None → lookup (is_at (place_cmp z)) held ≡ Some path
+    → IsSwap (swap_at z (Some path)) held left
 swap_taken z path held left sorted ordered e none k = record {
   was = k;
   beside = sym e ∙ sym (take_none z left (none_passes_from_lookup (is_at (place_cmp z)) left none));
@@ -182,7 +206,8 @@ swap_taken z path held left sorted ordered e none k = record {
 }
 
 -- a swap at a prefix is one of the peer there
-pub swap_of : (peer : ℕ) (p key : Prefix) (old : Option Path) (earlier now : List Route) → key ≡ p → IsSwap (swap_at (place key peer) old) earlier now → IsSwapOf peer p (swap_at (place p peer) old) earlier now
+pub swap_of : (peer : ℕ) (p key : Prefix) (old : Option Path) (earlier now : List Route) → key ≡ p → IsSwap (swap_at (place key peer) old) earlier now
+    → IsSwapOf peer p (swap_at (place p peer) old) earlier now
 swap_of peer p key old earlier now e h = record {
   of_peer = refl;
   at_prefix = refl;

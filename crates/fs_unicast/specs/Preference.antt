@@ -1,6 +1,7 @@
 -- Which of the routes of one key is preferred (the project's own choice, after RFC 4271 section 9.1). A route of
 -- a key is its peer and its path: unicast routes and flow routes have the same preference.
-use Rattle.std.specs.{Prelude.{ℕ, ◌+◌, ◌==◌, Bool, Option, Some, None, List, [], ◌∷◌, length, if◌then◌else◌, fold}, Ordering.{nat_cmp, bool_cmp, on, then_cmp, flip_args, is_lt}, declared.cmp.Ordering.{Ordering}}
+use Rattle.std.specs.Prelude.{ℕ, ◌+◌, ◌==◌, Bool, Option, Some, None, List, [], ◌∷◌, length, if◌then◌else◌, fold}
+use Rattle.std.specs.{Ordering.{nat_cmp, bool_cmp, on, then_cmp, flip_args, is_lt}, declared.cmp.Ordering.{Ordering}}
 use Rattle.fs_base.specs.declared.path.{Path.{Path}, Segment.{Segment}}
 use Rattle.fs_unicast.specs.declared.preference.Held.{Held}
 

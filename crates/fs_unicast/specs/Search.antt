@@ -1,5 +1,8 @@
 -- The best route at a prefix, the best match of a prefix, and the routes under it, over one list of held routes.
-use Rattle.std.specs.{Prelude.{ℕ, ◌≡◌, Bool, not, ◌&&◌, ◌||◌, ◌==◌, true, false, Option, Some, None, List, [], ◌∷◌, filter, map, nat_le, find, option_map}, List.{AllByRecursion, list_any, list_all}, Ordering.{is_eq, is_le}, declared.ops.Bound.{Bound, TheVariants.{Included, Unbounded}}}
+use Rattle.std.specs.Prelude.{ℕ, ◌≡◌, Bool, not, ◌&&◌, ◌||◌, ◌==◌, true, false, Option, Some, None, List, [], ◌∷◌, filter, map, nat_le, find}
+use Rattle.std.specs.Prelude.{option_map}
+use Rattle.std.specs.{List.{AllByRecursion, list_any, list_all}, Ordering.{is_eq, is_le}}
+use Rattle.std.specs.declared.ops.Bound.{Bound, TheVariants.{Included, Unbounded}}
 use Rattle.fs_base.specs.{Prefix.{covers, prefix_cmp}, declared.{prefix.Prefix.{Prefix}, path.Path.{Path}}}
 use Rattle.fs_unicast.specs.{Neighbour.{neighbour_as}, Unicast.{Route}, Preference.{best_of}, declared.unicast.{Place.{Place}, Swap.{Swap}}}
 

@@ -1,5 +1,8 @@
 -- Turns: places that part the routes of other neighbouring ASes.
-use Rattle.std.specs.{Prelude.{ℕ, ◌≡◌, ◌==◌, Bool, not, ◌&&◌, ◌||◌, true, false, Option, Some, None, List, [], ◌∷◌, if◌then◌else◌}, Borrow.{Bor}, BTreeMap.{is_at}, List.{AllByRecursion, list_any, list_all, Sorted.{IsStrictlySortedBy}}, Map.{keys_of}, Option.{option_eq}, Ordering.{is_eq, is_le, is_lt}, Set.{remove_key}}
+use Rattle.std.specs.Prelude.{ℕ, ◌≡◌, ◌==◌, Bool, not, ◌&&◌, ◌||◌, true, false, Option, Some, None, List, [], ◌∷◌, if◌then◌else◌}
+use Rattle.std.specs.{Borrow.{Bor}, BTreeMap.{is_at}}
+use Rattle.std.specs.List.{AllByRecursion, list_any, list_all, Sorted.{IsStrictlySortedBy}}
+use Rattle.std.specs.{Map.{keys_of}, Option.{option_eq}, Ordering.{is_eq, is_le, is_lt}, Set.{remove_key}}
 use Rattle.fs_base.specs.declared.path.Path.{Path}
 use Rattle.fs_unicast.specs.{declared.unicast.Place.{Place}, Neighbour.{neighbour}, Unicast.{Route, place_cmp}}
 

@@ -1,5 +1,6 @@
 -- Unicast routes, and the order of the places at which they are kept.
-use Rattle.std.specs.{Ordering.{nat_cmp, ordering_then}, declared.cmp.Ordering.{Ordering}, Prelude.{ℕ, ◌≡◌, ◌<◌, ◌^◌, Bool, Option, List, is_some}, BTreeMap.{insert_entry, is_at}, Map.{remove_entry, lookup, keys_of}, List.{AllByRecursion, Sorted.{IsStrictlySortedBy}}}
+use Rattle.std.specs.{Ordering.{nat_cmp, ordering_then}, declared.cmp.Ordering.{Ordering}, Prelude.{ℕ, ◌≡◌, ◌<◌, ◌^◌, Bool, Option, List, is_some}}
+use Rattle.std.specs.{BTreeMap.{insert_entry, is_at}, Map.{remove_entry, lookup, keys_of}, List.{AllByRecursion, Sorted.{IsStrictlySortedBy}}}
 use Rattle.fs_base.specs.{Prefix.{prefix_cmp}, declared.{path.Path.{Path}, prefix.Prefix.{Prefix}}}
 use Rattle.fs_unicast.specs.declared.unicast.{Place.{Place}, Swap.{Swap}}
 

@@ -1,6 +1,7 @@
 //! The routes in the order of their places, and the turns among them.
 
-ghost use Rattle.std.specs.{Prelude.{◌≡◌, ◌↔◌, [], Some, None, IfOk, IfSome, OnOk, OnErr, ◌&&◌}, BTreeMap.{insert_entry, is_at}, List.{list_any, Sorted.{IsStrictlySortedBy}}, Map.{remove_entry, lookup, keys_of}};
+ghost use Rattle.std.specs.Prelude.{◌≡◌, ◌↔◌, [], Some, None, IfOk, IfSome, OnOk, OnErr, ◌&&◌};
+ghost use Rattle.std.specs.{BTreeMap.{insert_entry, is_at}, List.{list_any, Sorted.{IsStrictlySortedBy}}, Map.{remove_entry, lookup, keys_of}};
 ghost use Rattle.fs_unicast.specs.{Search.{is_other}, Unicast.{IsSwap, place_cmp, swap_at}, Turns.{is_within, IsParted}};
 
 use crate::shared::{SharedPath, has_path, share_beside};

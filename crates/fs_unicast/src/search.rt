@@ -1,7 +1,10 @@
 //! Look-ups in the ordered map of routes.
 
-ghost use Rattle.std.specs.{Prelude.{◌≡◌, true, List, IfSome, filter, fold, map, option_map}, Option.{option_copied}, List.Sorted.{IsStrictlySortedBy}, Map.{keys_of}};
-ghost use Rattle.fs_unicast.specs.{Search.{AreCoversOver, IsFront, candidate, is_same_prefix, is_beside, is_strictly_under, is_other_route, best_at, best_match_of, neighbour_of, others_under, held_by, start_of, old_route}, Preference.{better, best_of, peer_path}, Unicast.{Route, IsSwap, place_cmp, path_at}};
+ghost use Rattle.std.specs.Prelude.{◌≡◌, true, List, IfSome, filter, fold, map, option_map};
+ghost use Rattle.std.specs.{Option.{option_copied}, List.Sorted.{IsStrictlySortedBy}, Map.{keys_of}};
+ghost use Rattle.fs_unicast.specs.Search.{AreCoversOver, IsFront, candidate, is_same_prefix, is_beside, is_strictly_under, is_other_route, best_at};
+ghost use Rattle.fs_unicast.specs.Search.{best_match_of, neighbour_of, others_under, held_by, start_of, old_route};
+ghost use Rattle.fs_unicast.specs.{Preference.{better, best_of, peer_path}, Unicast.{Route, IsSwap, place_cmp, path_at}};
 ghost use Rattle.fs_base.specs.Search.{IsFirstFrom};
 
 use crate::key::PrefixKey;

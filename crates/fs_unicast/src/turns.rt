@@ -1,7 +1,12 @@
 //! The turns among the routes, and the routes beside a place.
 
-ghost use Rattle.std.specs.{Prelude.{◌≡◌, true, false, None, OnOk, option_map, find, ◌&&◌, ◌||◌}, Ordering.{is_le, is_lt}, BTreeMap.{is_at}, Set.{remove_key}, List.{list_any, Sorted.{IsStrictlySortedBy}}, Map.{keys_of, lookup}};
-ghost use Rattle.fs_unicast.specs.{Search.{is_other}, Neighbour.{neighbour}, Unicast.{place_cmp}, Turns.{entry_now, is_before, is_after, is_at_or_after, stands_at, is_alike, are_alike, is_same, is_within, find_last, is_alone, names, without, IsParted, IsPartedAt, IsPartedBefore, IsPartedAfter, StaysParted, PartsAt, IsLastUpto, is_inside}};
+ghost use Rattle.std.specs.Prelude.{◌≡◌, true, false, None, OnOk, option_map, find, ◌&&◌, ◌||◌};
+ghost use Rattle.std.specs.{Ordering.{is_le, is_lt}, BTreeMap.{is_at}, Set.{remove_key}, List.{list_any, Sorted.{IsStrictlySortedBy}}};
+ghost use Rattle.std.specs.Map.{keys_of, lookup};
+ghost use Rattle.fs_unicast.specs.{Search.{is_other}, Neighbour.{neighbour}, Unicast.{place_cmp}};
+ghost use Rattle.fs_unicast.specs.Turns.{entry_now, is_before, is_after, is_at_or_after, stands_at, is_alike, are_alike, is_same, is_within};
+ghost use Rattle.fs_unicast.specs.Turns.{find_last, is_alone, names, without, IsParted, IsPartedAt, IsPartedBefore, IsPartedAfter, StaysParted};
+ghost use Rattle.fs_unicast.specs.Turns.{PartsAt, IsLastUpto, is_inside};
 
 use crate::neighbour::is_other;
 use crate::shared::SharedPath;

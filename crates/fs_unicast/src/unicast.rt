@@ -1,7 +1,10 @@
 //! The table of unicast routes.
 
-ghost use Rattle.std.specs.{Prelude.{◌≡◌, ◌↔◌, [], None, List, IfOk, IfSome, OnOk, OnErr, is_some, option_map, length, ◌+◌}, List.Sorted.{IsStrictlySortedBy}, Map.{keys_of}, Option.{option_copied}};
-ghost use Rattle.fs_unicast.specs.{Unicast.{Route, IsSwap, IsSwapOf, place_cmp, put_path, take_path, path_at, has_path}, Search.{best_at, best_match_of, neighbour_of, others_under, held_by}, Preference.{peer_path}};
+ghost use Rattle.std.specs.Prelude.{◌≡◌, ◌↔◌, [], None, List, IfOk, IfSome, OnOk, OnErr, is_some, option_map, length, ◌+◌};
+ghost use Rattle.std.specs.{List.Sorted.{IsStrictlySortedBy}, Map.{keys_of}, Option.{option_copied}};
+ghost use Rattle.fs_unicast.specs.Unicast.{Route, IsSwap, IsSwapOf, place_cmp, put_path, take_path, path_at, has_path};
+ghost use Rattle.fs_unicast.specs.Search.{best_at, best_match_of, neighbour_of, others_under, held_by};
+ghost use Rattle.fs_unicast.specs.Preference.{peer_path};
 
 use crate::key::PrefixKey;
 use crate::preference::Held;

@@ -1,9 +1,12 @@
 -- The unicast routes that a destination is related to, and when two lists agree on them.
-use Rattle.std.specs.{Prelude.{ℕ, ◌≡◌, ◌==◌, ◌&&◌, ◌||◌, not, Bool, true, false, Option, Some, None, List, filter, MatchOption, if◌then◌else◌}, Option.{option_eq}}
+use Rattle.std.specs.Prelude.{ℕ, ◌≡◌, ◌==◌, ◌&&◌, ◌||◌, not, Bool, true, false, Option, Some, None, List, filter, MatchOption, if◌then◌else◌}
+use Rattle.std.specs.Option.{option_eq}
 use Rattle.fs_base.specs.{Prefix.{covers}, declared.{config.Config.{Config}, path.Path.{Path}, prefix.Prefix.{Prefix}}}
-use Rattle.fs_unicast.specs.{Neighbour.{first_as, neighbour_as}, Search.{best_at, best_match_of, is_other}, Unicast.{Route, path_at, IsSwap}, declared.unicast.Swap.{Swap}}
+use Rattle.fs_unicast.specs.{Neighbour.{first_as, neighbour_as}, Search.{best_at, best_match_of, is_other}, Unicast.{Route, path_at, IsSwap}}
+use Rattle.fs_unicast.specs.declared.unicast.Swap.{Swap}
 use Rattle.fs_nlri.specs.Rule.{destination_prefix}
-use Rattle.fs_validate.specs.{Originator.{originator_of, same_originator}, Validity.{validity, validity_to, neighbour_of_best}, declared.route.FlowRoute.{FlowRoute}}
+use Rattle.fs_validate.specs.{Originator.{originator_of, same_originator}, Validity.{validity, validity_to, neighbour_of_best}}
+use Rattle.fs_validate.specs.declared.route.FlowRoute.{FlowRoute}
 
 abbrev pub is_related : Prefix → Prefix → Bool
 is_related d p = covers p d || covers d p

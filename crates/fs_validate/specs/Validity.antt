@@ -4,7 +4,9 @@ use Rattle.std.specs.Prelude.{ℕ, ◌==◌, ◌&&◌, ◌||◌, not, Bool, fals
 use Rattle.fs_base.specs.declared.{config.Config.{Config}, path.Path.{Path}, prefix.Prefix.{Prefix}}
 use Rattle.fs_unicast.specs.{Neighbour.{first_as, neighbour_as}, Unicast.{Route}, Search.{best_match_of, others_under}}
 use Rattle.fs_nlri.specs.{Parts.{Ruled}, Rule.{destination_prefix}}
-use Rattle.fs_validate.specs.{Originator.{originator_of, same_originator, is_local}, declared.{route.FlowRoute.{FlowRoute}, validity.Validity.{Validity, TheVariants.{Valid, NoDestination, Originator, MoreSpecific, LeftAs}}}}
+use Rattle.fs_validate.specs.Originator.{originator_of, same_originator, is_local}
+use Rattle.fs_validate.specs.declared.route.FlowRoute.{FlowRoute}
+use Rattle.fs_validate.specs.declared.validity.Validity.{Validity, TheVariants.{Valid, NoDestination, Originator, MoreSpecific, LeftAs}}
 
 -- a route by its parts: the peer that gave it, its rule, its path and its actions
 abbrev pub flow_route : ℕ → Ruled → Path → List (List ℕ) → FlowRoute

@@ -1,5 +1,6 @@
 -- Words with spaces before them and between them.
-use Rattle.fs_words.proofs.Words.{◌≡◌, ℕ, List, [], ◌∷◌, ◌++◌, refl, sym, ap, ◌∙◌, append_assoc, append-nil, drop, Result, Ok, Err, codes, OnOk, action_words, component_words, spaced}
+use Rattle.fs_words.proofs.Words.{◌≡◌, ℕ, List, [], ◌∷◌, ◌++◌, refl, sym, ap, ◌∙◌, append_assoc, append-nil, drop, Result, Ok, Err, codes, OnOk}
+use Rattle.fs_words.proofs.Words.{action_words, component_words, spaced}
 use Rattle.std.specs.List.{join_with_byte, AllByRecursion}
 use Rattle.fs_nlri.specs.{Component.{parts_of}, declared.component.Component.{Component}, Sound.{AreSound}}
 use Rattle.fs_actions.specs.Community.{IsAction}
@@ -23,7 +24,8 @@ pub record Told (before now : List ℕ) (actions : List (List ℕ)) (index : ℕ
   pub each : AllByRecursion IsAction (drop index actions)
 
 -- the first word, and two groups of words behind it
-pub whole_text : (old first second third word : List ℕ) (one other : List (List ℕ)) → first ≡ old ++ word → second ≡ first ++ spaced one → third ≡ second ++ spaced other → third ≡ old ++ join_with_byte 32 (word ∷ (one ++ other))
+pub whole_text : (old first second third word : List ℕ) (one other : List (List ℕ)) → first ≡ old ++ word → second ≡ first ++ spaced one
+    → third ≡ second ++ spaced other → third ≡ old ++ join_with_byte 32 (word ∷ (one ++ other))
 whole_text old first second third word one other a b c =
     c ∙ ap (λ (l : List ℕ). l ++ spaced other) (b ∙ ap (λ (l : List ℕ). l ++ spaced one) a)
     ∙ append_assoc (old ++ word) (spaced one) (spaced other)

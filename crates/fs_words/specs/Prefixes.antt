@@ -1,5 +1,6 @@
 -- The words of prefix components (RFC 8955 section 4.2.2.1, RFC 8956 section 3.1).
-use Rattle.std.specs.{Prelude.{ℕ, ◌/◌, ◌^◌, ◌==◌, List, [], ◌∷◌, ◌++◌, map, if◌then◌else◌, codes, decimal, flat_map}, List.{join_with_byte}, Int.{to_be_bytes, w32, w128}, Net.Addr.{segments_of}}
+use Rattle.std.specs.Prelude.{ℕ, ◌/◌, ◌^◌, ◌==◌, List, [], ◌∷◌, ◌++◌, map, if◌then◌else◌, codes, decimal, flat_map}
+use Rattle.std.specs.{List.{join_with_byte}, Int.{to_be_bytes, w32, w128}, Net.Addr.{segments_of}}
 use Rattle.fs_words.specs.Figures.{hexadecimal}
 
 -- an IPv4 address: its four octets in decimal with dots between them

@@ -2,7 +2,8 @@
 
 ghost use Rattle.std.specs.{Prelude.{◌≡◌, ◌++◌, ◌<◌, ◌≤◌, ◌^◌, All, OnOk, decimal, flat_map}, String.{string_bytes}};
 ghost use Rattle.fs_ops.specs.{declared.kind.Kind.TheVariants.{Numeric}, Operator.{joins, width_code, width_of}};
-ghost use Rattle.fs_words.specs.Operators.{joined_text, joiner, least_code, list_text, mask_sign, number_sign, operand_text, pair_text, sign, width_text, width_word};
+ghost use Rattle.fs_words.specs.Operators.{joined_text, joiner, least_code, list_text, mask_sign, number_sign, operand_text, pair_text, sign};
+ghost use Rattle.fs_words.specs.Operators.{width_text, width_word};
 
 use crate::pieces::{print_decimal, print_wide};
 use fs_base::Memory;

@@ -3,7 +3,8 @@
 ghost use Rattle.std.specs.{Prelude.{◌≡◌, ◌++◌, ◌∷◌, [], OnOk, OnErr}, String.{string_bytes}, List.{AllByRecursion}};
 ghost use Rattle.fs_nlri.specs.{Component.{part_of, parts_of}, Sound.{AreSound, IsSoundBody}};
 ghost use Rattle.fs_actions.specs.Community.{IsAction};
-ghost use Rattle.fs_words.specs.{Actions.{action_name, action_text}, Values.{component_name, value_text}, Printed.{action_words, component_words, family_word, spaced, text_of, then_words}};
+ghost use Rattle.fs_words.specs.{Actions.{action_name, action_text}, Values.{component_name, value_text}};
+ghost use Rattle.fs_words.specs.Printed.{action_words, component_words, family_word, spaced, text_of, then_words};
 
 use crate::{action_name, component_name, print_action, print_value};
 use fs_actions::{Action, Actions};

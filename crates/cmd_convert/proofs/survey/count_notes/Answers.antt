@@ -15,10 +15,12 @@ records-preserved g c =
     let note = c.in-Ok-Some.note in
     let counted : c.add_note.new.counts.items ≡ with_note note c.records.counts.items = c.in_ok-add_note-in-Ok-Some.ensures in
     let moved : IsTrue g.F.Files.tells
-    → notes_coming config c.records.dump (g.F.Files.left c.records.files slot) ≡ with_part note (notes_coming config c.next.new.self (g.F.Files.left c.next.new.files slot)) =
+    → notes_coming config c.records.dump (g.F.Files.left c.records.files slot)
+    ≡ with_part note (notes_coming config c.next.new.self (g.F.Files.left c.next.new.files slot)) =
     λ told.
     subst
-    (λ (n : ℕ). notes_coming config c.records.dump (g.F.Files.left c.records.files n) ≡ with_part note (notes_coming config c.next.new.self (g.F.Files.left c.next.new.files n)))
+    (λ (n : ℕ). notes_coming config c.records.dump (g.F.Files.left c.records.files n)
+    ≡ with_part note (notes_coming config c.next.new.self (g.F.Files.left c.next.new.files n)))
     before.slot (found.gives.advances told before.unended) in
     record {
       room = search rules;

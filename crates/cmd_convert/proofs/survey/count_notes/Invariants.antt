@@ -15,7 +15,8 @@ invariant-records g l = record {
   later : g.F.Files.faults l.fn.files ≤ g.F.Files.faults l.files;
   opened : g.F.Files.opened l.files ≡ g.F.Files.opened l.fn.files;
   ends : IsTrue g.F.Files.tells
-      → (notes_coming l.config l.fn.dump (g.F.Files.left l.fn.files l.fn.dump.slot)).1 ≡ (notes_coming l.config l.dump (g.F.Files.left l.files l.fn.dump.slot)).1;
+      → (notes_coming l.config l.fn.dump (g.F.Files.left l.fn.files l.fn.dump.slot)).1
+      ≡ (notes_coming l.config l.dump (g.F.Files.left l.files l.fn.dump.slot)).1;
   counts : IsTrue g.F.Files.tells
       → all_noted l.fn.counts.items (notes_coming l.config l.fn.dump (g.F.Files.left l.fn.files l.fn.dump.slot)).0
       ≡ all_noted l.counts.items (notes_coming l.config l.dump (g.F.Files.left l.files l.fn.dump.slot)).0;

@@ -10,8 +10,10 @@ returns-clause-said g c = λ told.
     let config = c.in_ok-config.config in
     due_as c.survey_file.result (content_verdict config c.args.limit (or_stop Outside (g.F.Files.holds c.load_config.new.files c.args.dump.now)))
     (dump_verdict c.args.limit holds c.args.config.now c.args.dump.now)
-    (Rose (g.F.Files.faults c.load_config.new.files) (g.F.Files.faults c.survey_file.new.files)) (Rose (g.F.Files.faults c.args.files.now) (g.F.Files.faults c.survey_file.new.files))
-    (accepted_due c.args.limit holds (g.F.Files.holds c.load_config.new.files) c.args.config.now c.args.dump.now config (c.in_ok-config.ensures.reaches told) (c.in_ok-config.ensures.holds told))
+    (Rose (g.F.Files.faults c.load_config.new.files) (g.F.Files.faults c.survey_file.new.files))
+    (Rose (g.F.Files.faults c.args.files.now) (g.F.Files.faults c.survey_file.new.files))
+    (accepted_due c.args.limit holds (g.F.Files.holds c.load_config.new.files) c.args.config.now c.args.dump.now config
+    (c.in_ok-config.ensures.reaches told) (c.in_ok-config.ensures.holds told))
     (λ r. rose_earlier _ _ _ c.in_ok-config.ensures.later r) (c.survey_file.ensures.said told)
 
 pub returns-in_err-config-clause-opens : goal.returns-in_err-config-clause-opens

@@ -17,8 +17,10 @@ returns-clause-said g c = λ told.
     (content_verdict config c.args.limit (or_stop Outside (g.F.Files.holds c.args.files.now c.args.dump.now))) failed
     (Rose (g.F.Files.faults c.args.files.now) (g.F.Files.faults c.count_notes.new.files))
     (subst (λ (p : List Note × End DumpReason). Counts [] c.count_notes.new.counts.items p failed c.in_ok-ended.ended)
-    (from_start config c.begin-dump.result c.args.limit c.new.result.limit c.new.result.slot c.new.result.back left c.begin-dump.ensures c.new.ensures.limit c.new.ensures.back c.new.ensures.slot)
-    (subst (λ (l : List NoteCount). Counts l c.count_notes.new.counts.items (notes_coming config c.begin-dump.result (left c.begin-dump.result.slot)) failed c.in_ok-ended.ended)
+    (from_start config c.begin-dump.result c.args.limit c.new.result.limit c.new.result.slot c.new.result.back left c.begin-dump.ensures
+    c.new.ensures.limit c.new.ensures.back c.new.ensures.slot)
+    (subst (λ (l : List NoteCount). Counts l c.count_notes.new.counts.items (notes_coming config c.begin-dump.result (left c.begin-dump.result.slot))
+    failed c.in_ok-ended.ended)
     c.new-counts.ensures.items counted))
     (subst (λ (l : List NoteCount). SaysEnd l c.in_ok-ended.ended c.say_end.result) c.as_slice.ensures.value c.say_end.ensures.said)
     (content_found c.args.limit (g.F.Files.holds c.args.files.now) c.args.dump.now config (left 1) (c.in_ok-open.ensures.opened told))

@@ -1,4 +1,8 @@
-use Rattle.cmd_enforce.proofs.{Words.{◌≡◌, ◌∙◌, inr, ap, le_refl, refl, subst, sym, Grew-refl, PlayerState, Stands, answered, Memory, answered_err, finished_by, rose_earlier, IsCompiled, IsOfPackets}, Enforcing.{answers_under, memory_of_packets, moments_finished, none_by_memory, outside_of_packets, rose_wider, wrote_judged, wrote_none, wrote_under}, AtMoments.{stands_at}}
+use Rattle.cmd_enforce.proofs.Words.{◌≡◌, ◌∙◌, inr, ap, le_refl, refl, subst, sym, Grew-refl, PlayerState, Stands, answered, Memory, answered_err}
+use Rattle.cmd_enforce.proofs.Words.{finished_by, rose_earlier, IsCompiled, IsOfPackets}
+use Rattle.cmd_enforce.proofs.Enforcing.{answers_under, memory_of_packets, moments_finished, none_by_memory, outside_of_packets, rose_wider}
+use Rattle.cmd_enforce.proofs.Enforcing.{wrote_judged, wrote_none, wrote_under}
+use Rattle.cmd_enforce.proofs.AtMoments.{stands_at}
 use Rattle.cmd_enforce.proofs.judge.judge_capture.Goals as goal
 
 pub returns-in_err-buffer-clause-judges : goal.returns-in_err-buffer-clause-judges
@@ -26,7 +30,8 @@ returns-clause-possible g c =
 
 pub returns-clause-unwritten : goal.returns-clause-unwritten
 returns-clause-unwritten g c = λ none six.
-    let due = finished_by (λ n. n ≡ 6 → answered c.judge_packets-judged.result ≡ 6) _ _ _ _ _ c.finish.result c.finish.ensures.finishes (λ e. e) (λ e. absurd cc) six in
+    let due = finished_by (λ n. n ≡ 6 → answered c.judge_packets-judged.result ≡ 6) _ _ _ _ _ c.finish.result c.finish.ensures.finishes (λ e. e)
+    (λ e. absurd cc) six in
     let kept = c.judge_packets-judged.ensures.early (ap (λ (p : PlayerState). p.ahead) c.in_ok-following.ensures.same ∙ none) due in
     (c.finish.ensures.idle (kept.3 ∙ c.in_ok-lines.ensures.0) ∙ kept.0, kept.1, kept.2)
 
@@ -49,7 +54,9 @@ returns-clause-wanting g c = λ told six items s.
 
 pub judge_packets-judged-requires-clause-compiled : goal.judge_packets-judged-requires-clause-compiled
 judge_packets-judged-requires-clause-compiled g c =
-    subst (λ (p : PlayerState). IsCompiled p.desk.held c.in_ok-following.following.rules) (sym c.in_ok-following.ensures.same) c.in_ok-following.ensures.compiled
+    subst (λ (p : PlayerState). IsCompiled p.desk.held c.in_ok-following.following.rules)
+    (sym c.in_ok-following.ensures.same) c.in_ok-following.ensures.compiled
 
 pub returns-in_err-lines-clause-possible : goal.returns-in_err-lines-clause-possible
-returns-in_err-lines-clause-possible g c = answered_err IsOfPackets c.from_residual-in_err-lines.result Memory c.from_residual-in_err-lines.ensures.1 memory_of_packets
+returns-in_err-lines-clause-possible g c =
+    answered_err IsOfPackets c.from_residual-in_err-lines.result Memory c.from_residual-in_err-lines.ensures.1 memory_of_packets

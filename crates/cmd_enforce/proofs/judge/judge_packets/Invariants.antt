@@ -16,7 +16,8 @@ invariant-changes g l = record {
   opened : g.F.Files.opened l.files ≡ g.F.Files.opened l.fn.files;
   judged : IsTrue g.F.Files.tells → (items : List Timed) → Stands items l.fn.capture.moment l.fn.following.player (g.F.Files.left l.fn.files 1)
       → Stands items l.capture.moment l.following.player (g.F.Files.left l.files 1)
-      × Follows (judging l.fn.following.player.desk.config items (coming l.fn.capture (g.F.Files.left l.fn.files 2)) (g.S.Sink.written l.fn.sink) l.fn.lines.output)
+      × Follows (judging l.fn.following.player.desk.config items (coming l.fn.capture (g.F.Files.left l.fn.files 2))
+      (g.S.Sink.written l.fn.sink) l.fn.lines.output)
       (progress (coming l.capture (g.F.Files.left l.files 2)) (g.S.Sink.written l.sink) l.lines.output l.lines.number);
 }
 

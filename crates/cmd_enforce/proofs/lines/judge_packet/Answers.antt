@@ -8,5 +8,6 @@ returns-in-Ok-clause-sends g c = λ admitted stands.
 
 pub returns-in-Err-clause-sends : goal.returns-in-Err-clause-sends
 returns-in-Err-clause-sends g c = λ admitted stands.
-    sends_as (unread_line (c.args.lines.now.number + 1) admitted c.args.link c.args.octets.now c.in-Err.unread c.number.result (sym c.read_packet.ensures ∙ c.in-Err.is) c.number.ensures)
+    sends_as (unread_line (c.args.lines.now.number + 1) admitted c.args.link c.args.octets.now c.in-Err.unread c.number.result
+    (sym c.read_packet.ensures ∙ c.in-Err.is) c.number.ensures)
     c.write_unread_line.ensures

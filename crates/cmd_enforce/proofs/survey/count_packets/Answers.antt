@@ -1,4 +1,5 @@
-use Rattle.cmd_enforce.proofs.{Words.{◌≡◌, ◌≤◌, ◌∙◌, ℕ, List, IsTrue, End, ap, sym, subst, arith, rules, with_part, CaptureReason}, Surveying.{few_fit, with_few}}
+use Rattle.cmd_enforce.proofs.Words.{◌≡◌, ◌≤◌, ◌∙◌, ℕ, List, IsTrue, End, ap, sym, subst, arith, rules, with_part, CaptureReason}
+use Rattle.cmd_enforce.proofs.Surveying.{few_fit, with_few}
 use Rattle.std.specs.List.{AllByRecursion}
 use Rattle.cmd_enforce.specs.{Stamps.{all_noted, noted, stamps_coming}, Survey.{Tallied}, declared.{stamps.Stamp.{Stamp}, tally.LinkCount.{LinkCount}}}
 use Rattle.cmd_enforce.proofs.survey.count_packets.Goals as goal
@@ -12,10 +13,12 @@ packets-preserved g c =
     let stamp = c.in-Ok-Some.stamp in
     let noted_is : c.note.new.self ≡ noted c.packets.tally stamp = c.in_ok-note-in-Ok-Some.ensures in
     let moved : IsTrue g.F.Files.tells
-    → stamps_coming c.packets.stamps (g.F.Files.left c.packets.files slot) ≡ with_part stamp (stamps_coming c.next.new.self (g.F.Files.left c.next.new.files slot)) =
+    → stamps_coming c.packets.stamps (g.F.Files.left c.packets.files slot)
+    ≡ with_part stamp (stamps_coming c.next.new.self (g.F.Files.left c.next.new.files slot)) =
     λ told.
     subst
-    (λ (n : ℕ). stamps_coming c.packets.stamps (g.F.Files.left c.packets.files n) ≡ with_part stamp (stamps_coming c.next.new.self (g.F.Files.left c.next.new.files n)))
+    (λ (n : ℕ). stamps_coming c.packets.stamps (g.F.Files.left c.packets.files n)
+    ≡ with_part stamp (stamps_coming c.next.new.self (g.F.Files.left c.next.new.files n)))
     before.slot (found.gives.advances told before.unended) in
     record {
       room = search rules;
@@ -24,7 +27,8 @@ packets-preserved g c =
       limit = found.gives.limit_is ∙ before.limit;
       few = omega (arith, before.few, grows.0, ap (λ (t : Tallied). t.count) noted_is);
       links = subst (λ (l : List LinkCount). AllByRecursion (λ (count : LinkCount). count.packets ≤ c.next.new.self.place) l)
-          (ap (λ (t : Tallied). t.links) (sym noted_is)) (with_few stamp.link c.packets.stamps.place c.next.new.self.place grows.0 c.packets.tally.links before.links);
+          (ap (λ (t : Tallied). t.links) (sym noted_is))
+          (with_few stamp.link c.packets.stamps.place c.next.new.self.place grows.0 c.packets.tally.links before.links);
       within = grows.1;
       later = omega (arith, before.later, found.gives.later);
       opened = found.gives.opened ∙ before.opened;

@@ -7,7 +7,8 @@ returns-in-Ok-2-clause-surveyed g c = λ told.
     let stamps = c.in-Ok.stamps in
     let left = g.F.Files.left c.begin.new.files in
     let counted = rw c.in-Ok-2.is at (c.in_ok-count_packets-in-Ok.ensures.counts told) in
-    surveys_from (survey_in c.args.limit (g.F.Files.left c.args.files.now 2)) stamps (left stamps.slot) c.link.result c.new-tally.result c.count_packets.new.tally
+    surveys_from (survey_in c.args.limit (g.F.Files.left c.args.files.now 2)) stamps (left stamps.slot) c.link.result c.new-tally.result
+    c.count_packets.new.tally
     (Rose (g.F.Files.faults c.args.files.now) (g.F.Files.faults c.count_packets.new.files))
     (begun c.args.limit c.new.result.limit c.new.result.slot c.new.result.back (g.F.Files.left c.args.files.now) left stamps
     c.new.ensures.limit c.new.ensures.back c.new.ensures.slot c.in-Ok.ensures.state.slot (c.in-Ok.ensures.begins told))
@@ -18,7 +19,8 @@ returns-in-Ok-clause-surveyed g c = λ told.
     let stamps = c.in-Ok.stamps in
     let left = g.F.Files.left c.begin.new.files in
     let counted = rw c.in-Err-2.is at (c.in_ok-count_packets-in-Ok.ensures.counts told) in
-    surveys_fault (survey_in c.args.limit (g.F.Files.left c.args.files.now 2)) stamps (left stamps.slot) c.new-tally.result c.count_packets.new.tally c.in-Err-2.fault
+    surveys_fault (survey_in c.args.limit (g.F.Files.left c.args.files.now 2)) stamps (left stamps.slot) c.new-tally.result c.count_packets.new.tally
+    c.in-Err-2.fault
     (Rose (g.F.Files.faults c.begin.new.files) (g.F.Files.faults c.count_packets.new.files))
     (Rose (g.F.Files.faults c.args.files.now) (g.F.Files.faults c.count_packets.new.files))
     (begun c.args.limit c.new.result.limit c.new.result.slot c.new.result.back (g.F.Files.left c.args.files.now) left stamps

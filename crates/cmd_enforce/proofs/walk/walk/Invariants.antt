@@ -1,4 +1,6 @@
-use Rattle.cmd_enforce.proofs.{Words.{◌≡◌, ◌≤◌, ◌+◌, ◌-◌, length, List, vec_capacity, vec_len, Listed, AreMatchesOf, reaching, reaching_from, WalksWith}, Walking.{WalkGoesOn}}
+use Rattle.cmd_enforce.proofs.Words.{◌≡◌, ◌≤◌, ◌+◌, ◌-◌, length, List, vec_capacity, vec_len, Listed, AreMatchesOf, reaching, reaching_from}
+use Rattle.cmd_enforce.proofs.Words.{WalksWith}
+use Rattle.cmd_enforce.proofs.Walking.{WalkGoesOn}
 use Rattle.cmd_enforce.proofs.walk.walk.Given as goal
 
 abbrev pub invariant-rules : goal.invariant-rules

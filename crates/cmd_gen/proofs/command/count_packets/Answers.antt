@@ -1,4 +1,6 @@
-use Rattle.cmd_gen.proofs.{Words.{◌≡◌, ◌∙◌, ◌+◌, ap, sym, subst, arith, is_dropped, is_passed, behind_pair, behind_pairs, pair_behind, packet_of, HasRoom}, Generating.{counted_after, counted_none, few_more, packet_is, packet_state}}
+use Rattle.cmd_gen.proofs.Words.{◌≡◌, ◌∙◌, ◌+◌, ap, sym, subst, arith, is_dropped, is_passed, behind_pair, behind_pairs, pair_behind, packet_of}
+use Rattle.cmd_gen.proofs.Words.{HasRoom}
+use Rattle.cmd_gen.proofs.Generating.{counted_after, counted_none, few_more, packet_is, packet_state}
 use Rattle.fs_base.specs.declared.link.Link.TheVariants.{Raw}
 use Rattle.fs_packet.specs.Reading.{view_of}
 use Rattle.cmd_gen.proofs.command.count_packets.Goals as goal
@@ -30,4 +32,5 @@ packets-preserved c =
     }
   where
     drawn : c.packet-packet.result ≡ packet_of (pair_behind c.args.count (c.args.count + c.packets.counter))
-    drawn = packet_is c.pair.result c.packet-packet.result c.packets.draws.state c.args.count c.packets.counter c.packet-packet.ensures c.pair.ensures.pair c.packets.invariant.draws
+    drawn = packet_is c.pair.result c.packet-packet.result c.packets.draws.state c.args.count c.packets.counter c.packet-packet.ensures
+        c.pair.ensures.pair c.packets.invariant.draws

@@ -1,4 +1,5 @@
-use Rattle.cmd_gen.proofs.{Words.{◌≡◌, ◌++◌, ◌∙◌, ℕ, ap, sym, subst, arith, Played, Plays, nobody, behind_pair, pair_behind, step_of, steps, Item}, Generating.{played_more, played_none, state_more, state_none, step_is}}
+use Rattle.cmd_gen.proofs.Words.{◌≡◌, ◌++◌, ◌∙◌, ℕ, ap, sym, subst, arith, Played, Plays, nobody, behind_pair, pair_behind, step_of, steps, Item}
+use Rattle.cmd_gen.proofs.Generating.{played_more, played_none, state_more, state_none, step_is}
 use Rattle.cmd_gen.proofs.command.play_steps.Goals as goal
 
 pub steps-init : goal.steps-init

@@ -1,11 +1,14 @@
-use Rattle.cmd_stages.proofs.{Words.{ℕ, subst, Rose, coming, PlaysOn, played_to, tape_stage, HasReason}, LookingAhead.{slots_then}, Playing.{played_whole, refused_whole}}
+use Rattle.cmd_stages.proofs.Words.{ℕ, subst, Rose, coming, PlaysOn, played_to, tape_stage, HasReason}
+use Rattle.cmd_stages.proofs.{LookingAhead.{slots_then}, Playing.{played_whole, refused_whole}}
 use Rattle.cmd_stages.proofs.play.play_whole.Goals as goal
 
 pub returns-in-Ok-clause-played : goal.returns-in-Ok-clause-played
 returns-in-Ok-clause-played g c = λ told.
-    played_whole c.args.config.now c.args.limit (g.F.Files.holds c.args.files.now) c.args.name.now (g.F.Files.left c.open_tape.new.files 1) c.in_ok-tape.tape c.format-version.result
+    played_whole c.args.config.now c.args.limit (g.F.Files.holds c.args.files.now) c.args.name.now
+    (g.F.Files.left c.open_tape.new.files 1) c.in_ok-tape.tape c.format-version.result
     c.in_ok-desk.desk c.play_items.new.desk (c.in_ok-tape.ensures.opened told) c.format-version.ensures
-    (subst (λ (n : ℕ). PlaysOn c.args.config.now c.in_ok-tape.tape.version (coming c.args.config.now c.in_ok-tape.tape (g.F.Files.left c.open_tape.new.files n)) c.in_ok-desk.desk c.play_items.new.desk)
+    (subst (λ (n : ℕ). PlaysOn c.args.config.now c.in_ok-tape.tape.version
+    (coming c.args.config.now c.in_ok-tape.tape (g.F.Files.left c.open_tape.new.files n)) c.in_ok-desk.desk c.play_items.new.desk)
     c.in_ok-tape.ensures.state.slot_is (c.in-Ok.ensures.played told)) c.in_ok-desk.ensures.played
 
 pub returns-clause-played : goal.returns-clause-played
@@ -19,7 +22,8 @@ returns-clause-played g c = λ told.
     c.in-Err.refusal
     ((c.in_ok-tape.ensures.opened told).comes c.args.config.now)
     c.in_ok-tape.ensures.later
-    (subst (λ (n : ℕ). HasReason (played_to (coming c.args.config.now c.in_ok-tape.tape (g.F.Files.left c.open_tape.new.files n))) (Rose (g.F.Files.faults c.open_tape.new.files) (g.F.Files.faults c.play_items.new.files)) c.in-Err.refusal)
+    (subst (λ (n : ℕ). HasReason (played_to (coming c.args.config.now c.in_ok-tape.tape (g.F.Files.left c.open_tape.new.files n)))
+    (Rose (g.F.Files.faults c.open_tape.new.files) (g.F.Files.faults c.play_items.new.files)) c.in-Err.refusal)
     c.in_ok-tape.ensures.state.slot_is (c.in-Err.ensures.played told))
 
 pub returns-in-Ok-clause-others : goal.returns-in-Ok-clause-others

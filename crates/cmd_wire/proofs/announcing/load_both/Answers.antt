@@ -15,15 +15,18 @@ returns-clause-reaches g c = λ told.
 
 pub returns-in_err-config-clause-opens : goal.returns-in_err-config-clause-opens
 returns-in_err-config-clause-opens g c =
-    refused_at (config_then 2 c.args.config.now c.args.rules.now) 1 (omega (arith)) _ _ c.from_residual.result c.in_err-config.field-0.0 c.from_residual.ensures.1 c.in_err-config.ensures.opens (λ three. omega (arith))
+    refused_at (config_then 2 c.args.config.now c.args.rules.now) 1 (omega (arith)) _ _ c.from_residual.result c.in_err-config.field-0.0
+    c.from_residual.ensures.1 c.in_err-config.ensures.opens (λ three. omega (arith))
 
 pub returns-in_err-sending-clause-opens : goal.returns-in_err-sending-clause-opens
 returns-in_err-sending-clause-opens g c =
-    opened_due (config_then 2 c.args.config.now c.args.rules.now) 2 (omega (arith)) _ _ _ _ (Grew-trans _ _ _ _ _ c.in_ok-config.ensures.opens c.in_err-sending.ensures.opens) refl (omega (arith)) (λ three. omega (arith))
+    opened_due (config_then 2 c.args.config.now c.args.rules.now) 2 (omega (arith)) _ _ _ _
+    (Grew-trans _ _ _ _ _ c.in_ok-config.ensures.opens c.in_err-sending.ensures.opens) refl (omega (arith)) (λ three. omega (arith))
 
 pub returns-clause-opens : goal.returns-clause-opens
 returns-clause-opens g c =
-    opened_due (config_then 2 c.args.config.now c.args.rules.now) 2 (omega (arith)) _ _ _ _ (Grew-trans _ _ _ _ _ c.in_ok-config.ensures.opens c.in_ok-sending.ensures.opens) refl (omega (arith)) (λ three. omega (arith))
+    opened_due (config_then 2 c.args.config.now c.args.rules.now) 2 (omega (arith)) _ _ _ _
+    (Grew-trans _ _ _ _ _ c.in_ok-config.ensures.opens c.in_ok-sending.ensures.opens) refl (omega (arith)) (λ three. omega (arith))
 
 pub returns-clause-both : goal.returns-clause-both
 returns-clause-both g c =

@@ -32,14 +32,16 @@ returns-in_err-read_first-clause-failed g c = λ failed.
 
 pub returns-clause-keeps : goal.returns-clause-keeps
 returns-clause-keeps g c =
-    inr (kept_all (order_by c.args.order.now.rules.now c.args.order.now.address.now c.args.order.now.limit c.args.config.now) c.new-station.result c.read_first.new.self
+    inr (kept_all (order_by c.args.order.now.rules.now c.args.order.now.address.now c.args.order.now.limit c.args.config.now) c.new-station.result
+    c.read_first.new.self
     (g.G.Gate.turns c.args.gate.now) (g.G.Gate.turns c.read_first.new.gate) (g.G.Gate.turns c.hear_all.new.gate)
     (g.S.Sink.written c.args.sink.now) (g.S.Sink.written c.read_first.new.sink) (g.S.Sink.written c.hear_all.new.sink)
     c.new-station.ensures.order c.in_ok-read_first.ensures.begins c.hear_all.ensures.continues)
 
 pub returns-clause-full : goal.returns-clause-full
 returns-clause-full g c = λ limited.
-    kept_full (order_by c.args.order.now.rules.now c.args.order.now.address.now c.args.order.now.limit c.args.config.now) c.new-station.result c.read_first.new.self
+    kept_full (order_by c.args.order.now.rules.now c.args.order.now.address.now c.args.order.now.limit c.args.config.now) c.new-station.result
+    c.read_first.new.self
     (g.G.Gate.turns c.args.gate.now) (g.G.Gate.turns c.read_first.new.gate) (g.G.Gate.turns c.hear_all.new.gate)
     (g.S.Sink.written c.args.sink.now) (g.S.Sink.written c.read_first.new.sink) (g.S.Sink.written c.hear_all.new.sink)
     c.new-station.ensures.order c.in_ok-read_first.ensures.begins c.hear_all.ensures.continues limited

@@ -1,5 +1,8 @@
 use Rattle.fs_base.{proofs.Grew.{Grew-refl}, specs.Happened.{happened}}
-use Rattle.cmd_wire.{specs.{Keeping.{IsOfKeeping, order_by}, Recording.{at_gate}}, proofs.{Words.{Err, answered_err, ap, arith, config_alone, inl, opened_due, refl, sym, status_of, ◌∙◌}, Statuses.{not_stopped}, RecordingEnds.{never_three}, KeepingEnds.{config_status, ends_stop, ends_unread, keeps_so, some_failed, stop_status, unbegun}}}
+use Rattle.cmd_wire.specs.{Keeping.{IsOfKeeping, order_by}, Recording.{at_gate}}
+use Rattle.cmd_wire.proofs.Words.{Err, answered_err, ap, arith, config_alone, inl, opened_due, refl, sym, status_of, ◌∙◌}
+use Rattle.cmd_wire.proofs.{Statuses.{not_stopped}, RecordingEnds.{never_three}}
+use Rattle.cmd_wire.proofs.KeepingEnds.{config_status, ends_stop, ends_unread, keeps_so, some_failed, stop_status, unbegun}
 use Rattle.cmd_wire.proofs.keeping.keep_rules.Goals as goal
 
 -- the configuration stopped it
@@ -42,7 +45,8 @@ pub returns-clause-ends : goal.returns-clause-ends
 returns-clause-ends g c = λ told.
     rw c.refusal_by.ensures
     (ends_stop c.args.order.now.limit (g.F.Files.holds c.args.files.now) c.args.order.now.config.now c.args.order.now.rules.now c.args.order.now.address.now
-    (happened g.F.Files g.S.Sink c.args.files.now c.load_config.new.files c.args.sink.now c.follow.new.sink) (at_gate g.G.Gate c.args.gate.now c.follow.new.gate)
+    (happened g.F.Files g.S.Sink c.args.files.now c.load_config.new.files c.args.sink.now c.follow.new.sink)
+    (at_gate g.G.Gate c.args.gate.now c.follow.new.gate)
     c.in_ok-config.config c.in-Err.stop (c.in_ok-config.ensures.reaches told)
     (λ e. some_failed (c.follow.ensures.failed (c.in-Err.is ∙ ap Err e)))
     (λ e. c.follow.ensures.full (c.in-Err.is ∙ ap Err e)))
@@ -50,5 +54,6 @@ returns-clause-ends g c = λ told.
 pub returns-clause-keeps : goal.returns-clause-keeps
 returns-clause-keeps g c = λ told.
     keeps_so c.args.order.now.limit (g.F.Files.holds c.args.files.now) c.args.order.now.config.now c.args.order.now.rules.now c.args.order.now.address.now
-    (happened g.F.Files g.S.Sink c.args.files.now c.load_config.new.files c.args.sink.now c.follow.new.sink) (at_gate g.G.Gate c.args.gate.now c.follow.new.gate)
+    (happened g.F.Files g.S.Sink c.args.files.now c.load_config.new.files c.args.sink.now c.follow.new.sink)
+    (at_gate g.G.Gate c.args.gate.now c.follow.new.gate)
     c.in_ok-config.config (c.in_ok-config.ensures.reaches told) c.follow.ensures.keeps

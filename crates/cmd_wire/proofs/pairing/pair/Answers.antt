@@ -1,4 +1,5 @@
-use Rattle.cmd_wire.proofs.{Words.{inl, inr, happened, with_wire, OpensFront, answered_err, arith, config_then, opened_due, refl}, Concluding.{told_desk}, FromPairing.{carries}, FromStages.{broken_session, ends_handed}, Statuses.{not_stopped}}
+use Rattle.cmd_wire.proofs.Words.{inl, inr, happened, with_wire, OpensFront, answered_err, arith, config_then, opened_due, refl}
+use Rattle.cmd_wire.proofs.{Concluding.{told_desk}, FromPairing.{carries}, FromStages.{broken_session, ends_handed}, Statuses.{not_stopped}}
 use Rattle.cmd_wire.proofs.pairing.pair.Goals as goal
 
 pub returns-in_err-config-clause-joins : goal.returns-in_err-config-clause-joins
@@ -16,9 +17,11 @@ returns-in_err-ending-clause-joins g c = λ told.
 pub returns-clause-joins : goal.returns-clause-joins
 returns-clause-joins g c = λ told.
     let found = c.in_ok-config.ensures.reaches told in
-    told_desk _ _ (with_wire g.W.Wire c.args.wire.now c.join.new.wire (happened g.F.Files g.S.Sink c.args.files.now c.load_both.new.files c.args.sink.now c.tell_listing.new.sink)) _
+    told_desk _ _ (with_wire g.W.Wire c.args.wire.now c.join.new.wire
+    (happened g.F.Files g.S.Sink c.args.files.now c.load_both.new.files c.args.sink.now c.tell_listing.new.sink)) _
     (c.in_ok-config.config, c.in_ok-config.sending) c.join.new.ends.hearer.desk c.in_ok-ending.ending found
-    (λ text lists. carries c.args.order.now.limit (g.F.Files.holds c.args.files.now) c.args.order.now.config.now c.args.order.now.rules.now _ _ _ _ text found (c.in_ok-ending.ensures.joined _ _ text c.in_ok-ends.ensures.begins lists))
+    (λ text lists. carries c.args.order.now.limit (g.F.Files.holds c.args.files.now) c.args.order.now.config.now c.args.order.now.rules.now _ _ _ _
+    text found (c.in_ok-ending.ensures.joined _ _ text c.in_ok-ends.ensures.begins lists))
     (rw (← c.desk.ensures) c.tell_listing.ensures.told)
 
 pub returns-in_err-ending-clause-unspoken : goal.returns-in_err-ending-clause-unspoken
@@ -51,16 +54,20 @@ returns-clause-stopped g c = λ told refusal stop. not_stopped (c.in_ok-config.e
 
 pub returns-in_err-config-clause-opens : goal.returns-in_err-config-clause-opens
 returns-in_err-config-clause-opens g c =
-    answered_err (OpensFront (config_then 2 c.args.order.now.config.now c.args.order.now.rules.now) _ _) c.from_residual.result c.in_err-config.field-0.0 c.from_residual.ensures.1 c.in_err-config.ensures.opens
+    answered_err (OpensFront (config_then 2 c.args.order.now.config.now c.args.order.now.rules.now) _ _) c.from_residual.result
+    c.in_err-config.field-0.0 c.from_residual.ensures.1 c.in_err-config.ensures.opens
 
 pub returns-in_err-ends-clause-opens : goal.returns-in_err-ends-clause-opens
 returns-in_err-ends-clause-opens g c =
-    opened_due (config_then 2 c.args.order.now.config.now c.args.order.now.rules.now) 2 (omega (arith)) _ _ _ _ c.in_ok-config.ensures.both refl (omega (arith)) (λ three. omega (arith))
+    opened_due (config_then 2 c.args.order.now.config.now c.args.order.now.rules.now) 2 (omega (arith)) _ _ _ _ c.in_ok-config.ensures.both refl
+    (omega (arith)) (λ three. omega (arith))
 
 pub returns-in_err-ending-clause-opens : goal.returns-in_err-ending-clause-opens
 returns-in_err-ending-clause-opens g c =
-    opened_due (config_then 2 c.args.order.now.config.now c.args.order.now.rules.now) 2 (omega (arith)) _ _ _ _ c.in_ok-config.ensures.both refl (omega (arith)) (λ three. omega (arith))
+    opened_due (config_then 2 c.args.order.now.config.now c.args.order.now.rules.now) 2 (omega (arith)) _ _ _ _ c.in_ok-config.ensures.both refl
+    (omega (arith)) (λ three. omega (arith))
 
 pub returns-clause-opens : goal.returns-clause-opens
 returns-clause-opens g c =
-    opened_due (config_then 2 c.args.order.now.config.now c.args.order.now.rules.now) 2 (omega (arith)) _ _ _ _ c.in_ok-config.ensures.both refl (omega (arith)) (λ three. omega (arith))
+    opened_due (config_then 2 c.args.order.now.config.now c.args.order.now.rules.now) 2 (omega (arith)) _ _ _ _ c.in_ok-config.ensures.both refl
+    (omega (arith)) (λ three. omega (arith))

@@ -36,7 +36,8 @@ returns-in_err-buffer-clause-full g c = λ limited. absurd (no_memory c.from_res
 pub returns-in_err-recorder-clause-full : goal.returns-in_err-recorder-clause-full
 returns-in_err-recorder-clause-full g c = λ limited.
     filled_by_magic c.args.limit c.args.config.now _
-    (c.in_err-recorder.ensures.limit (handed_on c.in_err-recorder.field-0.0 c.from_residual-in_err-recorder.result c.from_residual-in_err-recorder.ensures.1 limited))
+    (c.in_err-recorder.ensures.limit
+    (handed_on c.in_err-recorder.field-0.0 c.from_residual-in_err-recorder.result c.from_residual-in_err-recorder.ensures.1 limited))
 
 pub returns-clause-full : goal.returns-clause-full
 returns-clause-full g c =

@@ -8,7 +8,8 @@ returns-clause-hears g c =
     let small : c.args.event.moment < 2 ^ 64 = search rules in
     both_ok c.hear.result c.hear.ensures.did c.hear.ensures.stay (λ did stay before told.
     hears_of c.args.recorder.now c.hear.new.self c.args.event.moment c.args.event.time (what_from c.args.event.came (drop 15 c.args.buffer.now)) small
-    before (g.G.Gate.turns c.args.gate.now) (g.G.Gate.turns c.hear.new.gate) (g.S.Sink.written c.args.sink.now) (g.S.Sink.written c.hear.new.sink) told did stay)
+    before (g.G.Gate.turns c.args.gate.now) (g.G.Gate.turns c.hear.new.gate) (g.S.Sink.written c.args.sink.now)
+    (g.S.Sink.written c.hear.new.sink) told did stay)
 
 pub returns-clause-breaks : goal.returns-clause-breaks
 returns-clause-breaks g c =

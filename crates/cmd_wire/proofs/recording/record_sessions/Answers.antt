@@ -1,5 +1,9 @@
 use Rattle.fs_base.{proofs.Grew.{Grew-refl}, specs.Happened.{happened}}
-use Rattle.cmd_wire.{specs.Recording.{IsOfRecording, at_gate}, proofs.{Words.{Err, Outside, answered_err, ap, arith, config_alone, inl, opened_due, refl, sym, status_of, ◌∙◌}, Statuses.{not_stopped}, RecordingEnds.{config_status, ends_stop, ends_unopened, ends_unread, never_three, opened_first, opened_full, records_so, some_failed, stop_status, unbegun}}}
+use Rattle.cmd_wire.specs.Recording.{IsOfRecording, at_gate}
+use Rattle.cmd_wire.proofs.Words.{Err, Outside, answered_err, ap, arith, config_alone, inl, opened_due, refl, sym, status_of, ◌∙◌}
+use Rattle.cmd_wire.proofs.Statuses.{not_stopped}
+use Rattle.cmd_wire.proofs.RecordingEnds.{config_status, ends_stop, ends_unopened, ends_unread, never_three, opened_first, opened_full, records_so}
+use Rattle.cmd_wire.proofs.RecordingEnds.{some_failed, stop_status, unbegun}
 use Rattle.cmd_wire.proofs.recording.record_sessions.Goals as goal
 
 -- the configuration stopped it
@@ -65,7 +69,8 @@ pub returns-clause-ends : goal.returns-clause-ends
 returns-clause-ends g c = λ told.
     rw c.refusal_by.ensures
     (ends_stop c.args.order.now.limit (g.F.Files.holds c.args.files.now) c.args.order.now.config.now
-    (happened g.F.Files g.S.Sink c.args.files.now c.load_config.new.files c.args.sink.now c.follow.new.sink) (at_gate g.G.Gate c.args.gate.now c.follow.new.gate)
+    (happened g.F.Files g.S.Sink c.args.files.now c.load_config.new.files c.args.sink.now c.follow.new.sink)
+    (at_gate g.G.Gate c.args.gate.now c.follow.new.gate)
     c.in_ok-config.config c.in-Err.stop (c.in_ok-config.ensures.reaches told)
     (λ e. some_failed _ _ _ (g.G.Gate.faults c.open.new.self) _ _ c.in_ok-open.ensures.cause.later
     (c.follow.ensures.failed (c.in-Err.is ∙ ap Err e)))
@@ -75,6 +80,7 @@ returns-clause-ends g c = λ told.
 pub returns-clause-records : goal.returns-clause-records
 returns-clause-records g c = λ told.
     records_so c.args.order.now.limit (g.F.Files.holds c.args.files.now) c.args.order.now.config.now c.in_ok-config.config
-    (happened g.F.Files g.S.Sink c.args.files.now c.load_config.new.files c.args.sink.now c.follow.new.sink) (at_gate g.G.Gate c.args.gate.now c.follow.new.gate)
+    (happened g.F.Files g.S.Sink c.args.files.now c.load_config.new.files c.args.sink.now c.follow.new.sink)
+    (at_gate g.G.Gate c.args.gate.now c.follow.new.gate)
     (c.in_ok-config.ensures.reaches told)
     (opened_first c.in_ok-config.config _ (g.G.Gate.turns c.open.new.self) _ _ _ c.in_ok-open.ensures.opened c.follow.ensures.records)

@@ -7,4 +7,5 @@ loop-community-init c = rw c.in_ok-list.ensures (gathered_none c.as_chunks.resul
 
 pub loop-community-preserved : goal.loop-community-preserved
 loop-community-preserved c =
-    rw c.in_ok-insert.ensures.ok (gathered_one c.as_chunks.result.0.now c.loop-community.community-index c.loop-community.list.items [] c.in-Some.action (omega arith) (sym c.in-Some.ensures.value) c.in-Some.ensures.action c.loop-community.invariant)
+    rw c.in_ok-insert.ensures.ok (gathered_one c.as_chunks.result.0.now c.loop-community.community-index c.loop-community.list.items []
+    c.in-Some.action (omega arith) (sym c.in-Some.ensures.value) c.in-Some.ensures.action c.loop-community.invariant)

@@ -4,7 +4,8 @@ use Rattle.fs_actions.proofs.actions.insert.Goals as goal
 
 pub returns-in-Ok-clause-ok : goal.returns-in-Ok-clause-ok
 returns-in-Ok-clause-ok c =
-    rw (← c.deref.ensures.value) (sym (action_held c.args.action c.deref.result.now _ c.in-Ok.ensures.bound (rw c.deref.ensures.value c.requires.rising) c.in-Ok.ensures.ok))
+    rw (← c.deref.ensures.value) (sym
+    (action_held c.args.action c.deref.result.now _ c.in-Ok.ensures.bound (rw c.deref.ensures.value c.requires.rising) c.in-Ok.ensures.ok))
 
 pub returns-in_ok-insert-in-Err-clause-ok : goal.returns-in_ok-insert-in-Err-clause-ok
 returns-in_ok-insert-in-Err-clause-ok c =

@@ -1,4 +1,6 @@
-use Rattle.fs_attrs.proofs.{Words.{◌≡◌, ℕ, Bool, true, false, not, ◌&&◌, if◌then◌else◌, List, Option, refl, Some, None, sym, subst, ap, ◌∙◌, Attribute, Valued, attributes_of, are_attributes, routes_doubled, values_of, lent, lent_values}, AttributeScans.{SoFar, attributes_end, whole_more, whole_end, kept_next, kept_twice, kept_all, kept_once}}
+use Rattle.fs_attrs.proofs.Words.{◌≡◌, ℕ, Bool, true, false, not, ◌&&◌, if◌then◌else◌, List, Option, refl, Some, None, sym, subst, ap, ◌∙◌, Attribute}
+use Rattle.fs_attrs.proofs.Words.{Valued, attributes_of, are_attributes, routes_doubled, values_of, lent, lent_values}
+use Rattle.fs_attrs.proofs.AttributeScans.{SoFar, attributes_end, whole_more, whole_end, kept_next, kept_twice, kept_all, kept_once}
 use Rattle.fs_attrs.proofs.attributes.read_values.Goals as goal
 
 -- over the two tests
@@ -17,21 +19,25 @@ loop-attribute-preserved c =
       whole = sym (whole_more c.loop-attribute.rest.now next (sym c.in-Some.ensures)) ∙ c.loop-attribute.invariant.whole;
       found =
           subst (λ (z : Valued). SoFar z (attributes_of next.1) all) (sym c.keep.ensures)
-          (kept_next (lent_values c.loop-attribute.values) c.loop-attribute.rest.now next all (sym c.in-Some.ensures) (sym c.has_routes_of.ensures ∙ c.if-has_routes_of.false) c.loop-attribute.invariant.found);
+          (kept_next (lent_values c.loop-attribute.values) c.loop-attribute.rest.now next all (sym c.in-Some.ensures) (sym c.has_routes_of.ensures
+          ∙ c.if-has_routes_of.false) c.loop-attribute.invariant.found);
     }
 
 pub returns-then-has_routes_of : goal.returns-then-has_routes_of
 returns-then-has_routes_of c =
     let all : List Attribute = attributes_of c.args.octets.now in
-    let twice = kept_twice (lent_values c.loop-attribute.values) c.loop-attribute.rest.now (lent c.in-Some.attribute, c.in-Some.behind.now) all (sym c.in-Some.ensures)
+    let twice = kept_twice (lent_values c.loop-attribute.values) c.loop-attribute.rest.now (lent c.in-Some.attribute, c.in-Some.behind.now) all
+    (sym c.in-Some.ensures)
     (sym c.has_routes_of.ensures ∙ c.if-has_routes_of.true) c.loop-attribute.invariant.found in
-    none_doubled (are_attributes c.args.octets.now) (values_of all) ∙ ap (λ (b : Bool). values_at (are_attributes c.args.octets.now) b (values_of all)) (sym twice)
+    none_doubled (are_attributes c.args.octets.now) (values_of all)
+    ∙ ap (λ (b : Bool). values_at (are_attributes c.args.octets.now) b (values_of all)) (sym twice)
 
 pub returns-then-is_empty : goal.returns-then-is_empty
 returns-then-is_empty c =
     let octets : List ℕ = c.loop-attribute.rest.now in
     let all : List Attribute = attributes_of c.args.octets.now in
-    let so = subst (λ (z : List Attribute). SoFar (lent_values c.loop-attribute.values) z all) (attributes_end octets (sym c.in_default.ensures)) c.loop-attribute.invariant.found in
+    let so = subst (λ (z : List Attribute). SoFar (lent_values c.loop-attribute.values) z all) (attributes_end octets (sym c.in_default.ensures))
+    c.loop-attribute.invariant.found in
     let whole : true ≡ are_attributes c.args.octets.now =
     sym c.if-is_empty.true ∙ c.is_empty.ensures ∙ sym (whole_end octets (sym c.in_default.ensures)) ∙ c.loop-attribute.invariant.whole in
     ap (λ (z : Valued). Some z) (kept_all (lent_values c.loop-attribute.values) all so)

@@ -1,4 +1,5 @@
-use Rattle.fs_attrs.proofs.{Words.{List, sym, ap, ◌∙◌, map, map_push, Prefix, parts_of, shown, Shown, first_prefix}, PartSizes.{prefix_shrinks}, PartLists.{behind, gathered_more, gathered_all, if_whole}}
+use Rattle.fs_attrs.proofs.Words.{List, sym, ap, ◌∙◌, map, map_push, Prefix, parts_of, shown, Shown, first_prefix}
+use Rattle.fs_attrs.proofs.{PartSizes.{prefix_shrinks}, PartLists.{behind, gathered_more, gathered_all, if_whole}}
 use Rattle.fs_attrs.proofs.prefixes.read_prefixes.Goals as goal
 
 pub loop-prefix-preserved : goal.loop-prefix-preserved
@@ -12,4 +13,5 @@ loop-prefix-preserved c =
 pub returns : goal.returns
 returns c =
     c.list_at_end.ensures
-    ∙ ap if_whole (sym (gathered_all (first_prefix c.args.family) (map shown c.loop-prefix.prefixes.items) c.loop-prefix.rest.now (sym c.in_default.ensures)) ∙ c.loop-prefix.invariant)
+    ∙ ap if_whole (sym (gathered_all (first_prefix c.args.family) (map shown c.loop-prefix.prefixes.items) c.loop-prefix.rest.now
+    (sym c.in_default.ensures)) ∙ c.loop-prefix.invariant)

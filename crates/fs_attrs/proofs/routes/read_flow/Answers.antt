@@ -1,4 +1,5 @@
-use Rattle.fs_attrs.proofs.{Words.{ℕ, ◌<◌, Err, subst, sym, arith, All-from_get_or, IsOctets, UpdateFault, ReadsAs, flow_routes}, FieldOutcome.{flow_found, flow_bad}}
+use Rattle.fs_attrs.proofs.Words.{ℕ, ◌<◌, Err, subst, sym, arith, All-from_get_or, IsOctets, UpdateFault, ReadsAs, flow_routes}
+use Rattle.fs_attrs.proofs.FieldOutcome.{flow_found, flow_bad}
 use Rattle.fs_attrs.proofs.routes.read_flow.Goals as goal
 
 pub returns-in-Ok : goal.returns-in-Ok

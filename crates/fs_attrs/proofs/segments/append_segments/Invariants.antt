@@ -2,4 +2,5 @@ use Rattle.fs_attrs.proofs.Words.{◌≡◌, ◌++◌, take, All, AreNumbers, se
 use Rattle.fs_attrs.proofs.segments.append_segments.Given as goal
 
 abbrev pub invariant-loop-segment : goal.invariant-loop-segment
-invariant-loop-segment l = (l.out.items ≡ l.initial.out.items ++ segments_text l.four (take l.segment-index l.segments)) × All AreNumbers (take l.segment-index l.segments)
+invariant-loop-segment l = (l.out.items ≡ l.initial.out.items ++ segments_text l.four (take l.segment-index l.segments))
+    × All AreNumbers (take l.segment-index l.segments)

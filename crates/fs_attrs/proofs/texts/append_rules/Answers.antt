@@ -1,4 +1,5 @@
-use Rattle.fs_attrs.proofs.Words.{◌≡◌, ◌++◌, ◌∷◌, [], ℕ, List, ◌+◌, take, sym, ap, subst, ◌∙◌, arith, flat_map_more, take_more, All-more, Ruled, IsRule, canonical_frame, rules_text}
+use Rattle.fs_attrs.proofs.Words.{◌≡◌, ◌++◌, ◌∷◌, [], ℕ, List, ◌+◌, take, sym, ap, subst, ◌∙◌, arith, flat_map_more, take_more, All-more, Ruled}
+use Rattle.fs_attrs.proofs.Words.{IsRule, canonical_frame, rules_text}
 use Rattle.fs_attrs.proofs.texts.append_rules.Goals as goal
 
 pub loop-rule-preserved : goal.loop-rule-preserved

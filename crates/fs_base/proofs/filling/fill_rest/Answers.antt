@@ -1,4 +1,5 @@
-use Rattle.fs_base.proofs.{Words.{rules, arith, sym, inl, inr, refl, ◌≡◌, ◌≤◌, ◌+◌, PassesIn}, Filled.{dropped_more, filled_more, fills_in, none_read}, Passing.{passes_in}}
+use Rattle.fs_base.proofs.Words.{rules, arith, sym, inl, inr, refl, ◌≡◌, ◌≤◌, ◌+◌, PassesIn}
+use Rattle.fs_base.proofs.{Filled.{dropped_more, filled_more, fills_in, none_read}, Passing.{passes_in}}
 use Rattle.fs_base.proofs.filling.fill_rest.Goals as goal
 
 pub loop-at-preserved : goal.loop-at-preserved

@@ -1,4 +1,7 @@
-use Rattle.fs_buckets.proofs.{Words.{◌≡◌, ℕ, Option, Some, is_some, length, sym, ap, subst, ◌∙◌, arith, ◌+◌, ◌-◌, IfOk-weaker, splice, all_admitted, spans_of, AreTo, target_of, AreBucketsOf, HasStretch}, Replacing.{mended, none_stay, rules_size, same_stay, spans_size, subnet_to}, Stretching.{rest_bare}}
+use Rattle.fs_buckets.proofs.Words.{◌≡◌, ℕ, Option, Some, is_some, length, sym, ap, subst, ◌∙◌, arith, ◌+◌, ◌-◌, IfOk-weaker, splice, all_admitted}
+use Rattle.fs_buckets.proofs.Words.{spans_of, AreTo, target_of, AreBucketsOf, HasStretch}
+use Rattle.fs_buckets.proofs.Replacing.{mended, none_stay, rules_size, same_stay, spans_size, subnet_to}
+use Rattle.fs_buckets.proofs.Stretching.{rest_bare}
 use Rattle.fs_buckets.proofs.mending.mended.Goals as goal
 
 pub returns-in_default : goal.returns-in_default
@@ -10,7 +13,8 @@ returns-in_default c = λ rules h.
 
 pub returns-then-list-to : goal.returns-then-list-to
 returns-then-list-to c = λ rules h.
-    same_stay c.args.family rules c.args.old (target_of c.args.destination) c.args.from c.args.to (length c.args.list.now) (spans_of (all_admitted c.args.list.now))
+    same_stay c.args.family rules c.args.old (target_of c.args.destination) c.args.from c.args.to (length c.args.list.now)
+    (spans_of (all_admitted c.args.list.now))
     h c.requires.sound c.requires.there (omega (arith, c.if-list-to.true)) (spans_size c.args.list.now)
 
 pub mended_runs-requires-clause-some : goal.mended_runs-requires-clause-some
@@ -69,8 +73,10 @@ returns-in_ok-runs-in-None c = IfOk-weaker c.buckets_with.result _ _
     let news = all_admitted c.args.list.now in
     let size = c.in_ok-runs-in-None.ensures.count in
     let homes = c.requires.homes (ap is_some c.in-Some.is) in
-    let m = mended c.args.family rules c.args.old (target_of c.args.destination) c.args.from c.args.to news h homes c.requires.sound c.requires.each c.requires.there in
-    made _ (splice (spans_of rules) c.args.from c.args.to (spans_of news)) (omega (arith, h.whole, size)) (c.in_ok-runs-in-None.ensures.runs _ m.mends) m.nesting
+    let m = mended c.args.family rules c.args.old (target_of c.args.destination) c.args.from c.args.to news h homes c.requires.sound c.requires.each
+    c.requires.there in
+    made _ (splice (spans_of rules) c.args.from c.args.to (spans_of news)) (omega (arith, h.whole, size))
+    (c.in_ok-runs-in-None.ensures.runs _ m.mends) m.nesting
     (rest_bare (spans_of rules) (spans_of news) c.args.old c.args.from c.args.to _ h.housed h.stretch.ordered homes
     (omega (arith, h.whole, rules_size rules)) (omega (arith, size, spans_size c.args.list.now))))
     c.buckets_with.ensures

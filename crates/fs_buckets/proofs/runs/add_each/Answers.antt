@@ -1,10 +1,13 @@
-use Rattle.fs_buckets.proofs.Words.{◌≡◌, ℕ, ◌+◌, ◌-◌, ◌^◌, ◌<◌, Option, Some, None, option_map, List, length, get_or, sym, ap, subst, ◌∙◌, arith, get_or-map, length-map, Ruled, destination_of, shown, Listed, all_admitted, shown_lent, LentRule, span_by, span_of, spans_of}
+use Rattle.fs_buckets.proofs.Words.{◌≡◌, ℕ, ◌+◌, ◌-◌, ◌^◌, ◌<◌, Option, Some, None, option_map, List, length, get_or, sym, ap, subst, ◌∙◌, arith}
+use Rattle.fs_buckets.proofs.Words.{get_or-map, length-map, Ruled, destination_of, shown, Listed, all_admitted, shown_lent, LentRule, span_by}
+use Rattle.fs_buckets.proofs.Words.{span_of, spans_of}
 use Rattle.fs_base.specs.{declared.prefix.Prefix.{Prefix}, Prefix.{last_address}}
 use Rattle.fs_buckets.proofs.runs.add_each.Goals as goal
 use Rattle.fs_buckets.proofs.Replacing.{spans_size}
 
 -- the span of the rule of a number
-span_is : (list : List LentRule) (i : ℕ) (a : LentRule) → i < length list → a ≡ get_or list i a → get_or (spans_of (all_admitted list)) i None ≡ span_of a.rule.now
+span_is : (list : List LentRule) (i : ℕ) (a : LentRule) → i < length list → a ≡ get_or list i a
+    → get_or (spans_of (all_admitted list)) i None ≡ span_of a.rule.now
 span_is list i a below is =
     get_or-map (λ (r : Listed). span_of r.rule) (all_admitted list) i (shown_lent a) None (omega (arith, below, length-map list shown_lent))
     ∙ ap (λ (r : Listed). span_of r.rule) (get_or-map shown_lent list i a (shown_lent a) below ∙ ap shown_lent (sym is))
@@ -12,7 +15,8 @@ span_is list i a below is =
 bare_span : (o : Option Prefix) (rule : Ruled) → o ≡ None → option_map shown o ≡ destination_of rule → span_of rule ≡ None
 bare_span o rule none e = ap span_by (sym e ∙ ap (option_map shown) none)
 
-some_span : (p : Prefix) (rule : Ruled) (last : ℕ) → option_map shown (Some p) ≡ destination_of rule → last ≡ last_address p → span_of rule ≡ Some (p.bits, last)
+some_span : (p : Prefix) (rule : Ruled) (last : ℕ) → option_map shown (Some p) ≡ destination_of rule → last ≡ last_address p
+    → span_of rule ≡ Some (p.bits, last)
 some_span p rule last e l = ap span_by (sym e) ∙ ap (λ (n : ℕ). Some (p.bits, n)) (sym l)
 
 pub returns-in_default-clause-rest : goal.returns-in_default-clause-rest

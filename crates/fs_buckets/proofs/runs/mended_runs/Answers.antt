@@ -1,4 +1,6 @@
-use Rattle.fs_buckets.proofs.{Words.{◌≡◌, ◌⊎◌, inl, inr, ℕ, ◌+◌, ◌-◌, ◌<◌, ◌≤◌, Option, None, List, length, get_or, sym, ap, subst, ◌∙◌, arith, cases_lt, all_admitted, LentRule, Buckets, AreAll, AreNarrow, spans_of, Adds, Keeps}, Replacing.{spans_size}}
+use Rattle.fs_buckets.proofs.Words.{◌≡◌, ◌⊎◌, inl, inr, ℕ, ◌+◌, ◌-◌, ◌<◌, ◌≤◌, Option, None, List, length, get_or, sym, ap, subst, ◌∙◌, arith}
+use Rattle.fs_buckets.proofs.Words.{cases_lt, all_admitted, LentRule, Buckets, AreAll, AreNarrow, spans_of, Adds, Keeps}
+use Rattle.fs_buckets.proofs.Replacing.{spans_size}
 use Rattle.fs_buckets.proofs.runs.mended_runs.Goals as goal
 
 -- where each has a destination all were added
@@ -49,7 +51,8 @@ add_each-requires-clause-some c =
     )
 
 -- the rules behind the stretch stand behind the new ones
-back_at : (b : Buckets) (list : List LentRule) (from to size n : ℕ) (spans : List (Option (ℕ × ℕ))) → n ≡ from + length (spans_of (all_admitted list)) → size ≡ length b.homes.items
+back_at : (b : Buckets) (list : List LentRule) (from to size n : ℕ) (spans : List (Option (ℕ × ℕ))) → n ≡ from + length (spans_of (all_admitted list))
+    → size ≡ length b.homes.items
     → Keeps b to (length b.homes.items) (from + length (spans_of (all_admitted list))) spans → Keeps b to size n spans
 back_at b list from to size n spans is whole keeps = λ k above below.
     ap (λ m. get_or spans (m + (k - to)) None) is ∙ keeps k above (subst (λ m. k < m) whole below)

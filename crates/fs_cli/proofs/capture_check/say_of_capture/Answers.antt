@@ -3,7 +3,8 @@ use Rattle.fs_cli.proofs.capture_check.say_of_capture.Goals as goal
 
 pub returns-in-Err-clause-said : goal.returns-in-Err-clause-said
 returns-in-Err-clause-said g c = λ told.
-    capture_unsaid c.args.limit (g.F.Files.holds c.args.files.now) c.args.capture.now (Rose (g.F.Files.faults c.args.files.now) (g.F.Files.faults c.survey_capture.new.files))
+    capture_unsaid c.args.limit (g.F.Files.holds c.args.files.now) c.args.capture.now
+    (Rose (g.F.Files.faults c.args.files.now) (g.F.Files.faults c.survey_capture.new.files))
     c.in-Err.refusal (c.in-Err.ensures.said told)
 
 pub returns-in-Ok-clause-opens : goal.returns-in-Ok-clause-opens

@@ -44,15 +44,19 @@ items-smaller g c = let grows = rw c.in-Some.is at c.in_ok-moment.ensures.grows 
 
 pub returns-in_err-moment-clause-follows : goal.returns-in_err-moment-clause-follows
 returns-in_err-moment-clause-follows g c = λ told.
-    followed_ceased (g.F.Files.faults c.args.files.now) (g.F.Files.faults c.items.files) (g.F.Files.faults c.play_next.new.files) _ c.in_err-moment.field-0.0 c.from_residual.result
+    followed_ceased (g.F.Files.faults c.args.files.now) (g.F.Files.faults c.items.files)
+    (g.F.Files.faults c.play_next.new.files) _ c.in_err-moment.field-0.0 c.from_residual.result
     (c.items.invariant.following told) c.items.invariant.files_later (c.in_err-moment.ensures.played told) c.from_residual.ensures.1
 
 pub returns-in_err-tell_item-clause-follows : goal.returns-in_err-tell_item-clause-follows
 returns-in_err-tell_item-clause-follows g c = λ told.
     let played = rw c.in-Some.is at (c.in_ok-moment.ensures.played told) in
-    followed_unwritten _ c.in-Some.moment played.0 c.play_next.new.self.desk _ (Rose (g.F.Files.faults c.args.files.now) (g.F.Files.faults c.play_next.new.files))
-    (g.S.Sink.faults c.args.sink.now) (g.S.Sink.faults c.items.sink) (g.S.Sink.faults c.tell_item.new.sink) c.in_err-tell_item.field-0.0 c.from_residual-in_err-tell_item.result
-    (c.items.invariant.following told) played.1 played.2 c.items.invariant.sink_later c.in_err-tell_item.ensures.written c.from_residual-in_err-tell_item.ensures.1
+    followed_unwritten _ c.in-Some.moment played.0 c.play_next.new.self.desk _
+    (Rose (g.F.Files.faults c.args.files.now) (g.F.Files.faults c.play_next.new.files))
+    (g.S.Sink.faults c.args.sink.now) (g.S.Sink.faults c.items.sink) (g.S.Sink.faults c.tell_item.new.sink) c.in_err-tell_item.field-0.0
+    c.from_residual-in_err-tell_item.result
+    (c.items.invariant.following told) played.1 played.2 c.items.invariant.sink_later c.in_err-tell_item.ensures.written
+    c.from_residual-in_err-tell_item.ensures.1
 
 pub returns-clause-follows : goal.returns-clause-follows
 returns-clause-follows g c = λ told.

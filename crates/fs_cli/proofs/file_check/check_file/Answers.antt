@@ -1,11 +1,14 @@
-use Rattle.fs_cli.proofs.{Words.{◌⊎◌, ℕ, inl, inr, subst, sym, IsOneOf, Rose}, Checking.{file_said, file_unsaid, never_two, never_quiet, opens_said, said_possible}}
+use Rattle.fs_cli.proofs.Words.{◌⊎◌, ℕ, inl, inr, subst, sym, IsOneOf, Rose}
+use Rattle.fs_cli.proofs.Checking.{file_said, file_unsaid, never_two, never_quiet, opens_said, said_possible}
 use Rattle.fs_cli.specs.FileCheck.{ChecksFileSo, file_openings, file_shown, file_statuses, said_shown}
 use Rattle.fs_cli.proofs.file_check.check_file.Goals as goal
 
 pub returns-in-Ok-clause-checks : goal.returns-in-Ok-clause-checks
 returns-in-Ok-clause-checks g c = λ told.
-    file_said c.args.limit (g.F.Files.holds c.args.files.now) (file_shown c.args.checked) (Rose (g.S.Sink.faults c.args.sink.now) (g.S.Sink.faults c.write_said.new.sink))
-    (Rose (g.F.Files.faults c.args.files.now) (g.F.Files.faults c.say_of_file.new.files) ⊎ Rose (g.S.Sink.faults c.args.sink.now) (g.S.Sink.faults c.write_said.new.sink))
+    file_said c.args.limit (g.F.Files.holds c.args.files.now) (file_shown c.args.checked)
+    (Rose (g.S.Sink.faults c.args.sink.now) (g.S.Sink.faults c.write_said.new.sink))
+    (Rose (g.F.Files.faults c.args.files.now) (g.F.Files.faults c.say_of_file.new.files)
+    ⊎ Rose (g.S.Sink.faults c.args.sink.now) (g.S.Sink.faults c.write_said.new.sink))
     (g.S.Sink.written c.args.sink.now) (g.S.Sink.written c.write_said.new.sink) (said_shown c.in-Ok.said) c.write_said.result
     (c.in-Ok.ensures.said told) c.write_said.ensures.answers (λ r. inr r)
 
@@ -13,11 +16,14 @@ pub returns-in-Err-clause-checks : goal.returns-in-Err-clause-checks
 returns-in-Err-clause-checks g c = λ told.
     subst
     (λ (n : ℕ). ChecksFileSo c.args.limit (g.F.Files.holds c.args.files.now) (file_shown c.args.checked)
-    (Rose (g.F.Files.faults c.args.files.now) (g.F.Files.faults c.say_of_file.new.files) ⊎ Rose (g.S.Sink.faults c.args.sink.now) (g.S.Sink.faults c.args.sink.now))
+    (Rose (g.F.Files.faults c.args.files.now) (g.F.Files.faults c.say_of_file.new.files)
+    ⊎ Rose (g.S.Sink.faults c.args.sink.now) (g.S.Sink.faults c.args.sink.now))
     (g.S.Sink.written c.args.sink.now) (g.S.Sink.written c.args.sink.now) n)
     (sym c.status.ensures)
-    (file_unsaid c.args.limit (g.F.Files.holds c.args.files.now) (file_shown c.args.checked) (Rose (g.F.Files.faults c.args.files.now) (g.F.Files.faults c.say_of_file.new.files))
-    (Rose (g.F.Files.faults c.args.files.now) (g.F.Files.faults c.say_of_file.new.files) ⊎ Rose (g.S.Sink.faults c.args.sink.now) (g.S.Sink.faults c.args.sink.now))
+    (file_unsaid c.args.limit (g.F.Files.holds c.args.files.now) (file_shown c.args.checked)
+    (Rose (g.F.Files.faults c.args.files.now) (g.F.Files.faults c.say_of_file.new.files))
+    (Rose (g.F.Files.faults c.args.files.now) (g.F.Files.faults c.say_of_file.new.files)
+    ⊎ Rose (g.S.Sink.faults c.args.sink.now) (g.S.Sink.faults c.args.sink.now))
     (g.S.Sink.written c.args.sink.now) c.in-Err.refusal (c.in-Err.ensures.said told) (λ r. inl r))
 
 pub returns-in-Ok-clause-possible : goal.returns-in-Ok-clause-possible
@@ -42,4 +48,5 @@ returns-in-Ok-clause-quiet g c = λ early. never_quiet c.in-Ok.said.status c.wri
 
 pub returns-in-Ok-clause-opens : goal.returns-in-Ok-clause-opens
 returns-in-Ok-clause-opens g c =
-    opens_said (file_openings (file_shown c.args.checked)) _ _ c.in-Ok.said.status c.write_said.result c.in-Ok.ensures.opens c.in-Ok.ensures.accepted.0 c.write_said.ensures.late
+    opens_said (file_openings (file_shown c.args.checked)) _ _ c.in-Ok.said.status c.write_said.result c.in-Ok.ensures.opens
+    c.in-Ok.ensures.accepted.0 c.write_said.ensures.late

@@ -2,7 +2,8 @@ use Rattle.fs_cli.proofs.Checking.{config_possible, rules_possible, tape_possibl
 use Rattle.fs_cli.proofs.file_check.say_of_file.Goals as goal
 
 pub returns-in-Config-clause-possible : goal.returns-in-Config-clause-possible
-returns-in-Config-clause-possible g c = rw c.in-Config.is (config_possible c.say_of_config.result c.say_of_config.ensures.possible c.say_of_config.ensures.accepted)
+returns-in-Config-clause-possible g c =
+    rw c.in-Config.is (config_possible c.say_of_config.result c.say_of_config.ensures.possible c.say_of_config.ensures.accepted)
 
 pub returns-in-Config-clause-said : goal.returns-in-Config-clause-said
 returns-in-Config-clause-said g c = rw c.in-Config.is c.say_of_config.ensures.said

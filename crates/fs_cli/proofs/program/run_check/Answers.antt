@@ -7,5 +7,6 @@ returns-in-Ok-write_all-clause-checks g c = inr (record {
   text = c.in-Ok.report.text.items;
   reports = c.in-Ok.ensures;
   answers = said_by (checked c.in-Ok.report.accepted) c.in-Ok.report.text.items _ _ _ _ (inl c.checked.ensures)
-      (subst (λ (text : List ℕ). Grew (g.S.Sink.written c.args.sink.now) (g.S.Sink.written c.write_all.new.sink) text) c.deref.ensures.value c.in-Ok-write_all.ensures.ok);
+      (subst (λ (text : List ℕ). Grew (g.S.Sink.written c.args.sink.now) (g.S.Sink.written c.write_all.new.sink) text) c.deref.ensures.value
+      c.in-Ok-write_all.ensures.ok);
 })

@@ -15,12 +15,16 @@ items-preserved g c = record {
   later = omega (arith, c.items.invariant.later, c.in_ok-item.ensures.later);
   opened = c.in_ok-item.ensures.opened ∙ c.items.invariant.opened;
   counting = λ told.
-      counting_more _ _ _ c.args.nothing c.items.counts c.with_item-counts.result (timed c.next_item.new.tape.moment (item_from c.in-Some.item c.next_item.new.buffer)) (c.items.invariant.counting told)
+      counting_more _ _ _ c.args.nothing c.items.counts c.with_item-counts.result
+      (timed c.next_item.new.tape.moment (item_from c.in-Some.item c.next_item.new.buffer)) (c.items.invariant.counting told)
       (subst (λ (slot : ℕ).
       coming c.args.config.now c.items.tape (g.F.Files.left c.items.files c.items.tape.slot)
-      ≡ with_part (timed c.next_item.new.tape.moment (item_from c.in-Some.item c.next_item.new.buffer)) (coming c.args.config.now c.next_item.new.tape (g.F.Files.left c.next_item.new.files slot)))
+      ≡ with_part (timed c.next_item.new.tape.moment (item_from c.in-Some.item c.next_item.new.buffer))
+      (coming c.args.config.now c.next_item.new.tape (g.F.Files.left c.next_item.new.files slot)))
       (sym c.in_ok-item.ensures.slot) (rw c.in-Some.is at (c.in_ok-item.ensures.gives told)))
-      (λ gone of. subst (λ (moment : ℕ). CountsOf c.with_item-counts.result (gone ++ timed moment (item_from c.in-Some.item c.next_item.new.buffer) ∷ [])) c.moment.ensures (c.with_item-counts.ensures.counts gone of));
+      (λ gone of. subst (λ (moment : ℕ).
+      CountsOf c.with_item-counts.result (gone ++ timed moment (item_from c.in-Some.item c.next_item.new.buffer) ∷ [])) c.moment.ensures
+      (c.with_item-counts.ensures.counts gone of));
 }
 
 pub returns-clause-counted : goal.returns-clause-counted

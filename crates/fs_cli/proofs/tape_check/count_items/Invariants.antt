@@ -14,7 +14,8 @@ invariant-items g l = record {
   later : g.F.Files.faults l.fn.files ≤ g.F.Files.faults l.files;
   opened : g.F.Files.opened l.files ≡ g.F.Files.opened l.fn.files;
   counting : IsTrue g.F.Files.tells
-      → Counting (coming l.config l.fn.tape (g.F.Files.left l.fn.files l.fn.tape.slot)) (coming l.config l.tape (g.F.Files.left l.files l.tape.slot)) l.fn.nothing l.counts;
+      → Counting (coming l.config l.fn.tape (g.F.Files.left l.fn.files l.fn.tape.slot)) (coming l.config l.tape (g.F.Files.left l.files l.tape.slot))
+      l.fn.nothing l.counts;
 }
 
 abbrev pub decreases-items : goal.decreases-items

@@ -6,7 +6,8 @@ use Rattle.fs_cli.proofs.tape_check.count_tape.Goals as goal
 
 pub returns-in-Ok-clause-counted : goal.returns-in-Ok-clause-counted
 returns-in-Ok-clause-counted g c = λ told.
-    tape_counted c.args.config.now c.args.limit (g.F.Files.holds c.args.files.now) c.args.name.now (g.F.Files.left c.open_tape.new.files 1) c.in_ok-tape.tape c.version-version.result c.in_ok-nothing.nothing c.in-Ok.counts
+    tape_counted c.args.config.now c.args.limit (g.F.Files.holds c.args.files.now) c.args.name.now
+    (g.F.Files.left c.open_tape.new.files 1) c.in_ok-tape.tape c.version-version.result c.in_ok-nothing.nothing c.in-Ok.counts
     (c.in_ok-tape.ensures.opened told) c.version-version.ensures
     (subst (λ (n : ℕ). CountsOn (coming c.args.config.now c.in_ok-tape.tape (g.F.Files.left c.open_tape.new.files n)) c.in_ok-nothing.nothing c.in-Ok.counts)
     c.in_ok-tape.ensures.state.slot_is (c.in-Ok.ensures.counted told))
@@ -23,5 +24,6 @@ returns-clause-counted g c = λ told.
     c.in-Err.refusal
     ((c.in_ok-tape.ensures.opened told).comes c.args.config.now)
     c.in_ok-tape.ensures.later
-    (subst (λ (n : ℕ). HasReason (played_to (coming c.args.config.now c.in_ok-tape.tape (g.F.Files.left c.open_tape.new.files n))) (Rose (g.F.Files.faults c.open_tape.new.files) (g.F.Files.faults c.count_items.new.files)) c.in-Err.refusal)
+    (subst (λ (n : ℕ). HasReason (played_to (coming c.args.config.now c.in_ok-tape.tape (g.F.Files.left c.open_tape.new.files n)))
+    (Rose (g.F.Files.faults c.open_tape.new.files) (g.F.Files.faults c.count_items.new.files)) c.in-Err.refusal)
     c.in_ok-tape.ensures.state.slot_is (c.in-Err.ensures.counted told))

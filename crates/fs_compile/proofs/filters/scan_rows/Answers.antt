@@ -1,4 +1,5 @@
-use Rattle.fs_compile.proofs.{Words.{◌≡◌, ℕ, ◌+◌, ◌-◌, ◌*◌, ◌/◌, ◌^◌, ◌<◌, ◌≤◌, min, inl, inr, ◌⊎◌, false, get_or, arith, cases_lt, Found, hits}, Sieving.{set_in_all}, Skipping.{words_missed}}
+use Rattle.fs_compile.proofs.Words.{◌≡◌, ℕ, ◌+◌, ◌-◌, ◌*◌, ◌/◌, ◌^◌, ◌<◌, ◌≤◌, min, inl, inr, ◌⊎◌, false, get_or, arith, cases_lt, Found, hits}
+use Rattle.fs_compile.proofs.{Sieving.{set_in_all}, Skipping.{words_missed}}
 use Rattle.fs_compile.proofs.filters.scan_rows.Goals as goal
 
 pub words-init : goal.words-init
@@ -24,7 +25,8 @@ scan_word-requires-clause-start g c =
 pub scan_word-requires-clause-marked : goal.scan_word-requires-clause-marked
 scan_word-requires-clause-marked g c = λ k above below hit.
     let e = c.max.ensures in
-    set_in_all (hits c.args.facts.now c.args.rules.now) c.args.rows.now c.args.first c.args.to c.words.place k c.requires.rows (omega (arith, e, above)) (omega (arith, below)) (omega (arith, below)) hit
+    set_in_all (hits c.args.facts.now c.args.rules.now) c.args.rows.now c.args.first c.args.to c.words.place k c.requires.rows
+    (omega (arith, e, above)) (omega (arith, below)) (omega (arith, below)) hit
 
 pub returns-in-Some : goal.returns-in-Some
 returns-in-Some g c = record {
@@ -67,9 +69,13 @@ words-preserved g c = record {
   next : (c.words.place + 1 ≤ c.next_front-place.result) × (c.next_front-place.result ≤ c.words_of.result)
   next = c.next_front-place.ensures.within
 
-  by : (k : ℕ) → c.args.from ≤ k → k < min (c.args.first + c.next_front-place.result * 64) c.args.to → (k < c.args.first + c.words.place * 64) ⊎ (c.args.first + c.words.place * 64 ≤ k)
-      → (k < c.args.first + (c.words.place + 1) * 64) ⊎ (c.args.first + (c.words.place + 1) * 64 ≤ k) → get_or (hits c.args.facts.now c.args.rules.now) k false ≡ false
+  by : (k : ℕ) → c.args.from ≤ k → k < min (c.args.first + c.next_front-place.result * 64) c.args.to
+      → (k < c.args.first + c.words.place * 64) ⊎ (c.args.first + c.words.place * 64 ≤ k)
+      → (k < c.args.first + (c.words.place + 1) * 64) ⊎ (c.args.first + (c.words.place + 1) * 64 ≤ k)
+      → get_or (hits c.args.facts.now c.args.rules.now) k false ≡ false
   by k above below (inl earlier) any = let t = c.words-test.true in c.words.invariant.missed k above (omega (arith, earlier, t))
   by k above below (inr here) (inl early) = let e = c.max.ensures in c.in-None.ensures.found k (omega (arith, above, here, e)) (omega (arith, below, early))
   by k above below (inr here) (inr late) =
-      words_missed (hits c.args.facts.now c.args.rules.now) c.args.rows.now c.args.first c.args.to (c.words.place + 1) c.next_front-place.result c.requires.rows c.next_front-place.ensures.clear k late (omega (arith, below)) (omega (arith, below))
+      words_missed (hits c.args.facts.now c.args.rules.now) c.args.rows.now c.args.first c.args.to
+      (c.words.place + 1) c.next_front-place.result c.requires.rows c.next_front-place.ensures.clear k late (omega (arith, below))
+      (omega (arith, below))

@@ -1,10 +1,14 @@
-use Rattle.fs_compile.proofs.{Words.{◌≡◌, ℕ, ◌+◌, ◌-◌, ◌/◌, ◌^◌, min, ap, sym, subst, ◌∙◌, w64, arith, bit_at, trailing_zeros, facts_hold, Missed, hits}, Climbing.{missed_more, test_fails}, Sieving.{fits_shifted, left_first, left_next, lowest, missed_all, missed_on, none_marked, test_passes}}
+use Rattle.fs_compile.proofs.Words.{◌≡◌, ℕ, ◌+◌, ◌-◌, ◌/◌, ◌^◌, min, ap, sym, subst, ◌∙◌, w64, arith, bit_at, trailing_zeros, facts_hold, Missed}
+use Rattle.fs_compile.proofs.Words.{hits}
+use Rattle.fs_compile.proofs.Climbing.{missed_more, test_fails}
+use Rattle.fs_compile.proofs.Sieving.{fits_shifted, left_first, left_next, lowest, missed_all, missed_on, none_marked, test_passes}
 use Rattle.fs_compile.proofs.filters.scan_word.Goals as goal
 
 pub returns-then-front-eq0 : goal.returns-then-front-eq0
 returns-then-front-eq0 g c = record { found = found; later = omega arith; steps = omega arith } where
   found : Missed (hits c.args.facts.now c.args.rules.now) c.args.from (min c.args.to (c.args.start + 64))
-  found = none_marked (hits c.args.facts.now c.args.rules.now) c.args.rows.now c.args.place c.args.start c.args.from (min c.args.to (c.args.start + 64)) (sym c.front.ensures ∙ c.if-front-eq0.true) c.requires.marked
+  found = none_marked (hits c.args.facts.now c.args.rules.now) c.args.rows.now c.args.place c.args.start c.args.from
+      (min c.args.to (c.args.start + 64)) (sym c.front.ensures ∙ c.if-front-eq0.true) c.requires.marked
 
 pub candidates-init : goal.candidates-init
 candidates-init g c = record {
@@ -27,8 +31,10 @@ overflow_add-number g c =
 pub returns-then-number-end : goal.returns-then-number-end
 returns-then-number-end g c = record {
   found = λ k above below.
-      missed_on (hits c.args.facts.now c.args.rules.now) c.candidates.rest c.args.from (min c.args.to (c.args.start + 64)) c.candidates.number (trailing_zeros w64 c.candidates.rest) c.candidates.invariant.left
-      (lowest c.candidates.rest c.candidates.invariant.rest (let some = c.candidates-test.true in omega (arith, some))).2 c.candidates.invariant.missed k above (omega (arith, below, c.if-number-end.true, c.min-end.ensures));
+      missed_on (hits c.args.facts.now c.args.rules.now) c.candidates.rest c.args.from (min c.args.to (c.args.start + 64)) c.candidates.number
+      (trailing_zeros w64 c.candidates.rest) c.candidates.invariant.left
+      (lowest c.candidates.rest c.candidates.invariant.rest (let some = c.candidates-test.true in omega (arith, some))).2
+      c.candidates.invariant.missed k above (omega (arith, below, c.if-number-end.true, c.min-end.ensures));
   later = c.candidates.invariant.later;
   steps = let a = c.candidates.invariant.steps in omega (arith, a);
 }
@@ -38,11 +44,15 @@ returns-then-test_facts g c = record {
   found = record {
     above = let a = c.candidates.invariant.from in omega (arith, a);
     below = omega (arith, c.if-number-end.false, c.min-end.ensures);
-    hit = test_passes (facts_hold c.args.facts.now) c.args.rules.now (c.candidates.number + trailing_zeros w64 c.candidates.rest) c.index-rules-number.result c.test_facts.result
-        (omega (arith, c.if-number-end.false, c.requires.to, c.min-end.ensures)) (c.test_facts.ensures.holds ∙ ap (facts_hold c.args.facts.now) c.index-rules-number.is) c.if-test_facts.true;
+    hit = test_passes (facts_hold c.args.facts.now) c.args.rules.now (c.candidates.number + trailing_zeros w64 c.candidates.rest)
+        c.index-rules-number.result c.test_facts.result
+        (omega (arith, c.if-number-end.false, c.requires.to, c.min-end.ensures)) (c.test_facts.ensures.holds
+        ∙ ap (facts_hold c.args.facts.now) c.index-rules-number.is) c.if-test_facts.true;
     before = λ k above below.
-        missed_on (hits c.args.facts.now c.args.rules.now) c.candidates.rest c.args.from (min c.args.to (c.args.start + 64)) c.candidates.number (trailing_zeros w64 c.candidates.rest) c.candidates.invariant.left
-        (lowest c.candidates.rest c.candidates.invariant.rest (let some = c.candidates-test.true in omega (arith, some))).2 c.candidates.invariant.missed k above (omega (arith, below, c.if-number-end.false, c.min-end.ensures));
+        missed_on (hits c.args.facts.now c.args.rules.now) c.candidates.rest c.args.from (min c.args.to (c.args.start + 64)) c.candidates.number
+        (trailing_zeros w64 c.candidates.rest) c.candidates.invariant.left
+        (lowest c.candidates.rest c.candidates.invariant.rest (let some = c.candidates-test.true in omega (arith, some))).2
+        c.candidates.invariant.missed k above (omega (arith, below, c.if-number-end.false, c.min-end.ensures));
   };
   later = let a = c.candidates.invariant.later in let b = c.test_facts.ensures.step in omega (arith, a, b);
   steps = let a = c.candidates.invariant.steps in let b = c.test_facts.ensures.step in let d = c.candidates.invariant.from in omega (arith, a, b, d);
@@ -52,13 +62,17 @@ pub candidates-preserved : goal.candidates-preserved
 candidates-preserved g c = record {
   from = let a = c.candidates.invariant.from in omega (arith, a);
   small = omega (arith, c.if-number-end.false, c.requires.to, c.min-end.ensures, c.requires.few);
-  rest = fits_shifted (c.candidates.rest / 2 ^ trailing_zeros w64 c.candidates.rest) 1 (fits_shifted c.candidates.rest (trailing_zeros w64 c.candidates.rest) c.candidates.invariant.rest);
-  left = left_next (hits c.args.facts.now c.args.rules.now) c.candidates.rest c.candidates.number (trailing_zeros w64 c.candidates.rest) (min c.args.to (c.args.start + 64)) c.candidates.invariant.left;
+  rest = fits_shifted (c.candidates.rest / 2 ^ trailing_zeros w64 c.candidates.rest) 1
+      (fits_shifted c.candidates.rest (trailing_zeros w64 c.candidates.rest) c.candidates.invariant.rest);
+  left = left_next (hits c.args.facts.now c.args.rules.now) c.candidates.rest c.candidates.number (trailing_zeros w64 c.candidates.rest)
+      (min c.args.to (c.args.start + 64)) c.candidates.invariant.left;
   missed = λ k above below.
       missed_more (hits c.args.facts.now c.args.rules.now) c.args.from (c.candidates.number + trailing_zeros w64 c.candidates.rest)
       (λ j from before. missed j from (omega (arith, before, c.if-number-end.false, c.min-end.ensures)))
-      (test_fails (facts_hold c.args.facts.now) c.args.rules.now (c.candidates.number + trailing_zeros w64 c.candidates.rest) c.index-rules-number.result c.test_facts.result
-      (omega (arith, c.if-number-end.false, c.requires.to, c.min-end.ensures)) (c.test_facts.ensures.holds ∙ ap (facts_hold c.args.facts.now) c.index-rules-number.is) c.if-test_facts.false)
+      (test_fails (facts_hold c.args.facts.now) c.args.rules.now (c.candidates.number + trailing_zeros w64 c.candidates.rest)
+      c.index-rules-number.result c.test_facts.result
+      (omega (arith, c.if-number-end.false, c.requires.to, c.min-end.ensures)) (c.test_facts.ensures.holds
+      ∙ ap (facts_hold c.args.facts.now) c.index-rules-number.is) c.if-test_facts.false)
       k above (omega (arith, below));
   later = let a = c.candidates.invariant.later in let b = c.test_facts.ensures.step in omega (arith, a, b);
   steps =
@@ -67,14 +81,17 @@ candidates-preserved g c = record {
       let d = c.candidates.invariant.from in
       omega (arith, a, b, d, c.if-number-end.false, c.min-end.ensures);
 } where
-  missed : Missed (hits c.args.facts.now c.args.rules.now) c.args.from (min (c.candidates.number + trailing_zeros w64 c.candidates.rest) (min c.args.to (c.args.start + 64)))
+  missed : Missed (hits c.args.facts.now c.args.rules.now) c.args.from
+      (min (c.candidates.number + trailing_zeros w64 c.candidates.rest) (min c.args.to (c.args.start + 64)))
   missed =
-      missed_on (hits c.args.facts.now c.args.rules.now) c.candidates.rest c.args.from (min c.args.to (c.args.start + 64)) c.candidates.number (trailing_zeros w64 c.candidates.rest) c.candidates.invariant.left
+      missed_on (hits c.args.facts.now c.args.rules.now) c.candidates.rest c.args.from (min c.args.to (c.args.start + 64)) c.candidates.number
+      (trailing_zeros w64 c.candidates.rest) c.candidates.invariant.left
       (lowest c.candidates.rest c.candidates.invariant.rest (let some = c.candidates-test.true in omega (arith, some))).2 c.candidates.invariant.missed
 
 pub returns : goal.returns
 returns g c = record {
-  found = missed_all (hits c.args.facts.now c.args.rules.now) c.candidates.rest c.args.from (min c.args.to (c.args.start + 64)) c.candidates.number (let none = c.candidates-test.false in omega (arith, none)) c.candidates.invariant.left c.candidates.invariant.missed;
+  found = missed_all (hits c.args.facts.now c.args.rules.now) c.candidates.rest c.args.from (min c.args.to (c.args.start + 64)) c.candidates.number
+      (let none = c.candidates-test.false in omega (arith, none)) c.candidates.invariant.left c.candidates.invariant.missed;
   later = c.candidates.invariant.later;
   steps = let a = c.candidates.invariant.steps in omega (arith, a);
 }

@@ -1,9 +1,11 @@
-use Rattle.fs_compile.proofs.{Words.{◌≡◌, length, take, ◌∙◌, length-take-le, arith, length-map, all_admitted, shown_lent, StandsFor, each_pushed}, Indexing.{stand_size}}
+use Rattle.fs_compile.proofs.Words.{◌≡◌, length, take, ◌∙◌, length-take-le, arith, length-map, all_admitted, shown_lent, StandsFor, each_pushed}
+use Rattle.fs_compile.proofs.Indexing.{stand_size}
 use Rattle.fs_compile.proofs.index.compiled_rules.Goals as goal
 
 pub loop-admitted-preserved : goal.loop-admitted-preserved
 loop-admitted-preserved c =
-    each_pushed (λ r f. StandsFor r.rule f) shown_lent c.args.list.now c.loop-admitted.admitted-index c.admitted-item.result c.loop-admitted.rules.items c.push.new.self.items c.in_ok-of.field-0
+    each_pushed (λ r f. StandsFor r.rule f) shown_lent c.args.list.now c.loop-admitted.admitted-index c.admitted-item.result
+    c.loop-admitted.rules.items c.push.new.self.items c.in_ok-of.field-0
     (omega (arith, c.loop-admitted-test.true)) c.admitted-item.is c.in_ok-push.ensures.items c.loop-admitted.invariant c.in_ok-of.ensures
 
 pub returns-clause-size : goal.returns-clause-size

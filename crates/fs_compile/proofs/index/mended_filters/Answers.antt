@@ -1,4 +1,6 @@
-use Rattle.fs_compile.proofs.{Words.{◌≡◌, ◌+◌, ◌++◌, ◌∷◌, [], List, length, sym, ap, subst, arith, ℕ, ◌≤◌, All, splice, All-head, All-push, All-tail, Fast, Filter, IsFilter, spliced_size}, Filtering.{filter_kept, filter_moved}}
+use Rattle.fs_compile.proofs.Words.{◌≡◌, ◌+◌, ◌++◌, ◌∷◌, [], List, length, sym, ap, subst, arith, ℕ, ◌≤◌, All, splice, All-head, All-push, All-tail}
+use Rattle.fs_compile.proofs.Words.{Fast, Filter, IsFilter, spliced_size}
+use Rattle.fs_compile.proofs.Filtering.{filter_kept, filter_moved}
 use Rattle.fs_compile.proofs.index.mended_filters.Goals as goal
 
 all_none : (P : Filter → Type 0) → All P []
@@ -50,7 +52,8 @@ moved-requires-clause-fits c =
 
 pub loop-filter-preserved-in-Continue-branch-2 : goal.loop-filter-preserved-in-Continue-branch-2
 loop-filter-preserved-in-Continue-branch-2 c = record {
-  runs = pushed c.args.rules.now c.push-then-to-filter.new.self.items c.loop-filter.runs.items c.moved.result c.in_ok-push-2.ensures.items c.loop-filter.invariant.runs
+  runs = pushed c.args.rules.now c.push-then-to-filter.new.self.items c.loop-filter.runs.items c.moved.result c.in_ok-push-2.ensures.items
+      c.loop-filter.invariant.runs
       (subst (λ rules. IsFilter rules c.moved.result) (sym c.requires.was.5)
       (filter_moved c.requires.was.0 c.requires.was.1 c.args.from c.args.to c.args.size c.in-Some.filter c.moved.result
       c.requires.bounds c.requires.was.3 c.if-to-filter.true c.requires.was.4 c.moved.ensures

@@ -1,5 +1,6 @@
 -- std's parser reads the grammar that `ipv4_octets_of` decides.
-use Rattle.fs_conf.proofs.{Words.{◌≡◌, ℕ, List, Option, Some, None, refl, sym, ipv4_bits, IsIpv4Text, ipv4_of, ipv4_octets_of}, DottedText.{ipv4_octets_of_complete, ipv4_octets_of_sound}}
+use Rattle.fs_conf.proofs.Words.{◌≡◌, ℕ, List, Option, Some, None, refl, sym, ipv4_bits, IsIpv4Text, ipv4_of, ipv4_octets_of}
+use Rattle.fs_conf.proofs.DottedText.{ipv4_octets_of_complete, ipv4_octets_of_sound}
 use Rattle.std.specs.declared.net.ipv4_addr.Ipv4Addr.{Ipv4Addr}
 use Rattle.fs_conf.proofs.address.read_ipv4.Goals as goal
 

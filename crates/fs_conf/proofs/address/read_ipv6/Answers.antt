@@ -1,5 +1,6 @@
 -- Of a text without a dot std's parser reads the grammar that `ipv6_groups_of` decides.
-use Rattle.fs_conf.proofs.{Words.{◌≡◌, ℕ, List, Option, Some, None, refl, sym, ipv6_bits, IsIpv6Text, dot, ipv6_of, ipv6_groups_of}, ColonText.{ipv6_groups_of_complete, ipv6_groups_of_sound}, Separated.{Lacks, Lacks-from_list_any}}
+use Rattle.fs_conf.proofs.Words.{◌≡◌, ℕ, List, Option, Some, None, refl, sym, ipv6_bits, IsIpv6Text, dot, ipv6_of, ipv6_groups_of}
+use Rattle.fs_conf.proofs.{ColonText.{ipv6_groups_of_complete, ipv6_groups_of_sound}, Separated.{Lacks, Lacks-from_list_any}}
 use Rattle.std.specs.declared.net.ipv6_addr.Ipv6Addr.{Ipv6Addr}
 use Rattle.fs_conf.proofs.address.read_ipv6.Goals as goal
 

@@ -1,5 +1,6 @@
 -- The map's keys are the members' keys.
-use Rattle.fs_conf.proofs.Words.{◌≡◌, ℕ, ◌∙◌, ap, ◌||◌, List, [], ◌∷◌, map, String, Global, string_bytes, Bor, refl, list_all, list_any, bytes_eq, members_view, Value, keys_among}
+use Rattle.fs_conf.proofs.Words.{◌≡◌, ℕ, ◌∙◌, ap, ◌||◌, List, [], ◌∷◌, map, String, Global, string_bytes, Bor, refl, list_all, list_any, bytes_eq}
+use Rattle.fs_conf.proofs.Words.{members_view, Value, keys_among}
 use Rattle.std.specs.Map.{keys_of}
 use Rattle.fs_conf.proofs.fields.has_only.Goals as goal
 

@@ -6,6 +6,7 @@ loop-place-init c = same_has (has_seen c.new-seen.result) (λ rule. false) (noth
 
 pub loop-place-preserved : goal.loop-place-preserved
 loop-place-preserved c =
-    sym (same_next (has_seen c.loop-place.seen) (has_seen c.see.new.seen) c.args.rules.now c.loop-place.place (c.loop-place.place + 1) c.index-rules-place.result c.in_ok-see.field-0
+    sym (same_next (has_seen c.loop-place.seen) (has_seen c.see.new.seen) c.args.rules.now c.loop-place.place
+    (c.loop-place.place + 1) c.index-rules-place.result c.in_ok-see.field-0
     (omega (arith, c.loop-place-test.true)) c.index-rules-place.is (omega arith) c.in_ok-see.ensures.fresh (search rules) c.in_ok-see.ensures.seen)
     ∙ c.loop-place.invariant

@@ -1,4 +1,5 @@
-use Rattle.fs_conf.proofs.{Words.{◌≡◌, ◌+◌, Bool, false, true, rules, arith, refl, sym, ap, ◌∙◌, List, [], ◌∷◌, drop, drop_more, Ruled, Sent, has_seen}, Single.{are_fresh, fresh_none, fresh_more}}
+use Rattle.fs_conf.proofs.Words.{◌≡◌, ◌+◌, Bool, false, true, rules, arith, refl, sym, ap, ◌∙◌, List, [], ◌∷◌, drop, drop_more, Ruled, Sent, has_seen}
+use Rattle.fs_conf.proofs.Single.{are_fresh, fresh_none, fresh_more}
 use Rattle.std.specs.BTreeSet.{BTreeSet}
 use Rattle.fs_order.specs.declared.ranked.Ranked.{Ranked}
 use Rattle.fs_conf.proofs.rules.are_single.Goals as goal

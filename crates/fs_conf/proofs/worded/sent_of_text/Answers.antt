@@ -13,4 +13,5 @@ returns-in-Err-Bad-clause-refused c _ =
 
 pub returns-in-Err-TooLong-clause-refused : goal.returns-in-Err-TooLong-clause-refused
 returns-in-Err-TooLong-clause-refused c _ =
-    unread c.says_its_own.ensures c.args.text.now c.in-Err-TooLong.field-0 (λ e. absurd (let same = c.in-Err-TooLong.field-0-is in cc)) c.in-Err-TooLong.ensures.exact
+    unread c.says_its_own.ensures c.args.text.now c.in-Err-TooLong.field-0 (λ e. absurd (let same = c.in-Err-TooLong.field-0-is in cc))
+    c.in-Err-TooLong.ensures.exact

@@ -12,7 +12,8 @@ returns c =
         rw w.in-Err-Bad.field-0-is at w.in-Err-Bad.ensures.fault,
       )
       | in-Err-TooLong w ↦ rw w.result-is (
-        unread c.says_its_own.ensures c.args.text.now w.in-Err-TooLong.field-0 (λ e. absurd (let same = w.in-Err-TooLong.field-0-is in cc)) w.in-Err-TooLong.ensures.exact,
+        unread c.says_its_own.ensures c.args.text.now w.in-Err-TooLong.field-0 (λ e. absurd (let same = w.in-Err-TooLong.field-0-is in cc))
+            w.in-Err-TooLong.ensures.exact,
         rw w.in-Err-TooLong.field-0-is at w.in-Err-TooLong.ensures.fault,
       )
     ]

@@ -4,17 +4,20 @@ use Rattle.fs_desk.proofs.apply.apply.Goals as goal
 pub returns-in_default-clause-applied : goal.returns-in_default-clause-applied
 returns-in_default-clause-applied g c =
     told_back c.args.peer c.args.update c.args.table.now.held c.withdraw.new.table.held c.withdraw-in_default.new.table.held
-    (path_back c.args.update.as_withdraw c.args.update.path c.path_given.result c.path_given.ensures c.in_default.is) c.withdraw.ensures.changes c.withdraw-in_default.ensures.changes
+    (path_back c.args.update.as_withdraw c.args.update.path c.path_given.result c.path_given.ensures c.in_default.is) c.withdraw.ensures.changes
+    c.withdraw-in_default.ensures.changes
 
 pub returns-clause-applied : goal.returns-clause-applied
 returns-clause-applied g c =
     let there = path_there c.args.update.as_withdraw c.args.update.path c.path_given.result c.in-Some.path c.path_given.ensures c.in-Some.is in
     on_ok c.give.result
-    (told_given c.args.peer c.args.update c.in-Some.path c.args.table.now.held c.withdraw.new.table.held c.give.new.table.held there.0 there.1 c.withdraw.ensures.changes)
+    (told_given c.args.peer c.args.update c.in-Some.path c.args.table.now.held c.withdraw.new.table.held c.give.new.table.held there.0 there.1
+    c.withdraw.ensures.changes)
     c.give.ensures.changes
 
 pub returns-in_default-clause-told : goal.returns-in_default-clause-told
-returns-in_default-clause-told g c = tells_then c.args.table.now c.withdraw.new.table c.withdraw-in_default.new.table c.withdraw.ensures.told c.withdraw-in_default.ensures.told
+returns-in_default-clause-told g c =
+    tells_then c.args.table.now c.withdraw.new.table c.withdraw-in_default.new.table c.withdraw.ensures.told c.withdraw-in_default.ensures.told
 
 pub returns-clause-told : goal.returns-clause-told
 returns-clause-told g c = on_ok c.give.result (tells_then c.args.table.now c.withdraw.new.table c.give.new.table c.withdraw.ensures.told) c.give.ensures.told

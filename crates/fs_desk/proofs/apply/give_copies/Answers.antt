@@ -1,10 +1,14 @@
-use Rattle.fs_desk.proofs.{Idle.{more_than_none}, Words.{refl}, Telling.{tells_none, tells_then}, ChangesJoined.{changes_none, rules_given_more}, TableChanges.{rule_given_to}}
+use Rattle.fs_desk.proofs.{Idle.{more_than_none}, Words.{refl}, Telling.{tells_none, tells_then}, ChangesJoined.{changes_none, rules_given_more}}
+use Rattle.fs_desk.proofs.TableChanges.{rule_given_to}
 use Rattle.fs_desk.proofs.apply.give_copies.Goals as goal
 
 pub loop-rule-preserved : goal.loop-rule-preserved
 loop-rule-preserved g c = record {
   changes =
-      rules_given_more c.args.peer c.args.given.now.path c.args.given.now.actions c.loop-rule.yielded c.in-Some.rule c.args.table.now.held c.loop-rule.table.held c.put_flow.new.self.held c.loop-rule.invariant.changes (rule_given_to (record { peer = c.args.peer; rule = c.in-Some.rule; path = c.args.given.now.path; actions = c.args.given.now.actions }) c.loop-rule.table.held c.put_flow.new.self.held (rw (c.in_ok-copy.ensures, c.in_ok-copy-2.ensures) at c.in_ok-put_flow.ensures.ok));
+      rules_given_more c.args.peer c.args.given.now.path c.args.given.now.actions c.loop-rule.yielded c.in-Some.rule c.args.table.now.held
+      c.loop-rule.table.held c.put_flow.new.self.held c.loop-rule.invariant.changes
+      (rule_given_to (record { peer = c.args.peer; rule = c.in-Some.rule; path = c.args.given.now.path; actions = c.args.given.now.actions })
+      c.loop-rule.table.held c.put_flow.new.self.held (rw (c.in_ok-copy.ensures, c.in_ok-copy-2.ensures) at c.in_ok-put_flow.ensures.ok));
   told = tells_then c.args.table.now c.loop-rule.table c.put_flow.new.self c.loop-rule.invariant.told c.in_ok-put_flow.ensures.told;
   idle = λ none. absurd (more_than_none c.loop-rule.yielded c.in-Some.rule none);
 }

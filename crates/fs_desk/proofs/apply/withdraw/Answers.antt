@@ -2,7 +2,8 @@ use Rattle.fs_desk.proofs.{Words.{◌∙◌, unicast_in}, Idle.{both_none}, Tell
 use Rattle.fs_desk.proofs.apply.withdraw.Goals as goal
 
 pub returns-clause-told : goal.returns-clause-told
-returns-clause-told g c = tells_then c.args.table.now c.withdraw_prefixes.new.table c.withdraw_routes.new.table c.withdraw_prefixes.ensures.told c.withdraw_routes.ensures.told
+returns-clause-told g c = tells_then c.args.table.now c.withdraw_prefixes.new.table c.withdraw_routes.new.table c.withdraw_prefixes.ensures.told
+    c.withdraw_routes.ensures.told
 
 pub returns-clause-idle : goal.returns-clause-idle
 returns-clause-idle g c = λ none no_rule.

@@ -1,4 +1,6 @@
-use Rattle.fs_desk.proofs.{Words.{List, map, take, None, subst, sym, refl, ◌∙◌, shown, Shown, Changes, same, taken_of}, Idle.{more_than_none}, Telling.{tells_none, tells_then}, ChangesJoined.{changes_none, prefixes_more, shown_more}, TableChanges.{taken_to}}
+use Rattle.fs_desk.proofs.Words.{List, map, take, None, subst, sym, refl, ◌∙◌, shown, Shown, Changes, same, taken_of}
+use Rattle.fs_desk.proofs.{Idle.{more_than_none}, Telling.{tells_none, tells_then}, ChangesJoined.{changes_none, prefixes_more, shown_more}}
+use Rattle.fs_desk.proofs.TableChanges.{taken_to}
 use Rattle.fs_desk.proofs.apply.withdraw_each.Goals as goal
 
 pub loop-prefix-preserved : goal.loop-prefix-preserved
@@ -6,7 +8,8 @@ loop-prefix-preserved g c = record {
   changes =
       let e = shown_more c.args.prefixes.now c.loop-prefix.prefix-index c.prefix-item.result c.loop-prefix-test.true c.prefix-item.is in
       subst (λ (prefixes : List Shown). Changes c.args.peer (taken_of prefixes) same c.args.table.now.held c.withdraw_unicast.new.self.held) (sym e)
-      (prefixes_more c.args.peer None (map shown (take c.loop-prefix.prefix-index c.args.prefixes.now)) (shown c.prefix-item.result) _ _ _ c.loop-prefix.invariant.changes
+      (prefixes_more c.args.peer None (map shown (take c.loop-prefix.prefix-index c.args.prefixes.now))
+      (shown c.prefix-item.result) _ _ _ c.loop-prefix.invariant.changes
       (taken_to c.args.peer c.prefix-item.result c.loop-prefix.table.held c.withdraw_unicast.new.self.held _ refl c.withdraw_unicast.ensures.removed));
   told = tells_then c.args.table.now c.loop-prefix.table c.withdraw_unicast.new.self c.loop-prefix.invariant.told c.withdraw_unicast.ensures.told;
   idle = λ none.

@@ -2,4 +2,9 @@ use Rattle.fs_desk.proofs.Words.{◌≡◌, [], map, take, shown, Changes, same,
 use Rattle.fs_desk.proofs.apply.withdraw_each.Given as goal
 
 abbrev pub invariant-loop-prefix : goal.invariant-loop-prefix
-invariant-loop-prefix g l = record { changes : Changes l.peer (taken_of (map shown (take l.prefix-index l.prefixes))) same l.fn.table.held l.table.held; told : Tells l.fn.table l.table; idle : map shown (take l.prefix-index l.prefixes) ≡ [] → l.table ≡ l.fn.table }
+invariant-loop-prefix g l = record {
+  changes :
+      Changes l.peer (taken_of (map shown (take l.prefix-index l.prefixes))) same l.fn.table.held l.table.held;
+  told : Tells l.fn.table l.table;
+  idle : map shown (take l.prefix-index l.prefixes) ≡ [] → l.table ≡ l.fn.table;
+}

@@ -1,4 +1,8 @@
-use Rattle.fs_desk.proofs.{Words.{◌++◌, List, ℕ, refl, AreIdle, KeepsAll, Watched, sym, subst, ap, ◌∙◌, is_some, take_rest, some_there, none_there, bounded_replies_from, Comes, IsReplyingMore, HasTaken}, Coming.{comes_all, comes_none, comes_shut, comes_then}, Pieces.{taken_none, taken_more_of, taken_all, up_ended}, Replies.{replying_none, replying_more, replying_all, replied_to, replied_ended, extends_none, extends_then}, Telling.{tells_none, tells_then}}
+use Rattle.fs_desk.proofs.Words.{◌++◌, List, ℕ, refl, AreIdle, KeepsAll, Watched, sym, subst, ap, ◌∙◌, is_some, take_rest, some_there, none_there}
+use Rattle.fs_desk.proofs.Words.{bounded_replies_from, Comes, IsReplyingMore, HasTaken}
+use Rattle.fs_desk.proofs.{Coming.{comes_all, comes_none, comes_shut, comes_then}, Pieces.{taken_none, taken_more_of, taken_all, up_ended}}
+use Rattle.fs_desk.proofs.Replies.{replying_none, replying_more, replying_all, replied_to, replied_ended, extends_none, extends_then}
+use Rattle.fs_desk.proofs.Telling.{tells_none, tells_then}
 use Rattle.fs_desk.proofs.receive.receive.Goals as goal
 
 pub returns-then-is_some-clause-taken : goal.returns-then-is_some-clause-taken
@@ -27,19 +31,25 @@ messages-preserved g c = (
   tells_then c.args.table.now c.messages.table c.take_message.new.table c.messages.invariant.1 c.in_ok-count.ensures.told,
   λ config whose octets l s.
       let before = c.messages.invariant.2 config whose octets l s in (
-        subst (λ (rest : List ℕ). HasTaken config whose c.args.peer (octets ++ c.args.piece.now) rest c.take_message.new.session c.args.table.now.held c.take_message.new.table.held)
+        subst (λ (rest : List ℕ). HasTaken config whose c.args.peer (octets ++ c.args.piece.now) rest c.take_message.new.session c.args.table.now.held
+            c.take_message.new.table.held)
             (sym (take_rest c.messages.rest.now c.in-Some.count))
-            (taken_more_of config whose c.args.peer (octets ++ c.args.piece.now) c.messages.rest.now c.messages.session c.take_message.new.session c.args.table.now.held c.messages.table.held c.take_message.new.table.held
+            (taken_more_of config whose c.args.peer (octets ++ c.args.piece.now) c.messages.rest.now c.messages.session c.take_message.new.session
+            c.args.table.now.held c.messages.table.held c.take_message.new.table.held
             c.in-Some.count before.0 (rw c.in-Some.is at c.in_ok-count.ensures.taken)),
-        subst (λ (rest : List ℕ). IsReplyingMore config whose (octets ++ c.args.piece.now) rest c.take_message.new.session (bounded_replies_from config whose octets) c.args.replies.now.items c.take_message.new.replies.items)
+        subst (λ (rest : List ℕ). IsReplyingMore config whose (octets ++ c.args.piece.now) rest c.take_message.new.session
+            (bounded_replies_from config whose octets) c.args.replies.now.items c.take_message.new.replies.items)
             (sym (take_rest c.messages.rest.now c.in-Some.count))
-            (replying_more config whose c.args.peer (octets ++ c.args.piece.now) c.messages.rest.now c.messages.session c.take_message.new.session c.messages.table.held before.0.updates (bounded_replies_from config whose octets)
-            c.args.replies.now.items c.messages.replies.items c.take_message.new.replies.items c.in-Some.count before.0.follows before.0.within before.0.spares.listed before.0.left before.1 (rw c.in-Some.is at c.in_ok-count.ensures.replied)),
+            (replying_more config whose c.args.peer (octets ++ c.args.piece.now) c.messages.rest.now c.messages.session c.take_message.new.session
+            c.messages.table.held before.0.updates (bounded_replies_from config whose octets)
+            c.args.replies.now.items c.messages.replies.items c.take_message.new.replies.items c.in-Some.count before.0.follows before.0.within
+            before.0.spares.listed before.0.left before.1 (rw c.in-Some.is at c.in_ok-count.ensures.replied)),
       ),
   ((rw c.in-Some.is at c.in_ok-count.ensures.handed) c.messages.invariant.3).0,
   subst (λ (rest : List ℕ). Comes c.args.session.now c.args.piece.now c.take_message.new.session rest c.args.replies.now.items c.take_message.new.replies.items)
       (sym (take_rest c.messages.rest.now c.in-Some.count))
-      (comes_then c.args.session.now c.messages.session c.take_message.new.session c.args.piece.now c.messages.rest.now _ c.args.replies.now.items c.messages.replies.items c.take_message.new.replies.items
+      (comes_then c.args.session.now c.messages.session c.take_message.new.session c.args.piece.now c.messages.rest.now _ c.args.replies.now.items
+      c.messages.replies.items c.take_message.new.replies.items
       c.messages.invariant.4 ((rw c.in-Some.is at c.in_ok-count.ensures.handed) c.messages.invariant.3).1),
   λ idle.
       let before = c.messages.invariant.5 idle in
@@ -51,12 +61,22 @@ pub returns-clause-taken : goal.returns-clause-taken
 returns-clause-taken g c = λ config whose octets l s.
     let before = c.messages.invariant.2 config whose octets l s in
     let replied_ =
-    replying_all config whose c.args.peer (octets ++ c.args.piece.now) c.messages.rest.now c.messages.session c.take_message.new.session c.messages.table.held before.0.updates (bounded_replies_from config whose octets)
-    c.args.replies.now.items c.messages.replies.items c.take_message.new.replies.items before.0.follows before.0.within before.0.spares.listed before.0.left before.1 (rw c.in_default.is at c.in_ok-count.ensures.replied) in
+    replying_all config whose c.args.peer (octets ++ c.args.piece.now) c.messages.rest.now c.messages.session c.take_message.new.session
+    c.messages.table.held before.0.updates (bounded_replies_from config whose octets)
+    c.args.replies.now.items c.messages.replies.items c.take_message.new.replies.items before.0.follows before.0.within before.0.spares.listed
+    before.0.left before.1 (rw c.in_default.is at c.in_ok-count.ensures.replied) in
     let all =
-    taken_all config whose c.args.peer (octets ++ c.args.piece.now) c.messages.rest.now c.messages.session c.take_message.new.session c.args.table.now.held c.messages.table.held c.take_message.new.table.held
-    (bounded_replies_from config whose octets) c.args.replies.now.items c.take_message.new.replies.items before.0 replied_ (rw c.in_default.is at c.in_ok-count.ensures.taken) in
-    (all.0, (all.1, replied_to config whose octets c.args.piece.now c.take_message.new.session all.0.updates c.args.replies.now.items c.take_message.new.replies.items all.0.fed replied_))
+    taken_all config whose c.args.peer (octets ++ c.args.piece.now) c.messages.rest.now c.messages.session c.take_message.new.session
+    c.args.table.now.held c.messages.table.held c.take_message.new.table.held
+    (bounded_replies_from config whose octets) c.args.replies.now.items c.take_message.new.replies.items before.0 replied_
+    (rw c.in_default.is at c.in_ok-count.ensures.taken) in (
+      all.0,
+      (
+        all.1,
+        replied_to config whose octets c.args.piece.now c.take_message.new.session all.0.updates c.args.replies.now.items
+            c.take_message.new.replies.items all.0.fed replied_,
+      ),
+    )
 
 pub returns-in_err-count-clause-grows : goal.returns-in_err-count-clause-grows
 returns-in_err-count-clause-grows g c =
@@ -80,7 +100,8 @@ returns-then-is_some-clause-handed g c = λ alive.
 pub returns-clause-handed : goal.returns-clause-handed
 returns-clause-handed g c = λ alive. (
   none_there c.args.session.now.closed (ap is_some (sym c.closed.ensures) ∙ sym c.is_some.ensures ∙ c.if-is_some.false),
-  comes_all c.args.session.now c.messages.session c.take_message.new.session c.args.piece.now c.messages.rest.now c.args.replies.now.items c.messages.replies.items c.take_message.new.replies.items
+  comes_all c.args.session.now c.messages.session c.take_message.new.session c.args.piece.now c.messages.rest.now c.args.replies.now.items
+      c.messages.replies.items c.take_message.new.replies.items
       c.messages.invariant.4 ((rw c.in_default.is at c.in_ok-count.ensures.handed) c.messages.invariant.3) alive,
 )
 

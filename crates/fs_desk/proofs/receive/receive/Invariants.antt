@@ -1,4 +1,5 @@
-use Rattle.fs_desk.proofs.Words.{◌≡◌, ℕ, List, ◌++◌, length, None, Config, Peer, IsListed, bounded_replies_from, IsUp, HasTaken, Extends, IsReplyingMore, Comes, AreIdle, Tells}
+use Rattle.fs_desk.proofs.Words.{◌≡◌, ℕ, List, ◌++◌, length, None, Config, Peer, IsListed, bounded_replies_from, IsUp, HasTaken, Extends}
+use Rattle.fs_desk.proofs.Words.{IsReplyingMore, Comes, AreIdle, Tells}
 use Rattle.fs_desk.proofs.receive.receive.Given as goal
 
 abbrev pub invariant-messages : goal.invariant-messages

@@ -1,4 +1,7 @@
-use Rattle.fs_input.proofs.{Words.{rules, ◌≡◌, [], List, ℕ, Option, Ok, Err, false, length, refl, ap, subst, with_part, straight_draws, Advances, part_in, parts_ahead, parts_to_come, IsOver, ahead, passes_as, passes_in}, Advancing.{first_advances, later_advances, over_advances, part_advances, part_reads, some_taken}, Again.{ahead_here, reads_ahead}, Lifting.{starts_as, starts_true}}
+use Rattle.fs_input.proofs.Words.{rules, ◌≡◌, [], List, ℕ, Option, Ok, Err, false, length, refl, ap, subst, with_part, straight_draws, Advances}
+use Rattle.fs_input.proofs.Words.{part_in, parts_ahead, parts_to_come, IsOver, ahead, passes_as, passes_in}
+use Rattle.fs_input.proofs.Advancing.{first_advances, later_advances, over_advances, part_advances, part_reads, some_taken}
+use Rattle.fs_input.proofs.{Again.{ahead_here, reads_ahead}, Lifting.{starts_as, starts_true}}
 use Rattle.std.specs.Option.{option_map}
 use Rattle.fs_input.proofs.reading.advance.Goals as goal
 

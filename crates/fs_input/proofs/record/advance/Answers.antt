@@ -1,4 +1,8 @@
-use Rattle.fs_input.{proofs.{Words.{rules, arith, ◌≡◌, ◌∙◌, refl, ◌+◌, ◌-◌, ◌<◌, ◌++◌, length, take, drop, take-append-le, length-take, with_part, records_to_come, passes_in}, AdvancingRecords.{short_advances, cut_advances}, Records.{held_of_taken, wrong_comes, short_comes, cut_comes, record_comes}}, specs.declared.head.Found.{Found}}
+use Rattle.fs_input.proofs.Words.{rules, arith, ◌≡◌, ◌∙◌, refl, ◌+◌, ◌-◌, ◌<◌, ◌++◌, length, take, drop, take-append-le, length-take, with_part}
+use Rattle.fs_input.proofs.Words.{records_to_come, passes_in}
+use Rattle.fs_input.proofs.AdvancingRecords.{short_advances, cut_advances}
+use Rattle.fs_input.proofs.Records.{held_of_taken, wrong_comes, short_comes, cut_comes, record_comes}
+use Rattle.fs_input.specs.declared.head.Found.{Found}
 use Rattle.fs_base.proofs.Filled.{fills_straight, none_left}
 use Rattle.fs_input.proofs.record.advance.Goals as goal
 

@@ -1,4 +1,5 @@
-use Rattle.fs_line.proofs.{Words.{[], ◌∷◌, ◌++◌, List, ℕ, sym, ◌∙◌, ap, arith, rates_text}, Outputs.{kept_more, kept_nothing}, Walks.{rates_text-append, rates_text-one, rates_text-none}}
+use Rattle.fs_line.proofs.{Words.{[], ◌∷◌, ◌++◌, List, ℕ, sym, ◌∙◌, ap, arith, rates_text}, Outputs.{kept_more, kept_nothing}}
+use Rattle.fs_line.proofs.Walks.{rates_text-append, rates_text-one, rates_text-none}
 use Rattle.fs_line.proofs.kept.keep_rates_of.Goals as goal
 use Rattle.fs_line.proofs.kept.keep_rates_of.Goals.{in-Some, in_default}
 

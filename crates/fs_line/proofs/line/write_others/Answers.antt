@@ -3,7 +3,8 @@ use Rattle.fs_line.proofs.line.write_others.Goals as goal
 
 pub returns-in_err-make_room : goal.returns-in_err-make_room
 returns-in_err-make_room g c =
-    sends_within others_of others_of-append c.args.others.now c.loop-rule.rule-index c.rule-item.result c.loop-rule-test.true _ c.from_residual.result c.from_residual.ensures.1
+    sends_within others_of others_of-append c.args.others.now c.loop-rule.rule-index c.rule-item.result c.loop-rule-test.true _ c.from_residual.result
+    c.from_residual.ensures.1
     c.loop-rule.invariant (sends_none _ c.in_err-make_room.ensures.sends)
 
 pub loop-rule-preserved : goal.loop-rule-preserved

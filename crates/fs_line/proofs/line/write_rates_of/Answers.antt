@@ -1,4 +1,5 @@
-use Rattle.fs_line.proofs.{Words.{[], ◌∷◌, sym, ◌∙◌, ap, rates_text}, Outputs.{sends_as, sends_more, sends_nothing, sends_within}, Walks.{rates_text-append, rates_text-one, rates_text-none}}
+use Rattle.fs_line.proofs.{Words.{[], ◌∷◌, sym, ◌∙◌, ap, rates_text}, Outputs.{sends_as, sends_more, sends_nothing, sends_within}}
+use Rattle.fs_line.proofs.Walks.{rates_text-append, rates_text-one, rates_text-none}
 use Rattle.fs_line.proofs.line.write_rates_of.Goals as goal
 use Rattle.fs_line.proofs.line.write_rates_of.Goals.{in-Some+in_ok-write_rate, in_default}
 

@@ -3,7 +3,8 @@ use Rattle.fs_line.proofs.line.write_rules.Goals as goal
 
 pub returns-in_err-make_room : goal.returns-in_err-make_room
 returns-in_err-make_room g c =
-    sends_stopped (numbers_text (numbers_walked (entries c.args.walked.now))) _ c.from_residual.result c.from_residual.ensures.1 c.in_err-make_room.ensures.sends
+    sends_stopped (numbers_text (numbers_walked (entries c.args.walked.now))) _ c.from_residual.result c.from_residual.ensures.1
+    c.in_err-make_room.ensures.sends
 
 pub returns : goal.returns
 returns g c =

@@ -3,7 +3,8 @@ use Rattle.fs_message.proofs.capabilities.read_capabilities.Goals as goal
 
 pub returns-in_default-with_capability : goal.returns-in_default-with_capability
 returns-in_default-with_capability c =
-    sym (gathered_not c.loop-capability.found c.loop-capability.rest.now (field_of c.in-Some.capability, c.in-Some.behind.now) (sym c.in-Some.ensures) c.in_default-with_capability.ensures)
+    sym (gathered_not c.loop-capability.found c.loop-capability.rest.now (field_of c.in-Some.capability, c.in-Some.behind.now)
+    (sym c.in-Some.ensures) c.in_default-with_capability.ensures)
     ∙ c.loop-capability.invariant
 
 pub loop-capability-preserved : goal.loop-capability-preserved
@@ -13,4 +14,5 @@ loop-capability-preserved c =
     ∙ c.loop-capability.invariant
 
 pub returns : goal.returns
-returns c = c.found_at_end.ensures ∙ sym (gathered_end c.loop-capability.found c.loop-capability.rest.now (sym c.in_default.ensures)) ∙ c.loop-capability.invariant
+returns c = c.found_at_end.ensures ∙ sym (gathered_end c.loop-capability.found c.loop-capability.rest.now (sym c.in_default.ensures))
+    ∙ c.loop-capability.invariant

@@ -1,4 +1,6 @@
-use Rattle.fs_message.proofs.{Words.{◌≡◌, ◌==◌, ◌&&◌, Bool, false, sym, ap, ◌∙◌, arith, ne_eqb, Field, field_of, are_fields, is_capability, fields_of, list_all}, CapabilityLists.{all_more, all_not, none_gathered, all_end}}
+use Rattle.fs_message.proofs.Words.{◌≡◌, ◌==◌, ◌&&◌, Bool, false, sym, ap, ◌∙◌, arith, ne_eqb, Field, field_of, are_fields, is_capability, fields_of}
+use Rattle.fs_message.proofs.Words.{list_all}
+use Rattle.fs_message.proofs.CapabilityLists.{all_more, all_not, none_gathered, all_end}
 use Rattle.fs_message.proofs.capabilities.read_parameters.Goals as goal
 
 pub returns-then-parameter-ne-CAPABILITIES : goal.returns-then-parameter-ne-CAPABILITIES
@@ -15,7 +17,10 @@ returns-in_default-read_capabilities c =
 
 pub loop-parameter-preserved : goal.loop-parameter-preserved
 loop-parameter-preserved c =
-    sym (all_more c.loop-parameter.found c.in-Some-read_capabilities.next c.loop-parameter.rest.now (field_of c.in-Some.parameter, c.in-Some.behind.now) (sym c.in-Some.ensures)
+    sym (all_more c.loop-parameter.found c.in-Some-read_capabilities.next c.loop-parameter.rest.now (
+      field_of c.in-Some.parameter,
+      c.in-Some.behind.now,
+    ) (sym c.in-Some.ensures)
     (omega arith) c.in-Some-read_capabilities.ensures)
     ∙ c.loop-parameter.invariant
 

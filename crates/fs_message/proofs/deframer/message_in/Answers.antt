@@ -1,4 +1,5 @@
-use Rattle.fs_message.proofs.{Words.{◌≡◌, ℕ, ◌+◌, ◌-◌, ◌≤◌, length, take, drop, get_or, IsTrue, sym, subst, arith, allows, length-take, length-drop}, BegunMessages.{message_front, message_allowed}}
+use Rattle.fs_message.proofs.Words.{◌≡◌, ℕ, ◌+◌, ◌-◌, ◌≤◌, length, take, drop, get_or, IsTrue, sym, subst, arith, allows, length-take, length-drop}
+use Rattle.fs_message.proofs.BegunMessages.{message_front, message_allowed}
 use Rattle.fs_message.proofs.deframer.message_in.Goals as goal
 
 pub returns-clause-exact : goal.returns-clause-exact

@@ -1,4 +1,6 @@
-use Rattle.fs_mrt.proofs.{Words.{rules, ◌≡◌, ◌≤◌, ◌+◌, Some, take, drop, subst, ap, sym, ◌∙◌, Ok, big_number, Reads, calls_of, whole, field, ends_size, family_of, front_size, states_size, Cut}, Bodies.{front_reads}, Messages.{behind_first}}
+use Rattle.fs_mrt.proofs.Words.{rules, ◌≡◌, ◌≤◌, ◌+◌, Some, take, drop, subst, ap, sym, ◌∙◌, Ok, big_number, Reads, calls_of, whole, field, ends_size}
+use Rattle.fs_mrt.proofs.Words.{family_of, front_size, states_size, Cut}
+use Rattle.fs_mrt.proofs.{Bodies.{front_reads}, Messages.{behind_first}}
 use Rattle.fs_mrt.proofs.record.take_front.Goals as goal
 
 pub returns-clause-reads : goal.returns-clause-reads

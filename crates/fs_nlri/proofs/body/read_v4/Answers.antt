@@ -9,4 +9,6 @@ returns-then-length-gt32-clause-fault c = rw c.bad-then-length-gt32.ensures (v4_
 
 pub returns-then-tail-count-clause-fault : goal.returns-then-tail-count-clause-fault
 returns-then-tail-count-clause-fault c =
-    rw c.bad-then-tail-count.ensures (v4_few c.args.octets.now c.octets_for_bits-count.result c.in-len1-up.len_at_least c.if-length-gt32.false c.octets_for_bits-count.ensures c.if-tail-count.true)
+    rw c.bad-then-tail-count.ensures
+    (v4_few c.args.octets.now c.octets_for_bits-count.result c.in-len1-up.len_at_least c.if-length-gt32.false c.octets_for_bits-count.ensures
+    c.if-tail-count.true)

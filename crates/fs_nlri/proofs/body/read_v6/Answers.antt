@@ -19,9 +19,12 @@ returns-then-not-has_range-clause-fault c =
 
 pub returns-then-tail-count-clause-fault : goal.returns-then-tail-count-clause-fault
 returns-then-tail-count-clause-fault c =
-    rw c.bad-then-tail-count.ensures (v6_few c.args.octets.now c.octets_for_bits-count.result c.in-len2-up.len_at_least (c.has_range.ensures.range.0 c.if-not-has_range.false) c.octets_for_bits-count.ensures c.if-tail-count.true)
+    rw c.bad-then-tail-count.ensures
+    (v6_few c.args.octets.now c.octets_for_bits-count.result c.in-len2-up.len_at_least (c.has_range.ensures.range.0 c.if-not-has_range.false)
+    c.octets_for_bits-count.ensures c.if-tail-count.true)
 
 pub returns-clause-found : goal.returns-clause-found
 returns-clause-found c =
-    v6_found c.args.octets.now c.octets_for_bits-count.result c.left_aligned.result c.of_bits-pattern.result.bits c.in-len2-up.len_at_least (c.has_range.ensures.range.0 c.if-not-has_range.false)
+    v6_found c.args.octets.now c.octets_for_bits-count.result c.left_aligned.result c.of_bits-pattern.result.bits c.in-len2-up.len_at_least
+    (c.has_range.ensures.range.0 c.if-not-has_range.false)
     c.octets_for_bits-count.ensures c.if-tail-count.false c.left_aligned.ensures c.of_bits-pattern.ensures.first_bits

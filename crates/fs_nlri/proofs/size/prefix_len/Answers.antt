@@ -1,7 +1,10 @@
-use Rattle.fs_nlri.{proofs.Words.{◌≡◌, ℕ, ◌+◌, ◌-◌, ap, sym, ◌∙◌, arith, length, ◌/◌, ◌^◌, ◌*◌, length-bytes_high_first, PrefixForm, body_of, canonical_body, octets_for}, specs.declared.component.PrefixForm.TheVariants.{V6}}
+use Rattle.fs_nlri.proofs.Words.{◌≡◌, ℕ, ◌+◌, ◌-◌, ap, sym, ◌∙◌, arith, length, ◌/◌, ◌^◌, ◌*◌, length-bytes_high_first, PrefixForm, body_of}
+use Rattle.fs_nlri.proofs.Words.{canonical_body, octets_for}
+use Rattle.fs_nlri.specs.declared.component.PrefixForm.TheVariants.{V6}
 use Rattle.fs_nlri.proofs.size.prefix_len.Goals as goal
 
-v6_len : (form : PrefixForm) (len offset pattern count : ℕ) → form ≡ V6 len offset pattern → count ≡ octets_for (len - offset) → 2 + count ≡ length (canonical_body (body_of form))
+v6_len : (form : PrefixForm) (len offset pattern count : ℕ) → form ≡ V6 len offset pattern → count ≡ octets_for (len - offset)
+    → 2 + count ≡ length (canonical_body (body_of form))
 v6_len form len offset pattern count is counted =
     let size = length-bytes_high_first (octets_for (len - offset)) (pattern / 2 ^ (128 - 8 * octets_for (len - offset))) in
     let whole : 2 + count ≡ length (canonical_body (body_of (V6 len offset pattern))) = omega arith in

@@ -1,4 +1,5 @@
-use Rattle.fs_nlri.{proofs.Words.{◌≡◌, ℕ, ◌-◌, ◌*◌, ◌≤◌, subst, arith, PrefixForm, octets_for, body_of, IsWritable}, specs.declared.component.PrefixForm.TheVariants.{V4, V6}}
+use Rattle.fs_nlri.proofs.Words.{◌≡◌, ℕ, ◌-◌, ◌*◌, ◌≤◌, subst, arith, PrefixForm, octets_for, body_of, IsWritable}
+use Rattle.fs_nlri.specs.declared.component.PrefixForm.TheVariants.{V4, V6}
 use Rattle.fs_nlri.proofs.writing.append_prefix.Goals as goal
 
 own_form : (form known : PrefixForm) → form ≡ known → IsWritable (body_of form) → IsWritable (body_of known)

@@ -1,4 +1,6 @@
-use Rattle.fs_pcapng.proofs.{Words.{rules, ◌≡◌, ◌≢◌, ◌+◌, true, Some, ap, sym, ◌∙◌, big_number, number, reads_as, reads_then, allows, body_in, frame_of, kind_of, least_of, plain_in, total_behind, Length, needs_true}, Bodies.{block_fails, block_header, block_plain, told_of}}
+use Rattle.fs_pcapng.proofs.Words.{rules, ◌≡◌, ◌≢◌, ◌+◌, true, Some, ap, sym, ◌∙◌, big_number, number, reads_as, reads_then, allows, body_in}
+use Rattle.fs_pcapng.proofs.Words.{frame_of, kind_of, least_of, plain_in, total_behind, Length, needs_true}
+use Rattle.fs_pcapng.proofs.Bodies.{block_fails, block_header, block_plain, told_of}
 use Rattle.fs_pcapng.proofs.block.take_block.Goals as goal
 
 pub returns-in-Ok-clause-reads : goal.returns-in-Ok-clause-reads

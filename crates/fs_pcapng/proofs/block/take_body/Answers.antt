@@ -1,4 +1,5 @@
-use Rattle.fs_pcapng.proofs.{Words.{rules, ◌≡◌, true, Some, length, sym, ◌∙◌, nat_lt, reads_ends, gives, behind_packet, enhanced_in, simple_in}, Bodies.{body_as, body_described, body_fails, body_packet, told_of}}
+use Rattle.fs_pcapng.proofs.Words.{rules, ◌≡◌, true, Some, length, sym, ◌∙◌, nat_lt, reads_ends, gives, behind_packet, enhanced_in, simple_in}
+use Rattle.fs_pcapng.proofs.Bodies.{body_as, body_described, body_fails, body_packet, told_of}
 use Rattle.fs_pcapng.proofs.block.take_body.Goals as goal
 
 pub returns-in-Ok-clause-reads : goal.returns-in-Ok-clause-reads

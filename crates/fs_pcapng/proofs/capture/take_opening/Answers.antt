@@ -6,11 +6,13 @@ returns-in-Ok-clause-reads g c =
     let is : big_number 4 c.take_kind.new.kind ≡ 0x0a0d0d0a = sym c.read_u32.ensures ∙ (search rules) in
     let same : c.open.new.self ≡ opened c.in-Ok.order 0 =
     c.open.ensures ∙ ap (λ s. opened c.in-Ok.order s.moment) c.requires.nothing in
-    opening_reads (g.F.Files.left c.args.files.now) c.open.new.self c.take_kind.new.kind c.requires.start is same c.in_default.ensures.none c.take_header.ensures.none
+    opening_reads (g.F.Files.left c.args.files.now) c.open.new.self c.take_kind.new.kind c.requires.start is same c.in_default.ensures.none
+    c.take_header.ensures.none
     c.in_default.ensures.reads c.in-Ok.ensures.reads
 
 pub returns-in-Err-take_header-clause-reads : goal.returns-in-Err-take_header-clause-reads
 returns-in-Err-take_header-clause-reads g c =
     let is : big_number 4 c.take_kind.new.kind ≡ 0x0a0d0d0a = sym c.read_u32.ensures ∙ (search rules) in
-    opening_fails (g.F.Files.left c.args.files.now) c.args.section.now c.take_kind.new.kind c.requires.start is c.in_default.ensures.none c.take_header.ensures.none
+    opening_fails (g.F.Files.left c.args.files.now) c.args.section.now c.take_kind.new.kind c.requires.start is c.in_default.ensures.none
+    c.take_header.ensures.none
     c.in_default.ensures.reads c.in-Err-take_header.ensures.reads

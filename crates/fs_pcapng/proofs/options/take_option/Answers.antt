@@ -1,4 +1,6 @@
-use Rattle.fs_pcapng.proofs.{Words.{◌≡◌, ◌≤◌, ◌+◌, take, drop, length, refl, ap, sym, ◌∙◌, subst, arith, take_all, number, reads_as, reads_then, option_behind, option_in, padded}, Fitting.{behind_all, value_fits}}
+use Rattle.fs_pcapng.proofs.Words.{◌≡◌, ◌≤◌, ◌+◌, take, drop, length, refl, ap, sym, ◌∙◌, subst, arith, take_all, number, reads_as, reads_then}
+use Rattle.fs_pcapng.proofs.Words.{option_behind, option_in, padded}
+use Rattle.fs_pcapng.proofs.Fitting.{behind_all, value_fits}
 use Rattle.fs_pcapng.proofs.options.take_option.Goals as goal
 
 pub returns-clause-reads : goal.returns-clause-reads

@@ -1,4 +1,6 @@
-use Rattle.fs_pcapng.{proofs.{Words.{◌≡◌, ◌≤◌, ◌+◌, ◌-◌, Some, length, take, drop, ap, sym, ◌∙◌, arith, slice_get, number, scan_of, wrong, told_by}, Fitting.{behind_all}, Told.{four_more, which_said}}, specs.declared.fault.NgReason.TheVariants.{Interface as WrongInterface}}
+use Rattle.fs_pcapng.proofs.Words.{◌≡◌, ◌≤◌, ◌+◌, ◌-◌, Some, length, take, drop, ap, sym, ◌∙◌, arith, slice_get, number, scan_of, wrong, told_by}
+use Rattle.fs_pcapng.proofs.{Fitting.{behind_all}, Told.{four_more, which_said}}
+use Rattle.fs_pcapng.specs.declared.fault.NgReason.TheVariants.{Interface as WrongInterface}
 use Rattle.fs_pcapng.proofs.packets.judge_told.Goals as goal
 
 pub returns-in-Some-clause-said : goal.returns-in-Some-clause-said

@@ -1,4 +1,6 @@
-use Rattle.fs_pcapng.proofs.{Words.{rules, ◌≡◌, ◌≢◌, ◌+◌, ◌-◌, ◌==◌, take, drop, ◌∙◌, arith, number, gives_for, reads_as, reads_fails, reads_then, reads_ends, reads_gives, gives, and, octets_in, end_in, Length, needs_false, needs_true}, Merged.{closes, closing, first_of, is_equal, is_other, merged}}
+use Rattle.fs_pcapng.proofs.Words.{rules, ◌≡◌, ◌≢◌, ◌+◌, ◌-◌, ◌==◌, take, drop, ◌∙◌, arith, number, gives_for, reads_as, reads_fails, reads_then}
+use Rattle.fs_pcapng.proofs.Words.{reads_ends, reads_gives, gives, and, octets_in, end_in, Length, needs_false, needs_true}
+use Rattle.fs_pcapng.proofs.Merged.{closes, closing, first_of, is_equal, is_other, merged}
 use Rattle.fs_pcapng.proofs.packets.take_captured.Goals as goal
 
 pub returns-clause-reads : goal.returns-clause-reads
@@ -13,7 +15,8 @@ returns-clause-reads g c =
     reads_as (octets_in frame c.args.fixed captured) (merged frame captured rest c.args.counted.now.taken)
     (reads_then (closing frame captured rest) (λ _. take captured into) c.in_default-take_front.ensures.reads
     (reads_as (closing frame captured rest all)
-    (needs_true (number frame.order 4 (drop (captured + rest) all) == frame.total) Length (frame.start + frame.total - 4) (gives (take captured all)) test c.take_front-2.new.counted.taken)
+    (needs_true (number frame.order 4 (drop (captured + rest) all) == frame.total) Length (frame.start + frame.total - 4)
+    (gives (take captured all)) test c.take_front-2.new.counted.taken)
     (gives_for (take captured all) (λ _. take captured into) _ (first_of captured rest into))))
 
 pub returns-then-read_u32-frame-clause-reads : goal.returns-then-read_u32-frame-clause-reads
@@ -32,7 +35,8 @@ returns-then-read_u32-frame-clause-reads g c =
     reads_as (octets_in frame c.args.fixed captured) (merged frame captured rest c.args.counted.now.taken)
     (reads_then (closing frame captured rest) (λ _. take captured into) c.in_default-take_front.ensures.reads
     (reads_as (closing frame captured rest all)
-    (needs_false (number frame.order 4 (drop (captured + rest) all) == frame.total) Length (frame.start + frame.total - 4) (gives (take captured all)) (c.take_front-2.new.counted.taken - 4) test spot c.take_front-2.new.counted.taken)
+    (needs_false (number frame.order 4 (drop (captured + rest) all) == frame.total) Length (frame.start + frame.total - 4) (gives (take captured all))
+    (c.take_front-2.new.counted.taken - 4) test spot c.take_front-2.new.counted.taken)
     (reads_fails (λ _. take captured into) Length (c.take_front-2.new.counted.taken - 4))))
 
 pub returns-in-Ok-clause-reads : goal.returns-in-Ok-clause-reads

@@ -1,4 +1,5 @@
-use Rattle.fs_pcapng.proofs.{Words.{take, ap, sym, gives, gives_for, reads_as, reads_ends, reads_then, enhanced_in, packet, seen_from}, Told.{behind_told, enhanced_is}}
+use Rattle.fs_pcapng.proofs.Words.{take, ap, sym, gives, gives_for, reads_as, reads_ends, reads_then, enhanced_in, packet, seen_from}
+use Rattle.fs_pcapng.proofs.Told.{behind_told, enhanced_is}
 use Rattle.fs_pcapng.proofs.packets.take_enhanced.Goals as goal
 
 pub returns-in-Ok-take_captured-clause-reads : goal.returns-in-Ok-take_captured-clause-reads

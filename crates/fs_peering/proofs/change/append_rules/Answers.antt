@@ -9,5 +9,6 @@ loop-rest-preserved c =
     let whole = headed rest c.first-item.result c.in-len1-up.len_at_least c.first-item.is in
     record {
       fit = all_behind (is_short c.args.terms.now c.args.numbers.now) rest c.first-item.result others whole c.loop-rest.invariant.fit;
-      text = said_behind (text_by c.args.terms.now c.args.numbers.now) rest c.first-item.result others _ _ _ whole c.in_ok-append_rule.ensures c.loop-rest.invariant.text;
+      text = said_behind (text_by c.args.terms.now c.args.numbers.now) rest c.first-item.result others _ _ _ whole c.in_ok-append_rule.ensures
+          c.loop-rest.invariant.text;
     }

@@ -1,4 +1,5 @@
-use Rattle.fs_peering.proofs.{Words.{ℕ, List, ◌-◌, length, take, drop, Sent, is_short}, ChangeParts.{all_behind, counted_behind, headed, passed_behind, unsaid_behind}}
+use Rattle.fs_peering.proofs.Words.{ℕ, List, ◌-◌, length, take, drop, Sent, is_short}
+use Rattle.fs_peering.proofs.ChangeParts.{all_behind, counted_behind, headed, passed_behind, unsaid_behind}
 use Rattle.fs_speaker.specs.Sending.{text_by}
 use Rattle.fs_peering.proofs.change.append_unsaid.Goals as goal
 

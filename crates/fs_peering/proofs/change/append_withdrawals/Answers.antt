@@ -3,7 +3,8 @@ use Rattle.fs_base.specs.Bits.{afi_of}
 use Rattle.fs_nlri.specs.Parts.{Ruled}
 use Rattle.fs_attrs.specs.Writable.{are_rules_of}
 use Rattle.fs_peering.specs.{Change.{fits_alone}, Keeper.{withdrawal_text}}
-use Rattle.fs_peering.proofs.{Words.{List, arith, list_all, true, ◌-◌, ◌==◌, ◌≡◌, length, take, drop, subst, sym}, ChangeParts.{all_dropped, all_packed, all_taken, headed, pack_fits, packs_behind}}
+use Rattle.fs_peering.proofs.Words.{List, arith, list_all, true, ◌-◌, ◌==◌, ◌≡◌, length, take, drop, subst, sym}
+use Rattle.fs_peering.proofs.ChangeParts.{all_dropped, all_packed, all_taken, headed, pack_fits, packs_behind}
 use Rattle.fs_peering.proofs.change.append_withdrawals.Goals as goal
 
 pub append_withdrawal-requires-clause-of_family : goal.append_withdrawal-requires-clause-of_family
@@ -35,5 +36,6 @@ loop-rest-preserved c =
 
 pub returns : goal.returns
 returns c =
-    all_packed (withdrawal_text c.args.terms.now c.args.family) c.loop-rest.rest.now _ _ (nil_from_length c.loop-rest.rest.now (omega (arith, c.in_default.len_below)))
+    all_packed (withdrawal_text c.args.terms.now c.args.family) c.loop-rest.rest.now _ _
+    (nil_from_length c.loop-rest.rest.now (omega (arith, c.in_default.len_below)))
     c.loop-rest.invariant.text

@@ -1,5 +1,6 @@
 use Rattle.std.proofs.Common.{rules, arith, inl, inr, refl, sym, ◌∙◌, ◌≡◌}
-use Rattle.fs_peering.proofs.{Exchanging.{talked, talking_none, talking_first, talking_second, talking_said, never_first, never_second, talked_done}, joined.exchange.Goals.{else-flow-gt0-2-via-then-flow-gt0-2+else-flow-limit, else-flow-gt0-2-via-else-flow-gt0-2}}
+use Rattle.fs_peering.proofs.Exchanging.{talked, talking_none, talking_first, talking_second, talking_said, never_first, never_second, talked_done}
+use Rattle.fs_peering.proofs.joined.exchange.Goals.{else-flow-gt0-2-via-then-flow-gt0-2+else-flow-limit, else-flow-gt0-2-via-else-flow-gt0-2}
 use Rattle.fs_peering.proofs.joined.exchange.Goals as goal
 
 pub loop-flow-init : goal.loop-flow-init
@@ -44,12 +45,14 @@ loop-flow-preserved g c = record {
 
 pub returns-then-is_over-clause-talked : goal.returns-then-is_over-clause-talked
 returns-then-is_over-clause-talked g c =
-    talked _ _ _ _ _ _ _ _ _ _ _ _ (talking_first c.loop-flow.invariant.talking _ _ _ _ _ _ _ c.in_ok-flow.ensures c.in_ok-round.ensures.round c.in_ok-round.ensures.moment)
+    talked _ _ _ _ _ _ _ _ _ _ _ _
+    (talking_first c.loop-flow.invariant.talking _ _ _ _ _ _ _ c.in_ok-flow.ensures c.in_ok-round.ensures.round c.in_ok-round.ensures.moment)
     (search rules, search rules) (λ events now first second read. (search rules, c.loop-flow.invariant.second.opened))
 
 pub returns-then-limit-flow-clause-talked : goal.returns-then-limit-flow-clause-talked
 returns-then-limit-flow-clause-talked g c =
-    talked _ _ _ _ _ _ _ _ _ _ _ _ (talking_first c.loop-flow.invariant.talking _ _ _ _ _ _ _ c.in_ok-flow.ensures c.in_ok-round.ensures.round c.in_ok-round.ensures.moment)
+    talked _ _ _ _ _ _ _ _ _ _ _ _
+    (talking_first c.loop-flow.invariant.talking _ _ _ _ _ _ _ c.in_ok-flow.ensures c.in_ok-round.ensures.round c.in_ok-round.ensures.moment)
     (search rules, search rules) (λ events now first second read. (search rules, (c.loop-flow.invariant.second.opened, inl (search rules))))
 
 pub returns-then-round-eq0-clause-talked : goal.returns-then-round-eq0-clause-talked
@@ -58,12 +61,14 @@ returns-then-round-eq0-clause-talked g c =
 
 pub returns-then-is_over-2-clause-talked : goal.returns-then-is_over-2-clause-talked
 returns-then-is_over-2-clause-talked g c =
-    talked _ _ _ _ _ _ _ _ _ _ _ _ (talking_second c.loop-flow.invariant.talking _ _ _ _ _ _ _ c.in_ok-flow-2.ensures c.in_ok-round-2.ensures.round c.in_ok-round-2.ensures.moment)
+    talked _ _ _ _ _ _ _ _ _ _ _ _
+    (talking_second c.loop-flow.invariant.talking _ _ _ _ _ _ _ c.in_ok-flow-2.ensures c.in_ok-round-2.ensures.round c.in_ok-round-2.ensures.moment)
     (search rules, search rules) (λ events now first second read. (c.loop-flow.invariant.first.opened, search rules))
 
 pub returns-then-limit-count-clause-talked : goal.returns-then-limit-count-clause-talked
 returns-then-limit-count-clause-talked g c =
-    talked _ _ _ _ _ _ _ _ _ _ _ _ (talking_second c.loop-flow.invariant.talking _ _ _ _ _ _ _ c.in_ok-flow-2.ensures c.in_ok-round-2.ensures.round c.in_ok-round-2.ensures.moment)
+    talked _ _ _ _ _ _ _ _ _ _ _ _
+    (talking_second c.loop-flow.invariant.talking _ _ _ _ _ _ _ c.in_ok-flow-2.ensures c.in_ok-round-2.ensures.round c.in_ok-round-2.ensures.moment)
     (search rules, search rules) (λ events now first second read. (c.loop-flow.invariant.first.opened, (search rules, inr (search rules))))
 
 pub returns-then-round-eq0-2-clause-talked : goal.returns-then-round-eq0-2-clause-talked
@@ -72,7 +77,10 @@ returns-then-round-eq0-2-clause-talked g c =
 
 pub returns-in_default-clause-talked : goal.returns-in_default-clause-talked
 returns-in_default-clause-talked g c =
-    talked_done c.loop-flow.invariant.talking _ _ _ _ (rw c.in_default.is at c.in_ok-said.ensures.spoke) (search rules, c.loop-flow.invariant.bound) c.loop-flow.invariant.first.opened
+    talked_done c.loop-flow.invariant.talking _ _ _ _ (rw c.in_default.is at c.in_ok-said.ensures.spoke) (
+      search rules,
+      c.loop-flow.invariant.bound,
+    ) c.loop-flow.invariant.first.opened
     (c.in_ok-said.ensures.over ∙ c.loop-flow.invariant.second.opened) c.loop-flow.invariant.first.within (search rules) (omega (arith, c.if-flow-gt0.false))
     (c.in_ok-said.ensures.begun c.in_default.is c.loop-flow.invariant.second.opened)
     (λ waits.

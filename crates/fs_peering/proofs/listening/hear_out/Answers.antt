@@ -3,7 +3,15 @@ use Rattle.fs_peering.proofs.Attending.{hears_out, listens_more, listens_none}
 use Rattle.fs_peering.proofs.listening.hear_out.Goals as goal
 
 pub loop-round-init : goal.loop-round-init
-loop-round-init g c = record { later = search rules; within = c.requires.some; opened = c.requires.open; sent = refl; own = refl; listens = listens_none _ _ _ _ _ }
+loop-round-init g c = record {
+  later = search rules;
+  within = c.requires.some;
+  opened = c.requires.open;
+  sent = refl;
+  own = refl;
+  listens =
+      listens_none _ _ _ _ _;
+}
 
 pub loop-round-preserved : goal.loop-round-preserved
 loop-round-preserved g c = record {

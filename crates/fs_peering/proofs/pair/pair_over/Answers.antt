@@ -1,4 +1,5 @@
-use Rattle.fs_peering.proofs.{Words.{standing_at_desk, ◌≡◌, ℕ, true, ap, subst, ◌∙◌, EndsTalk, Hearer, Teller}, Paired.{pairs_as, pairs_on}, Sending.{says_start}}
+use Rattle.fs_peering.proofs.Words.{standing_at_desk, ◌≡◌, ℕ, true, ap, subst, ◌∙◌, EndsTalk, Hearer, Teller}
+use Rattle.fs_peering.proofs.{Paired.{pairs_as, pairs_on}, Sending.{says_start}}
 use Rattle.fs_peering.proofs.pair.pair_over.Goals as goal
 
 pub returns-clause-pairs : goal.returns-clause-pairs
@@ -14,7 +15,9 @@ returns-clause-pairs g c config whose sending d w e s =
     (says_start true before.announcer before.started before.count config whose sending e s c.requires.unheard) e
     (g.W.Wire.tells c.args.wire.now) (g.W.Wire.tells c.exchange.new.wire) (g.C.Clock.answers c.args.clock.now) (g.C.Clock.answers c.exchange.new.clock)
     c.in_ok-talk.talk c.ending_of.result
-    (pairs_on first.desk last.desk first.peer last.peer first.count last.count c.args.limit before.hears_on after.hears_on before.announcer after.announcer before.started after.started before.count after.count
-    (g.W.Wire.tells c.args.wire.now) (g.W.Wire.tells c.exchange.new.wire) (g.C.Clock.answers c.args.clock.now) (g.C.Clock.answers c.exchange.new.clock) c.in_ok-talk.talk
+    (pairs_on first.desk last.desk first.peer last.peer first.count last.count c.args.limit before.hears_on after.hears_on before.announcer
+    after.announcer before.started after.started before.count after.count
+    (g.W.Wire.tells c.args.wire.now) (g.W.Wire.tells c.exchange.new.wire) (g.C.Clock.answers c.args.clock.now)
+    (g.C.Clock.answers c.exchange.new.clock) c.in_ok-talk.talk
     c.requires.on (ap (λ (s : Teller). s.hears_on) kept.1 ∙ c.requires.on) c.in_ok-talk.ensures.talked)
     (subst (λ (n : ℕ). EndsTalk c.in_ok-talk.talk (standing_at_desk last.desk n) after.announcer.line c.ending_of.result) same c.ending_of.ensures)

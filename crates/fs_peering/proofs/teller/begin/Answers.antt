@@ -7,5 +7,6 @@ returns-then-started-clause-begins c = λ hears_on. begun_on hears_on c.args.ann
 pub returns-clause-begins : goal.returns-clause-begins
 returns-clause-begins c =
     on_ok_weaker c.start.result
-    (λ starts hears_on. begins_on hears_on c.args.announcer.now c.start.new.announcer c.args.started c.args.out.now.items c.start.new.out.items (search rules) starts)
+    (λ starts hears_on. begins_on hears_on c.args.announcer.now c.start.new.announcer c.args.started c.args.out.now.items c.start.new.out.items
+    (search rules) starts)
     c.start.ensures.starts

@@ -1,10 +1,14 @@
-use Rattle.fs_reports.proofs.{Words.{◌≡◌, ℕ, ◌<◌, List, Contains, eqb, map, take_all, ap, sym, subst, ◌∙◌, Contains-dedup_nat, Contains-from_dedup, All-permutation, Contains-permutation, IsPermutation-sym, IsStrictlyIncreasing-dedup, sorted_from_strictly_increasing, dedup}, Numbers.{number_of, numbers_are}}
+use Rattle.fs_reports.proofs.Words.{◌≡◌, ℕ, ◌<◌, List, Contains, eqb, map, take_all, ap, sym, subst, ◌∙◌, Contains-dedup_nat, Contains-from_dedup}
+use Rattle.fs_reports.proofs.Words.{All-permutation, Contains-permutation, IsPermutation-sym, IsStrictlyIncreasing-dedup}
+use Rattle.fs_reports.proofs.Words.{sorted_from_strictly_increasing, dedup}
+use Rattle.fs_reports.proofs.Numbers.{number_of, numbers_are}
 use Rattle.std.proofs.lemmas.List.Filters.{dedup_is, All-dedup}
 use Rattle.fs_reports.proofs.peers.peer_numbers.Goals as goal
 
 pub returns : goal.returns
 returns c =
-    let all : c.loop-peer.numbers.items ≡ map number_of c.args.peers.now = c.loop-peer.invariant.numbers ∙ ap (map number_of) (take_all _ c.args.peers.now c.loop-peer-test.false) in
+    let all : c.loop-peer.numbers.items ≡ map number_of c.args.peers.now = c.loop-peer.invariant.numbers
+    ∙ ap (map number_of) (take_all _ c.args.peers.now c.loop-peer-test.false) in
     let sorted : List ℕ = c.sort_unstable.new.self.items in
     let moved = c.sort_unstable.ensures.permutation in
     rw (dedup_is _ _ _ c.dedup.ensures.filtered)

@@ -2,4 +2,5 @@ use Rattle.fs_rules.proofs.Words.{◌≡◌, ◌++◌, map, drop, flat, shown_he
 use Rattle.fs_rules.proofs.blocks.push_held.Given as goal
 
 abbrev pub invariant-loop-block : goal.invariant-loop-block
-invariant-loop-block l = map shown_held l.list.items ++ map judgement (flat (drop l.block-index l.blocks)) ≡ map shown_held l.fn.list.items ++ map judgement (flat l.blocks)
+invariant-loop-block l = map shown_held l.list.items ++ map judgement (flat (drop l.block-index l.blocks)) ≡ map shown_held l.fn.list.items
+    ++ map judgement (flat l.blocks)

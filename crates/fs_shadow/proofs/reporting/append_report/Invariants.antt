@@ -6,5 +6,6 @@ abbrev pub invariant-loop-number : goal.invariant-loop-number
 invariant-loop-number l = record {
   within : l.start ≤ l.number;
   apart : AreApart (all_admitted l.list) l.start l.number;
-  rest : l.pairs.items ++ report_behind (take l.number (all_admitted l.list)) (drop l.number (all_admitted l.list)) ≡ l.fn.pairs.items ++ report_of (all_admitted l.list);
+  rest : l.pairs.items ++ report_behind (take l.number (all_admitted l.list)) (drop l.number (all_admitted l.list)) ≡ l.fn.pairs.items
+      ++ report_of (all_admitted l.list);
 }

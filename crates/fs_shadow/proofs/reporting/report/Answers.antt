@@ -11,4 +11,5 @@ report_of-requires c = subst AreInOrder (sym (ap all_admitted c.deref.ensures.va
 })
 
 pub returns : goal.returns
-returns c = subst (λ (rs : List Listed). IfOk c.report_of.result (λ pairs. pairs.items ≡ report_of rs)) (ap all_admitted c.deref.ensures.value ∙ c.in_ok-list.ensures.list) c.report_of.ensures
+returns c = subst (λ (rs : List Listed). IfOk c.report_of.result (λ pairs. pairs.items ≡ report_of rs)) (ap all_admitted c.deref.ensures.value
+    ∙ c.in_ok-list.ensures.list) c.report_of.ensures

@@ -3,7 +3,8 @@ use Rattle.fs_text.proofs.prefixes.loose_v6.Goals as goal
 
 pub returns-in-Some : goal.returns-in-Some
 returns-in-Some c =
-    v6_made c.in-Some.address c.in-Some.length c.in-Some.offset (map as_part c.args.parts.now) c.loose_wide.result (option_map body_of c.v6_form.result) c.in-Some.is
+    v6_made c.in-Some.address c.in-Some.length c.in-Some.offset (map as_part c.args.parts.now) c.loose_wide.result
+    (option_map body_of c.v6_form.result) c.in-Some.is
     c.loose_wide.ensures c.v6_form.ensures
 
 pub returns-in-None : goal.returns-in-None

@@ -5,7 +5,8 @@ use Rattle.fs_text.proofs.text.read_some_actions.Given as goal
 abbrev pub invariant-loop-actions : goal.invariant-loop-actions
 invariant-loop-actions l =
     (l.place ≤ length l.words)
-    × ((family : Family) (parts : List Part) → Acts (map (λ w. w.now) l.words) family parts [] l.initial.place → Acts (map (λ w. w.now) l.words) family parts l.actions l.place)
+    × ((family : Family) (parts : List Part) → Acts (map (λ w. w.now) l.words) family parts [] l.initial.place
+    → Acts (map (λ w. w.now) l.words) family parts l.actions l.place)
     × ((l.actions ≡ []) ⊎ (drop l.place (map (λ w. w.now) l.words) ≡ [] → ⊥))
 
 abbrev pub decreases-loop-actions : goal.decreases-loop-actions

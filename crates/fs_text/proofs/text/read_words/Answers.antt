@@ -9,7 +9,8 @@ returns-in_err-family c =
 
 pub returns-in_err-components : goal.returns-in_err-components
 returns-in_err-components c =
-    err_on (ReadsWords (map (λ (w : Bor (List ℕ)). w.now) c.args.words.now)) c.from_residual-in_err-components.result c.from_residual-in_err-components.ensures.1
+    err_on (ReadsWords (map (λ (w : Bor (List ℕ)). w.now) c.args.words.now)) c.from_residual-in_err-components.result
+    c.from_residual-in_err-components.ensures.1
     (λ fault same. rw same (reads_fault (map (λ (w : Bor (List ℕ)). w.now) c.args.words.now) c.in_err-components.field-0.0 c.in_err-components.ensures.fault))
 
 pub returns-in_err-actions : goal.returns-in_err-actions

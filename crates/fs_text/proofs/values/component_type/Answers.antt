@@ -4,8 +4,10 @@ use Rattle.fs_text.proofs.values.component_type.Goals.{else-kind-last_type-via-t
 
 pub returns-then-eq : goal.returns-then-eq
 returns-then-eq c =
-    type_named c.args.family c.args.name.now c.loose_kind-kind.result c.loose_kind-kind.ensures.some (grind (arith, c.if-kind-last_type.true, c.last_type.ensures))
-    (sym c.component_name.ensures ∙ (slice_eq-Decides Decides-eqb c.component_name.result.now c.args.name.now true (sym c.if-eq.true ∙ c.eq.ensures)).0 refl) c.loose_kind-kind.ensures.value
+    type_named c.args.family c.args.name.now c.loose_kind-kind.result c.loose_kind-kind.ensures.some
+    (grind (arith, c.if-kind-last_type.true, c.last_type.ensures))
+    (sym c.component_name.ensures ∙ (slice_eq-Decides Decides-eqb c.component_name.result.now c.args.name.now true (sym c.if-eq.true
+    ∙ c.eq.ensures)).0 refl) c.loose_kind-kind.ensures.value
 
 pub returns-else-kind-last_type : goal.returns-else-kind-last_type
 returns-else-kind-last_type c =
@@ -13,7 +15,11 @@ returns-else-kind-last_type c =
     λ low named.
     elim c.else-kind-last_type.branch [
       | else-kind-last_type-via-then-kind-last_type+else-eq w ↦
-          absurd (cc (w.if-eq.false, w.eq.ensures, (slice_eq-Decides Decides-eqb w.component_name.result.now c.args.name.now w.eq.result w.eq.ensures).1 (w.component_name.ensures ∙ named)))
+          absurd (cc (
+            w.if-eq.false,
+            w.eq.ensures,
+            (slice_eq-Decides Decides-eqb w.component_name.result.now c.args.name.now w.eq.result w.eq.ensures).1 (w.component_name.ensures ∙ named),
+          ))
       | else-kind-last_type-via-else-kind-last_type w ↦ absurd (omega (arith, w.if-kind-last_type.false, c.last_type.ensures, low))
     ]
     )

@@ -2,11 +2,15 @@ use Rattle.fs_unicast.proofs.{Words.{◌≡◌, ◌∙◌, subst, Some, Option, 
 use Rattle.fs_unicast.proofs.turns.take_last.Goals as goal
 
 -- the keys stayed as they were, since no turn stood at the place
-last_was : (old new : List Place) (z : Place) (o : Option Place) → new ≡ old → IsStrictlySortedBy place_cmp new → o ≡ find_last (λ t. is_le (place_cmp t z)) new → IsLastUpto old z o
+last_was : (old new : List Place) (z : Place) (o : Option Place) → new ≡ old → IsStrictlySortedBy place_cmp new
+    → o ≡ find_last (λ t. is_le (place_cmp t z)) new → IsLastUpto old z o
 last_was old new z o same sorted e = subst (λ ts. IsLastUpto ts z o) same (last_is new z o sorted e)
 
 pub returns-in_err-turn-clause-last : goal.returns-in_err-turn-clause-last
-returns-in_err-turn-clause-last c = last_was c.args.turns.now.keys c.remove.new.self.keys c.args.place.now c.from_residual.result c.if-remove.ensures.unchanged c.last_turn.ensures.ordered (c.from_residual.ensures ∙ c.in_err-turn.ensures.found)
+returns-in_err-turn-clause-last c =
+    last_was c.args.turns.now.keys c.remove.new.self.keys c.args.place.now c.from_residual.result c.if-remove.ensures.unchanged
+    c.last_turn.ensures.ordered (c.from_residual.ensures ∙ c.in_err-turn.ensures.found)
 
 pub returns-clause-last : goal.returns-clause-last
-returns-clause-last c = last_was c.args.turns.now.keys c.remove.new.self.keys c.args.place.now (Some c.in_ok-turn.turn) c.if-remove.ensures.unchanged c.last_turn.ensures.ordered c.in_ok-turn.ensures.found
+returns-clause-last c = last_was c.args.turns.now.keys c.remove.new.self.keys c.args.place.now (Some c.in_ok-turn.turn) c.if-remove.ensures.unchanged
+    c.last_turn.ensures.ordered c.in_ok-turn.ensures.found

@@ -1,4 +1,5 @@
-use Rattle.fs_words.{proofs.{Words.{◌++◌, ◌∷◌, [], ℕ, List, ap, ◌∙◌, codes, string_bytes, spaced}, Spaces.{named, on_ok}}, specs.Actions.{action_name, action_text}}
+use Rattle.fs_words.proofs.{Words.{◌++◌, ◌∷◌, [], ℕ, List, ap, ◌∙◌, codes, string_bytes, spaced}, Spaces.{named, on_ok}}
+use Rattle.fs_words.specs.Actions.{action_name, action_text}
 use Rattle.fs_words.proofs.printing.print_one_action.Goals as goal
 
 pub returns : goal.returns

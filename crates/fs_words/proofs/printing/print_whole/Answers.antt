@@ -11,5 +11,6 @@ returns c =
     let first = c.in_ok-push_str.ensures.bytes ∙ ap (λ (w : List ℕ). old ++ w) (c.family_word.ensures ∙ ap family_word c.family.ensures) in
     let second = c.in_ok-print_components.ensures ∙ ap (λ (parts : List Part). front ++ spaced (component_words parts)) c.components.ensures.parts in
     on_ok c.print_actions.result c.print_actions.ensures
-    (λ e. whole_text old front middle (string_bytes c.print_actions.new.out) (family_word rule.family) (component_words rule.parts) (then_words c.args.actions.now) first second
+    (λ e. whole_text old front middle (string_bytes c.print_actions.new.out) (family_word rule.family) (component_words rule.parts)
+    (then_words c.args.actions.now) first second
     (e ∙ ap (λ (l : List (List ℕ)). middle ++ spaced (then_words l)) c.as_slice.ensures.value))

@@ -11,6 +11,7 @@ pub returns-in-Change-clause-sends : goal.returns-in-Change-clause-sends
 returns-in-Change-clause-sends g c =
     sends_as
     (ap (λ (what : What). text_at c.args.heard.moment
-    (made_by c.args.self.now.config c.args.heard.peer c.args.heard.wide (said_from what c.args.buffer.now) (lives_of c.args.self.now.lives c.args.heard.peer)).0)
+    (made_by c.args.self.now.config c.args.heard.peer c.args.heard.wide (said_from what c.args.buffer.now)
+    (lives_of c.args.self.now.lives c.args.heard.peer)).0)
     (sym c.in-Change.is))
     (c.write_change.ensures.sends c.args.heard.wide)

@@ -1,4 +1,6 @@
-use Rattle.cmd_stages.proofs.{Words.{◌≤◌, ℕ, List, arith, length, subst, sym, with_items, with_items_is, longest_payload, IsReady, Stands}, Stages.{match_err}, LookingAhead.{player_with, ready_ahead, slots_then, stands_begun, unbegun, with_room}}
+use Rattle.cmd_stages.proofs.Words.{◌≤◌, ℕ, List, arith, length, subst, sym, with_items, with_items_is, longest_payload, IsReady, Stands}
+use Rattle.cmd_stages.proofs.Stages.{match_err}
+use Rattle.cmd_stages.proofs.LookingAhead.{player_with, ready_ahead, slots_then, stands_begun, unbegun, with_room}
 use Rattle.cmd_stages.proofs.player.Player.begin.Goals as goal
 
 pub returns-in_err-ahead-clause-begun : goal.returns-in_err-ahead-clause-begun
@@ -16,18 +18,22 @@ returns-in_err-ahead-clause-others g c =
 pub invariant_of-result : goal.invariant_of-result
 invariant_of-result g c =
     let room : longest_payload ≤ length c.next_item.new.buffer = omega (arith, c.in_ok-buffer.ensures.len) in
-    with_room c.in_ok-ahead.ahead (longest_payload ≤ length (with_items c.in_ok-buffer.buffer c.next_item.new.buffer).items) (IsReady c.next_item.new.tape c.in_ok-desk.desk.config)
+    with_room c.in_ok-ahead.ahead (longest_payload ≤ length (with_items c.in_ok-buffer.buffer c.next_item.new.buffer).items)
+    (IsReady c.next_item.new.tape c.in_ok-desk.desk.config)
     (subst (λ (l : List ℕ). longest_payload ≤ length l) (sym (with_items_is c.in_ok-buffer.buffer c.next_item.new.buffer (omega arith))) room)
-    (ready_ahead c.in_ok-ahead.ahead c.next_item.new.tape c.in_ok-tape.tape.place c.args.config.now c.in_ok-desk.desk.config c.in_ok-desk.ensures.played.config_is
+    (ready_ahead c.in_ok-ahead.ahead c.next_item.new.tape c.in_ok-tape.tape.place c.args.config.now c.in_ok-desk.desk.config
+    c.in_ok-desk.ensures.played.config_is
     c.in_ok-ahead.ensures.known c.in_ok-ahead.ensures.open c.in_ok-ahead.ensures.grows)
 
 pub returns-clause-begun : goal.returns-clause-begun
 returns-clause-begun g c = λ told items e v.
     subst (λ (l : List ℕ). Stands items 0 (player_with c.next_item.new.tape c.in_ok-ahead.ahead l c.in_ok-desk.desk) (g.F.Files.left c.next_item.new.files 1))
     (sym (with_items_is c.in_ok-buffer.buffer c.next_item.new.buffer (omega arith)))
-    (stands_begun c.args.config.now c.args.limit (g.F.Files.holds c.args.files.now) c.args.name.now (g.F.Files.left c.open_tape.new.files) (g.F.Files.left c.next_item.new.files) items
+    (stands_begun c.args.config.now c.args.limit (g.F.Files.holds c.args.files.now) c.args.name.now (g.F.Files.left c.open_tape.new.files)
+    (g.F.Files.left c.next_item.new.files) items
     c.in_ok-tape.tape c.next_item.new.tape c.in_ok-ahead.ahead c.next_item.new.buffer c.in_ok-desk.desk
-    e v (c.in_ok-tape.ensures.opened told) c.in_ok-tape.ensures.state.slot_is (c.in_ok-ahead.ensures.gives told) c.in_ok-ahead.ensures.version c.in_ok-desk.ensures.played)
+    e v (c.in_ok-tape.ensures.opened told) c.in_ok-tape.ensures.state.slot_is (c.in_ok-ahead.ensures.gives told) c.in_ok-ahead.ensures.version
+    c.in_ok-desk.ensures.played)
 
 pub returns-clause-others : goal.returns-clause-others
 returns-clause-others g c =

@@ -1,4 +1,7 @@
-use Rattle.cmd_stages.proofs.{Words.{◌≡◌, ◌∙◌, ℕ, None, ap, refl, sym, subst, rules, Config, Desked, Leaves, IsOpenOrDone, until, PlayerState, Stands, due_item}, Stages.{match_err}, LookingAhead.{covers_first, due_is, fewer_left, leaves_until, never_due, rose_on, stands_noted}}
+use Rattle.cmd_stages.proofs.Words.{◌≡◌, ◌∙◌, ℕ, None, ap, refl, sym, subst, rules, Config, Desked, Leaves, IsOpenOrDone, until, PlayerState, Stands}
+use Rattle.cmd_stages.proofs.Words.{due_item}
+use Rattle.cmd_stages.proofs.Stages.{match_err}
+use Rattle.cmd_stages.proofs.LookingAhead.{covers_first, due_is, fewer_left, leaves_until, never_due, rose_on, stands_noted}
 use Rattle.cmd_stages.proofs.player.Player.play_to.Goals as goal
 
 pub returns-in_err-step-clause-played : goal.returns-in_err-step-clause-played
@@ -6,12 +9,15 @@ returns-in_err-step-clause-played g c = λ told items s. match_err _ _ c.from_re
     rose_on (g.F.Files.faults c.args.files.now) (g.F.Files.faults c.items.files) (g.F.Files.faults c.step.new.files) refusal c.items.invariant.stays.later
     (rw same (c.in_err-step.ensures.played told items c.args.moment
     (due_is c.items.self.ahead c.items.self.tape.moment c.args.moment c.in-Some.item (sym c.due.ensures ∙ c.in-Some.is)).1
-    (subst (λ (n : ℕ). Stands items c.args.moment c.items.self (g.F.Files.left c.items.files n)) (sym c.items.invariant.stays.slot) (c.items.invariant.played told items s)))))
+    (subst (λ (n : ℕ). Stands items c.args.moment c.items.self (g.F.Files.left c.items.files n)) (sym c.items.invariant.stays.slot)
+    (c.items.invariant.played told items s)))))
 
 pub items-smaller : goal.items-smaller
 items-smaller g c =
-    fewer_left c.items.self.ahead c.step.new.self.ahead c.in-Some.item c.items.self.tape.limit c.items.self.tape.place c.step.new.self.tape.limit c.step.new.self.tape.place
-    (due_is c.items.self.ahead c.items.self.tape.moment c.args.moment c.in-Some.item (sym c.due.ensures ∙ c.in-Some.is)).0 c.in_ok-step.ensures.limit c.in_ok-step.ensures.grows
+    fewer_left c.items.self.ahead c.step.new.self.ahead c.in-Some.item c.items.self.tape.limit c.items.self.tape.place c.step.new.self.tape.limit
+    c.step.new.self.tape.place
+    (due_is c.items.self.ahead c.items.self.tape.moment c.args.moment c.in-Some.item (sym c.due.ensures ∙ c.in-Some.is)).0 c.in_ok-step.ensures.limit
+    c.in_ok-step.ensures.grows
 
 pub returns-clause-played : goal.returns-clause-played
 returns-clause-played g c = λ told items s.
@@ -25,7 +31,8 @@ pub items-init : goal.items-init
 items-init g c = record {
   stays = search rules;
   ends = λ h. subst (λ (p : PlayerState). IsOpenOrDone p.tape p.ahead) (sym c.self.view_is) h;
-  told = covers_first c.args.self.now.desk.held c.self.inside.desk c.watch.new.self (sym (ap (λ (p : PlayerState). p.desk.held) c.self.view_is)) c.watch.ensures;
+  told = covers_first c.args.self.now.desk.held c.self.inside.desk c.watch.new.self (sym (ap (λ (p : PlayerState). p.desk.held) c.self.view_is))
+      c.watch.ensures;
   calm = λ none. (
     ap (λ (d : Desked). d.changes) c.watch.ensures,
     subst (λ (p : PlayerState). due_item p.ahead p.tape.moment c.args.moment ≡ None) (sym c.self.view_is) none,

@@ -1,4 +1,5 @@
-use Rattle.cmd_stages.proofs.{Words.{◌≡◌, ◌≤◌, List, [], None, IsTrue, false, OnlySlot, Covers, Timed, IsOpenOrDone, Stands, due_item}, LookingAhead.{ahead_left}}
+use Rattle.cmd_stages.proofs.Words.{◌≡◌, ◌≤◌, List, [], None, IsTrue, false, OnlySlot, Covers, Timed, IsOpenOrDone, Stands, due_item}
+use Rattle.cmd_stages.proofs.LookingAhead.{ahead_left}
 use Rattle.cmd_stages.proofs.player.Player.play_to.Given as goal
 
 abbrev pub invariant-items : goal.invariant-items

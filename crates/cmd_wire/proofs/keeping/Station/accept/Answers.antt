@@ -7,7 +7,8 @@ use Rattle.cmd_wire.proofs.keeping.Station.accept.Goals as goal
 pub returns-in_err-news-clause-breaks : goal.returns-in_err-news-clause-breaks
 returns-in_err-news-clause-breaks g c = on_err c.from_residual.result
     (open_broke (λ config. accepts config c.args.time c.args.rules) _ _ c.self.view_is refl
-    (g.G.Gate.turns c.args.gate.now) (g.G.Gate.turns c.accept.new.gate) (g.S.Sink.written c.args.sink.now) (g.S.Sink.written c.args.sink.now) c.in_err-news.ensures.breaks)
+    (g.G.Gate.turns c.args.gate.now) (g.G.Gate.turns c.accept.new.gate) (g.S.Sink.written c.args.sink.now)
+    (g.S.Sink.written c.args.sink.now) c.in_err-news.ensures.breaks)
 
 pub returns-clause-breaks : goal.returns-clause-breaks
 returns-clause-breaks g c = err_to c.write_news.result c.write_news.ensures.err (λ part.

@@ -7,7 +7,8 @@ use Rattle.cmd_wire.proofs.keeping.Station.attend.Goals as goal
 pub returns-in_err-news-clause-breaks : goal.returns-in_err-news-clause-breaks
 returns-in_err-news-clause-breaks g c = on_err c.from_residual.result
     (open_broke (λ config. hears config c.args.event.now.time (what_from c.args.event.now.came c.args.into.now)) _ _ c.self.view_is refl
-    (g.G.Gate.turns c.args.gate.now) (g.G.Gate.turns c.hear.new.gate) (g.S.Sink.written c.args.sink.now) (g.S.Sink.written c.args.sink.now) c.in_err-news.ensures.breaks)
+    (g.G.Gate.turns c.args.gate.now) (g.G.Gate.turns c.hear.new.gate) (g.S.Sink.written c.args.sink.now)
+    (g.S.Sink.written c.args.sink.now) c.in_err-news.ensures.breaks)
 
 pub returns-in_err-write_news-clause-breaks : goal.returns-in_err-write_news-clause-breaks
 returns-in_err-write_news-clause-breaks g c = on_err c.from_residual-in_err-write_news.result

@@ -12,7 +12,8 @@ pub returns-in_err-news-clause-breaks : goal.returns-in_err-news-clause-breaks
 returns-in_err-news-clause-breaks g c = on_err c.from_residual.result
     (untold_by c.args.is_up c.if-not-is_up.false c.args.time c.args.self.now _ _ _ _
     (open_broke (λ config. tells_all config c.args.time) _ _ c.self.view_is refl
-    (g.G.Gate.turns c.args.gate.now) (g.G.Gate.turns c.tell_all.new.gate) (g.S.Sink.written c.args.sink.now) (g.S.Sink.written c.args.sink.now) c.in_err-news.ensures.breaks))
+    (g.G.Gate.turns c.args.gate.now) (g.G.Gate.turns c.tell_all.new.gate) (g.S.Sink.written c.args.sink.now)
+    (g.S.Sink.written c.args.sink.now) c.in_err-news.ensures.breaks))
 
 pub returns-clause-breaks : goal.returns-clause-breaks
 returns-clause-breaks g c = err_to c.write_news.result c.write_news.ensures.err (λ part.

@@ -6,7 +6,8 @@ pub loop-action-preserved : goal.loop-action-preserved
 loop-action-preserved c =
     c.in-Ok.ensures.items
     ∙ ap (λ (octets : List ℕ). c.loop-action.out.items ++ octets) (c.octets.ensures ∙ c.action-item.is)
-    ∙ joined_more c.deref-action-items.result.now c.loop-action.action-index c.action-item.result c.args.out.now.items c.loop-action.out.items (omega arith) c.loop-action.invariant
+    ∙ joined_more c.deref-action-items.result.now c.loop-action.action-index c.action-item.result c.args.out.now.items c.loop-action.out.items
+    (omega arith) c.loop-action.invariant
 
 pub returns-in-Err-clause-whole : goal.returns-in-Err-clause-whole
 returns-in-Err-clause-whole c = rw (← c.self.view_is) (whole_joined c.self.inside.list.items c.self.invariant)

@@ -7,11 +7,13 @@ overflow_cast-to c =
     omega (arith, b, c.requires.whole)
 
 pub shift-requires : goal.shift-requires
-shift-requires c = shift_fits c.args.self (length c.args.self.homes.items) c.args.bucket c.args.from c.args.to c.args.count c.requires.some.0 c.requires.sound c.requires.some.1 c.requires.fits
+shift-requires c = shift_fits c.args.self (length c.args.self.homes.items) c.args.bucket c.args.from c.args.to c.args.count c.requires.some.0
+    c.requires.sound c.requires.some.1 c.requires.fits
 
 pub returns : goal.returns
 returns c = λ most span spans news fits holder housed whole each size.
-    resizes c.args.self (record { lasts = c.args.self.lasts; marks = c.args.self.marks; nodes = c.shift.new.self; homes = c.put_between.new.items }) (length c.args.self.homes.items) most
+    resizes c.args.self (record { lasts = c.args.self.lasts; marks = c.args.self.marks; nodes = c.shift.new.self; homes = c.put_between.new.items })
+    (length c.args.self.homes.items) most
     c.args.bucket c.args.from c.args.to c.args.count span spans news c.requires.sound holder (record {
       lasts = refl;
       nodes = c.shift.ensures;

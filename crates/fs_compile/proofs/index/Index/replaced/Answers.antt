@@ -21,12 +21,14 @@ put_stretch-requires-clause-shared c = all_shared c.args.place.family c.requires
     (c.stretch-from.ensures.stretch c.args.place.family c.requires.some.0 c.requires.some.1)).1
 
 pub put_stretch-requires-clause-some : goal.put_stretch-requires-clause-some
-put_stretch-requires-clause-some c = (c.requires.some.0, c.requires.some.1, c.stretch-from.ensures.stretch c.args.place.family c.requires.some.0 c.requires.some.1)
+put_stretch-requires-clause-some c =
+    (c.requires.some.0, c.requires.some.1, c.stretch-from.ensures.stretch c.args.place.family c.requires.some.0 c.requires.some.1)
 
 pub returns : goal.returns
 returns c =
     IfOk-weaker c.put_stretch.result _ _
     (λ x stands. λ rules h.
     let s = c.stretch-from.ensures.stretch c.args.place.family rules h in
-    subst (λ rs. IsMended c.args.place.family (all_admitted c.args.list.now) rules rs c.args.self x) (sym (replaced_is rules (all_admitted c.args.list.now) _ _ _ s)) (stands rules h s))
+    subst (λ rs. IsMended c.args.place.family (all_admitted c.args.list.now) rules rs c.args.self x)
+    (sym (replaced_is rules (all_admitted c.args.list.now) _ _ _ s)) (stands rules h s))
     c.put_stretch.ensures

@@ -16,4 +16,5 @@ returns-in_err-hit-clause-steps g c = λ view rules are.
 pub returns-clause-steps : goal.returns-clause-steps
 returns-clause-steps g c = λ view rules are.
     let own = subst (AreMatchesOf view rules) (sym c.self.view_is) are in
-    no_more_steps view rules c.self.inside.place.from c.args.steps.now c.search.new.steps (Some c.in_ok-hit.hit.number) (c.in_ok-hit.ensures.steps view rules own.facts own.rules_are)
+    no_more_steps view rules c.self.inside.place.from c.args.steps.now c.search.new.steps (Some c.in_ok-hit.hit.number)
+    (c.in_ok-hit.ensures.steps view rules own.facts own.rules_are)

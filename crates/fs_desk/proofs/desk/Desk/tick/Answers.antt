@@ -1,23 +1,31 @@
-use Rattle.fs_desk.proofs.{Idle.{desk_notes_none}, Words.{BTreeMap, Closed, IsSome, Option, refl, subst, Desked, Live, ap, ℕ, sym}, Played.{desk_stays}, Ticking.{desk_expires, desk_unexpired, desk_ticked, desk_ticks, desk_rests, ticks_expire}}
+use Rattle.fs_desk.proofs.Idle.{desk_notes_none}
+use Rattle.fs_desk.proofs.Words.{BTreeMap, Closed, IsSome, Option, refl, subst, Desked, Live, ap, ℕ, sym}
+use Rattle.fs_desk.proofs.Played.{desk_stays}
+use Rattle.fs_desk.proofs.Ticking.{desk_expires, desk_unexpired, desk_ticked, desk_ticks, desk_rests, ticks_expire}
 use Rattle.fs_desk.proofs.desk.Desk.tick.Goals as goal
 
 pub returns-clause-ticked : goal.returns-clause-ticked
 returns-clause-ticked c =
-    desk_ticks c.self.inside.table.changes c.tick_session.new.table.changes c.args.peer c.args.moment c.in-Some.session.now c.tick_session.new.session c.self.inside.config.now c.self.inside.table.held c.tick_session.new.table.held
-    c.self.inside.sessions.entries _ c.args.self.now c.args.replies.now.items c.tick_session.new.replies.items (sym c.self.view_is) (sym c.in-Some.ensures.value)
+    desk_ticks c.self.inside.table.changes c.tick_session.new.table.changes c.args.peer c.args.moment c.in-Some.session.now c.tick_session.new.session
+    c.self.inside.config.now c.self.inside.table.held c.tick_session.new.table.held
+    c.self.inside.sessions.entries _ c.args.self.now c.args.replies.now.items c.tick_session.new.replies.items (sym c.self.view_is)
+    (sym c.in-Some.ensures.value)
     c.in_ok-tick_session.ensures.ticked
     (c.get_mut.follows.holds c.tick_session.new.session).0
 
 pub returns-clause-played : goal.returns-clause-played
 returns-clause-played c = λ stays expired config items played.
-    desk_ticked config items c.args.peer c.args.moment c.in-Some.session.now c.tick_session.new.session c.self.inside.config.now c.self.inside.table.held c.tick_session.new.table.held
-    c.self.inside.sessions.entries _ c.args.self.now c.args.replies.now.items c.tick_session.new.replies.items (sym c.self.view_is) (sym c.in-Some.ensures.value)
+    desk_ticked config items c.args.peer c.args.moment c.in-Some.session.now c.tick_session.new.session c.self.inside.config.now
+    c.self.inside.table.held c.tick_session.new.table.held
+    c.self.inside.sessions.entries _ c.args.self.now c.args.replies.now.items c.tick_session.new.replies.items (sym c.self.view_is)
+    (sym c.in-Some.ensures.value)
     c.in_ok-tick_session.ensures.ticked
     (c.get_mut.follows.holds c.tick_session.new.session).0 stays played
 
 pub returns-in_default-clause-ticked : goal.returns-in_default-clause-ticked
 returns-in_default-clause-ticked c =
-    desk_rests c.args.peer c.args.moment c.self.inside.config.now c.self.inside.table.held c.self.inside.sessions.entries _ c.args.self.now c.args.replies.now.items
+    desk_rests c.args.peer c.args.moment c.self.inside.config.now c.self.inside.table.held c.self.inside.sessions.entries _ c.args.self.now
+    c.args.replies.now.items
     (sym c.self.view_is)
     (sym c.in_default.ensures.value) (ap (λ (m : BTreeMap ℕ Live). m.entries) c.get_mut.follows.holds-at-none)
 
@@ -28,15 +36,19 @@ returns-in_default-clause-played c = λ stays expired config items played.
     (ap (λ (m : BTreeMap ℕ Live). m.entries) c.get_mut.follows.holds-at-none) played
 
 pub returns-clause-expired : goal.returns-clause-expired
-returns-clause-expired c = ticks_expire c.args.peer c.args.moment c.args.self.now _ c.args.replies.now.items c.tick_session.new.replies.items (returns-clause-ticked c)
+returns-clause-expired c = ticks_expire c.args.peer c.args.moment c.args.self.now _ c.args.replies.now.items c.tick_session.new.replies.items
+    (returns-clause-ticked c)
 
 pub returns-in_default-clause-expired : goal.returns-in_default-clause-expired
-returns-in_default-clause-expired c = ticks_expire c.args.peer c.args.moment c.args.self.now _ c.args.replies.now.items c.args.replies.now.items (returns-in_default-clause-ticked c)
+returns-in_default-clause-expired c =
+    ticks_expire c.args.peer c.args.moment c.args.self.now _ c.args.replies.now.items c.args.replies.now.items (returns-in_default-clause-ticked c)
 
 pub returns-clause-others : goal.returns-clause-others
 returns-clause-others c =
-    desk_expires c.self.inside.table.changes c.tick_session.new.table.changes c.args.peer c.args.moment c.in-Some.session.now c.tick_session.new.session c.self.inside.config.now c.self.inside.table.held c.tick_session.new.table.held
-    c.self.inside.sessions.entries _ c.args.self.now c.args.replies.now.items c.tick_session.new.replies.items (sym c.self.view_is) (sym c.in-Some.ensures.value)
+    desk_expires c.self.inside.table.changes c.tick_session.new.table.changes c.args.peer c.args.moment c.in-Some.session.now
+    c.tick_session.new.session c.self.inside.config.now c.self.inside.table.held c.tick_session.new.table.held
+    c.self.inside.sessions.entries _ c.args.self.now c.args.replies.now.items c.tick_session.new.replies.items (sym c.self.view_is)
+    (sym c.in-Some.ensures.value)
     c.in_ok-tick_session.ensures.ticked
     (c.get_mut.follows.holds c.tick_session.new.session).0
 

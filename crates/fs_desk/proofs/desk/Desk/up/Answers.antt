@@ -7,7 +7,8 @@ on_err (Err e) p = p
 
 pub returns-clause-played : goal.returns-clause-played
 returns-clause-played c = λ expired config items played.
-    desk_up expired config items c.args.peer c.in_ok-session.session c.self.inside.config.now c.self.inside.table.held c.self.inside.sessions.entries c.insert.new.self.entries c.lost.new.self
+    desk_up expired config items c.args.peer c.in_ok-session.session c.self.inside.config.now c.self.inside.table.held c.self.inside.sessions.entries
+    c.insert.new.self.entries c.lost.new.self
     (sym c.self.view_is) c.in_ok-session.ensures c.in_ok-insert.ensures.entries (c.lost.ensures.played expired config items played)
 
 -- a session that finds no room leaves the desk as the loss left it
@@ -25,5 +26,6 @@ returns-clause-begun c =
 
 pub returns-clause-others : goal.returns-clause-others
 returns-clause-others c =
-    others_put c.self.inside.table.changes c.args.peer c.in_ok-session.session c.self.inside.config.now c.self.inside.table.held c.self.inside.table.held c.self.inside.sessions.entries c.insert.new.self.entries
+    others_put c.self.inside.table.changes c.args.peer c.in_ok-session.session c.self.inside.config.now c.self.inside.table.held
+    c.self.inside.table.held c.self.inside.sessions.entries c.insert.new.self.entries
     c.args.self.now c.lost.new.self (sym c.self.view_is) c.in_ok-insert.ensures.entries c.lost.ensures.others

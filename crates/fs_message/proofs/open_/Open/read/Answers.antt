@@ -1,4 +1,5 @@
-use Rattle.fs_message.proofs.{Words.{◌≡◌, ℕ, List, drop, [], Some, sym, ap, ◌∙◌, take_rest, capabilities_of, found_in, all_gathered}, CapabilityLists.{open_found}}
+use Rattle.fs_message.proofs.Words.{◌≡◌, ℕ, List, drop, [], Some, sym, ap, ◌∙◌, take_rest, capabilities_of, found_in, all_gathered}
+use Rattle.fs_message.proofs.CapabilityLists.{open_found}
 use Rattle.fs_message.proofs.open_.Open.read.Goals as goal
 
 pub returns : goal.returns

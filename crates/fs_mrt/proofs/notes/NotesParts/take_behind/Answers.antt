@@ -1,4 +1,5 @@
-use Rattle.fs_mrt.proofs.Words.{rules, arith, ◌≡◌, ◌+◌, ◌-◌, ◌≤◌, ap, refl, ◌∙◌, Option, Some, None, drop, option_map, big_number, gives, gives_for, reads_as, reads_ends, reads_then, head_of}
+use Rattle.fs_mrt.proofs.Words.{rules, arith, ◌≡◌, ◌+◌, ◌-◌, ◌≤◌, ap, refl, ◌∙◌, Option, Some, None, drop, option_map, big_number, gives, gives_for}
+use Rattle.fs_mrt.proofs.Words.{reads_as, reads_ends, reads_then, head_of}
 use Rattle.fs_mrt.specs.{Notes.{note_headed, note_record}, declared.notes.{Note.{Note}}}
 use Rattle.fs_mrt.proofs.notes.NotesParts.take_behind.Goals as goal
 
@@ -20,7 +21,8 @@ returns-in-Ok-clause-reads g c =
     reads_as (note_record c.args.config.now.peers now (taken - 12) octets)
     (λ rest i. note_headed (peers i) (kind i) (subtype i) now (head i) taken rest)
     (reads_then (λ (note : Option Note). gives (note, now)) (λ (told : Option Note). (option_map (λ (n : Note). n) told, now)) c.in-Ok.ensures.reads
-    (gives_for (c.in-Ok.note, now) (λ (told : Option Note). (option_map (λ (n : Note). n) told, now)) c.in-Ok.note (ap (λ (o : Option Note). (o, now)) (same_told c.in-Ok.note))))
+    (gives_for (c.in-Ok.note, now) (λ (told : Option Note). (option_map (λ (n : Note). n) told, now)) c.in-Ok.note
+    (ap (λ (o : Option Note). (o, now)) (same_told c.in-Ok.note))))
 
 pub returns-in-Err-clause-reads : goal.returns-in-Err-clause-reads
 returns-in-Err-clause-reads g c =

@@ -1,4 +1,5 @@
-use Rattle.fs_mrt.proofs.Words.{rules, arith, ◌≡◌, ◌+◌, ◌-◌, ◌≤◌, ap, ◌∙◌, option_map, gives, reads_as, reads_ends, spoken_from, head_of, headed_in, moment_behind, record_behind}
+use Rattle.fs_mrt.proofs.Words.{rules, arith, ◌≡◌, ◌+◌, ◌-◌, ◌≤◌, ap, ◌∙◌, option_map, gives, reads_as, reads_ends, spoken_from, head_of, headed_in}
+use Rattle.fs_mrt.proofs.Words.{moment_behind, record_behind}
 use Rattle.fs_mrt.proofs.records.RecordsParts.take_behind.Goals as goal
 
 pub returns-in-Err-clause-reads : goal.returns-in-Err-clause-reads

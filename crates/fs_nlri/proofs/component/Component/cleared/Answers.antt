@@ -7,4 +7,5 @@ returns-clause-normal c =
     let own = part_of c.args.self in
     let given : part_given c.args.family own ≡ true = sym c.is_given.ensures.value ∙ c.if-not-is_given.false in
     let sound : IsTyped c.args.family own = subst (λ (b : Bool). OnTrue b (IsTyped c.args.family own)) c.if-not-is_given.false c.is_given.ensures.sound in
-    subst (λ (made : Part). IsNormalAt (form_of c.args.family made.kind) made.body) (sym c.clear.ensures) (normal_at (form_of c.args.family own.kind) own.body given sound)
+    subst (λ (made : Part). IsNormalAt (form_of c.args.family made.kind) made.body) (sym c.clear.ensures)
+    (normal_at (form_of c.args.family own.kind) own.body given sound)

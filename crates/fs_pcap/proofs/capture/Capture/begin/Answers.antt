@@ -1,4 +1,5 @@
-use Rattle.fs_pcap.proofs.Words.{rules, arith, ◌≡◌, Ok, Err, none_back, opens_not, opens_so, IsFrontWithin, opened_answer, header_of, CaptureState, Cut, Heading}
+use Rattle.fs_pcap.proofs.Words.{rules, arith, ◌≡◌, Ok, Err, none_back, opens_not, opens_so, IsFrontWithin, opened_answer, header_of, CaptureState}
+use Rattle.fs_pcap.proofs.Words.{Cut, Heading}
 use Rattle.fs_pcap.proofs.capture.Capture.begin.Goals as goal
 
 pub returns-in-Err-clause-opens : goal.returns-in-Err-clause-opens
@@ -25,4 +26,5 @@ invariant_of-result g c =
     let within : IsFrontWithin 24 c.in-Ok.count c.read_header.result = search rules in
     let is : opened_answer Cut c.fill.new.counted.taken c.args.counted.limit c.read_header.result ≡ Ok c.in-Ok-opened.heading = search rules in
     let few = c.args.counted.few in
-    none_back 24 Cut c.args.counted c.fill.new.counted c.in-Ok.count c.read_header.result within c.in-Ok-opened.heading is (omega (arith, few)) c.in-Ok.ensures.back
+    none_back 24 Cut c.args.counted c.fill.new.counted c.in-Ok.count c.read_header.result within c.in-Ok-opened.heading is
+    (omega (arith, few)) c.in-Ok.ensures.back

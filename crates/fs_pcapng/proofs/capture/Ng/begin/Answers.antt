@@ -3,7 +3,8 @@ use Rattle.fs_pcapng.proofs.capture.Ng.begin.Goals as goal
 
 pub returns-in-Ok-clause-begins : goal.returns-in-Ok-clause-begins
 returns-in-Ok-clause-begins g c = λ told.
-    opens block_in refl (g.F.Files.left c.args.files.now) (g.F.Files.left c.take_opening.new.files) block_takes c.requires.start c.in-Ok.ensures.none told c.in-Ok.ensures.reads
+    opens block_in refl (g.F.Files.left c.args.files.now) (g.F.Files.left c.take_opening.new.files) block_takes c.requires.start c.in-Ok.ensures.none
+    told c.in-Ok.ensures.reads
 
 pub returns-in-Err-clause-begins : goal.returns-in-Err-clause-begins
 returns-in-Err-clause-begins g c = λ told.

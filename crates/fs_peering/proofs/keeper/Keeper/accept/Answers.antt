@@ -1,17 +1,20 @@
-use Rattle.fs_peering.proofs.{KeeperWords.{sym, subst, ◌∙◌, Option, IfSome, CanSend, Keeping, Sending, accepts, option_copied, sender_of}, Following.{breaks_early}, Stepped.{accept_off, accept_on, err_on, ok_on}}
+use Rattle.fs_peering.proofs.KeeperWords.{sym, subst, ◌∙◌, Option, IfSome, CanSend, Keeping, Sending, accepts, option_copied, sender_of}
+use Rattle.fs_peering.proofs.{Following.{breaks_early}, Stepped.{accept_off, accept_on, err_on, ok_on}}
 use Rattle.fs_peering.proofs.keeper.Keeper.accept.Goals as goal
 
 pub invariant_of-self : goal.invariant_of-self
 invariant_of-self g c =
     record {
-      sendable = subst (λ (r : Option Sending). IfSome r (CanSend c.self.inside.config.now (sender_of c.self.inside.config.now.peers))) (sym c.replace-old.ensures.after) (subst (λ
+      sendable = subst (λ (r : Option Sending). IfSome r (CanSend c.self.inside.config.now (sender_of c.self.inside.config.now.peers)))
+          (sym c.replace-old.ensures.after) (subst (λ
           (k : Keeping). CanSend k.config (sender_of k.config.peers) c.args.rules) (sym c.self.view_is) c.requires);
       own = c.self.invariant.own;
     }
 
 pub returns-then-not-is_told-clause-took : goal.returns-then-not-is_told-clause-took
 returns-then-not-is_told-clause-took g c =
-    accept_off _ _ c.args.time c.args.rules c.replace-old.new.dest _ c.self.view_is c.requires c.replace-old.ensures.after (sym c.is_told.ensures ∙ c.if-not-is_told.true)
+    accept_off _ _ c.args.time c.args.rules c.replace-old.new.dest _ c.self.view_is c.requires c.replace-old.ensures.after (sym c.is_told.ensures
+    ∙ c.if-not-is_told.true)
 
 pub tell-requires : goal.tell-requires
 tell-requires g c =
@@ -21,7 +24,8 @@ tell-requires g c =
 pub returns-clause-took : goal.returns-clause-took
 returns-clause-took g c =
     ok_on c.tell.result c.tell.ensures.tells
-    (λ news tells. accept_on _ _ c.tell.new.self c.args.time c.args.rules c.replace-old.new.dest (option_copied c.as_ref.result) news _ _ c.self.view_is c.requires c.replace-old.ensures.after
+    (λ news tells. accept_on _ _ c.tell.new.self c.args.time c.args.rules c.replace-old.new.dest
+    (option_copied c.as_ref.result) news _ _ c.self.view_is c.requires c.replace-old.ensures.after
     (sym c.is_told.ensures ∙ c.if-not-is_told.false) (c.as_ref.ensures.value ∙ c.replace-old.ensures.value) tells)
 
 pub returns-clause-breaks : goal.returns-clause-breaks

@@ -1,4 +1,6 @@
-use Rattle.fs_peering.proofs.{KeeperWords.{None, refl, sym, subst, not, on_err, Fits, Grew-refl, TookSo, at_line, begins}, Following.{fits_on}, Stepped.{asked_as, begin_made, begin_other, begin_this, line_no}}
+use Rattle.fs_peering.proofs.KeeperWords.{None, refl, sym, subst, not, on_err, Fits, Grew-refl, TookSo, at_line, begins}
+use Rattle.fs_peering.proofs.Following.{fits_on}
+use Rattle.fs_peering.proofs.Stepped.{asked_as, begin_made, begin_other, begin_this, line_no}
 use Rattle.fs_peering.specs.declared.keeper.Keeper.TheInside.{Inside}
 use Rattle.fs_peering.proofs.keeper.Keeper.begin.Goals.{then-link-line-via-then-link-line, then-link-line-via-else-link-line+then-link}
 use Rattle.fs_peering.proofs.keeper.Keeper.begin.Goals as goal
@@ -14,9 +16,11 @@ returns-in_default-clause-took g c =
 pub invariant_of-self-then-link-line : goal.invariant_of-self-then-link-line
 invariant_of-self-then-link-line g c =
     elim c.then-link-line.branch [
-      | then-link-line-via-then-link-line w ↦ subst (λ (i : Inside). Fits i.config.now i.rules i.link) (sym w.self-inside-is) (subst (Fits c.self.inside.config.now
+      | then-link-line-via-then-link-line w ↦ subst (λ (i : Inside). Fits i.config.now i.rules i.link) (sym w.self-inside-is)
+          (subst (Fits c.self.inside.config.now
           c.self.inside.rules) c.in-Some.is c.self.invariant)
-      | then-link-line-via-else-link-line+then-link w ↦ subst (λ (i : Inside). Fits i.config.now i.rules i.link) (sym w.self-inside-is) (subst (Fits c.self.inside.config.now
+      | then-link-line-via-else-link-line+then-link w ↦ subst (λ (i : Inside). Fits i.config.now i.rules i.link) (sym w.self-inside-is)
+          (subst (Fits c.self.inside.config.now
           c.self.inside.rules) c.in-Some.is c.self.invariant)
     ]
 
@@ -24,12 +28,16 @@ pub returns-then-link-line-clause-took : goal.returns-then-link-line-clause-took
 returns-then-link-line-clause-took g c =
     elim c.then-link-line.branch [
       | then-link-line-via-then-link-line w ↦
-          subst (λ (i : Inside). TookSo (at_line c.args.line (λ connection. not connection.made) (begins c.args.self.now.config c.args.time)) None c.args.self.now
-          (record { config = i.config.now; rules = i.rules; since = i.since; wait = i.wait; delay = i.delay; link = i.link }) (g.G.Gate.turns c.args.gate.now) (g.G.Gate.turns c.args.gate.now))
+          subst (λ (i : Inside). TookSo (at_line c.args.line (λ connection. not connection.made) (begins c.args.self.now.config c.args.time)) None
+          c.args.self.now
+          (record { config = i.config.now; rules = i.rules; since = i.since; wait = i.wait; delay = i.delay; link = i.link })
+          (g.G.Gate.turns c.args.gate.now) (g.G.Gate.turns c.args.gate.now))
           (sym w.self-inside-is) (begin_other _ _ c.self.view_is c.in-Some.link _ c.in-Some.is c.link.view_is c.args.line c.args.time _ w.if-link-line.true)
       | then-link-line-via-else-link-line+then-link w ↦
-          subst (λ (i : Inside). TookSo (at_line c.args.line (λ connection. not connection.made) (begins c.args.self.now.config c.args.time)) None c.args.self.now
-          (record { config = i.config.now; rules = i.rules; since = i.since; wait = i.wait; delay = i.delay; link = i.link }) (g.G.Gate.turns c.args.gate.now) (g.G.Gate.turns c.args.gate.now))
+          subst (λ (i : Inside). TookSo (at_line c.args.line (λ connection. not connection.made) (begins c.args.self.now.config c.args.time)) None
+          c.args.self.now
+          (record { config = i.config.now; rules = i.rules; since = i.since; wait = i.wait; delay = i.delay; link = i.link })
+          (g.G.Gate.turns c.args.gate.now) (g.G.Gate.turns c.args.gate.now))
           (sym w.self-inside-is) (begin_made _ _ c.self.view_is c.in-Some.link _ c.in-Some.is c.link.view_is c.args.line c.args.time _ w.if-link.true)
     ]
 

@@ -1,4 +1,5 @@
-use Rattle.fs_peering.proofs.{KeeperWords.{sym, subst, ◌∙◌, on_err, Fits, Grew-refl}, Following.{fits_on}, Stepped.{check_closes, check_no, check_off, check_stays}}
+use Rattle.fs_peering.proofs.{KeeperWords.{sym, subst, ◌∙◌, on_err, Fits, Grew-refl}, Following.{fits_on}}
+use Rattle.fs_peering.proofs.Stepped.{check_closes, check_no, check_off, check_stays}
 use Rattle.fs_peering.proofs.keeper.Keeper.check.Goals as goal
 
 pub invariant_of-self : goal.invariant_of-self
@@ -37,7 +38,8 @@ pub returns-then-is_some-clause-took : goal.returns-then-is_some-clause-took
 returns-then-is_some-clause-took g c =
     check_closes _ _ c.self.view_is c.in-Some.link _ c.in-Some.is c.link.view_is
     c.wake.new.self c.clear.new.self.items c.wake.new.out.items c.deref.result.now c.clear.ensures.items c.deref.ensures.value _ _ c.say.ensures.said
-    c.args.time c.in_ok-closed.closed c.shut.new.self _ c.if-not-link.false c.in_ok-closed.ensures.says (sym c.is_some.ensures ∙ c.if-is_some.true) c.shut.ensures.shut c.shut.ensures.gone
+    c.args.time c.in_ok-closed.closed c.shut.new.self _ c.if-not-link.false c.in_ok-closed.ensures.says (sym c.is_some.ensures
+    ∙ c.if-is_some.true) c.shut.ensures.shut c.shut.ensures.gone
 
 pub returns-else-is_some-clause-took : goal.returns-else-is_some-clause-took
 returns-else-is_some-clause-took g c =

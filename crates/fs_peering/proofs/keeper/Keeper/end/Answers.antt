@@ -1,4 +1,5 @@
-use Rattle.fs_peering.proofs.{KeeperWords.{ap, sym, ◌∙◌, Bool, true, if◌then◌else◌, Ended, Unreached, Keeping, ends}, Following.{at_none}, Stepped.{end_other, end_this}}
+use Rattle.fs_peering.proofs.KeeperWords.{ap, sym, ◌∙◌, Bool, true, if◌then◌else◌, Ended, Unreached, Keeping, ends}
+use Rattle.fs_peering.proofs.{Following.{at_none}, Stepped.{end_other, end_this}}
 use Rattle.fs_peering.proofs.keeper.Keeper.end.Goals.{then-link, else-link}
 use Rattle.fs_peering.proofs.keeper.Keeper.end.Goals as goal
 

@@ -14,5 +14,6 @@ returns-in-Octets-clause-took g c =
 
 pub returns-in-Ended-clause-took : goal.returns-in-Ended-clause-took
 returns-in-Ended-clause-took g c =
-    subst (λ (came : Came). TookSo (follows c.args.self.now.config c.args.event.now.time (what_from came c.args.into.now)) c.end.result c.args.self.now c.end.new.self
+    subst (λ (came : Came). TookSo (follows c.args.self.now.config c.args.event.now.time (what_from came c.args.into.now)) c.end.result
+    c.args.self.now c.end.new.self
     (g.G.Gate.turns c.args.gate.now) (g.G.Gate.turns c.args.gate.now)) (sym c.in-Ended.is) (c.end.ensures (g.G.Gate.turns c.args.gate.now))

@@ -1,4 +1,5 @@
-use Rattle.fs_ranges.proofs.Words.{ℕ, ◌^◌, ◌<◌, ◌∙◌, [], ◌∷◌, refl, sym, subst, ap, arith, family_of, IsSmallAddress, IsSmallField, address_number, field_number, syn_number}
+use Rattle.fs_ranges.proofs.Words.{ℕ, ◌^◌, ◌<◌, ◌∙◌, [], ◌∷◌, refl, sym, subst, ap, arith, family_of, IsSmallAddress, IsSmallField, address_number}
+use Rattle.fs_ranges.proofs.Words.{field_number, syn_number}
 use Rattle.fs_ranges.proofs.facts.Facts.of.Goals as goal
 
 pub returns : goal.returns

@@ -6,4 +6,5 @@ returns-in-Any c = λ facts h. c.limit.ensures facts (ranges_held facts c.args.s
 
 pub returns-in_default : goal.returns-in_default
 returns-in_default c = λ facts h.
-    c.limit_of.ensures facts (subst (λ (tests : List Test). list_all (passes facts) tests ≡ true) (sym c.deref.ensures.value) (tests_held facts c.args.self.now h))
+    c.limit_of.ensures facts (subst (λ (tests : List Test). list_all (passes facts) tests ≡ true) (sym c.deref.ensures.value)
+    (tests_held facts c.args.self.now h))

@@ -1,4 +1,6 @@
-use Rattle.fs_recorder.proofs.{Words.{on_err, subst, sym, peer_of, ◌∙◌, IsSome, WakesSo, hurries_where_late}, Doing.{err_to, handed_on, ok_to}, Stepping.{breaks_late, did_early, did_late, late_writable, woken_breaks, woken_broke, woken_shut, woken_then}}
+use Rattle.fs_recorder.proofs.Words.{on_err, subst, sym, peer_of, ◌∙◌, IsSome, WakesSo, hurries_where_late}
+use Rattle.fs_recorder.proofs.Doing.{err_to, handed_on, ok_to}
+use Rattle.fs_recorder.proofs.Stepping.{breaks_late, did_early, did_late, late_writable, woken_breaks, woken_broke, woken_shut, woken_then}
 use Rattle.fs_recorder.proofs.recorder.Recorder.check.Goals as goal
 
 pub returns-in_err-is_open-clause-breaks : goal.returns-in_err-is_open-clause-breaks

@@ -1,4 +1,5 @@
-use Rattle.fs_recorder.proofs.{Words.{ap, nobody, sym, ◌∙◌, Recording, stands_established, standing_at_desk}, Doing.{err_to, ok_both}, Stepping.{breaks_hurry, did_hurry, did_not_hurry}}
+use Rattle.fs_recorder.proofs.Words.{ap, nobody, sym, ◌∙◌, Recording, stands_established, standing_at_desk}
+use Rattle.fs_recorder.proofs.{Doing.{err_to, ok_both}, Stepping.{breaks_hurry, did_hurry, did_not_hurry}}
 use Rattle.fs_recorder.proofs.recorder.Recorder.hurry.Goals as goal
 
 pub returns-then-is_established-clause-did : goal.returns-then-is_established-clause-did

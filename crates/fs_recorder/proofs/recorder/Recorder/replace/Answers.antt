@@ -1,4 +1,5 @@
-use Rattle.fs_recorder.proofs.{Words.{on_err, subst, sym, Config, IsSome, peer_of}, Doing.{err_to, handed_on, ok_to}, Connecting.{breaks_replace, breaks_replace_early, did_replace}}
+use Rattle.fs_recorder.proofs.{Words.{on_err, subst, sym, Config, IsSome, peer_of}, Doing.{err_to, handed_on, ok_to}}
+use Rattle.fs_recorder.proofs.Connecting.{breaks_replace, breaks_replace_early, did_replace}
 use Rattle.fs_recorder.proofs.recorder.Recorder.replace.Goals as goal
 
 pub returns-in_err-vacate-clause-breaks : goal.returns-in_err-vacate-clause-breaks

@@ -1,4 +1,5 @@
-use Rattle.fs_recorder.proofs.{Words.{ap, on_err, subst, sym, ◌∙◌, ◌++◌, ◌∷◌, [], refl, part_whole, IsKnown, Recording}, Seating.{known_added}, Connecting.{breaks_seat, did_seat}, Doing.{handed_on, no_memory}, Telling.{part_where}}
+use Rattle.fs_recorder.proofs.Words.{ap, on_err, subst, sym, ◌∙◌, ◌++◌, ◌∷◌, [], refl, part_whole, IsKnown, Recording}
+use Rattle.fs_recorder.proofs.{Seating.{known_added}, Connecting.{breaks_seat, did_seat}, Doing.{handed_on, no_memory}, Telling.{part_where}}
 use Rattle.fs_recorder.specs.{Steps.{seats_one}, Works.{BreaksQuietly, DidSeat}}
 use Rattle.std.specs.Result.{IsErrOf}
 use Rattle.fs_recorder.specs.declared.stop.Stop.TheVariants.{Limit}
@@ -6,12 +7,14 @@ use Rattle.fs_recorder.proofs.recorder.Recorder.seat.Goals as goal
 
 pub returns-in_err-up-clause-breaks : goal.returns-in_err-up-clause-breaks
 returns-in_err-up-clause-breaks g c = on_err c.from_residual.result
-    (subst (λ (r : Recording). BreaksQuietly (IsErrOf c.from_residual.result Limit) (seats_one c.args.seat) r (g.S.Sink.written c.args.sink.now) (g.S.Sink.written c.up.new.sink)) c.self.view_is
+    (subst (λ (r : Recording). BreaksQuietly (IsErrOf c.from_residual.result Limit) (seats_one c.args.seat) r (g.S.Sink.written c.args.sink.now)
+    (g.S.Sink.written c.up.new.sink)) c.self.view_is
     (breaks_seat c.args.seat _ _ _ (part_where (handed_on c.in_err-up.field-0.0 c.from_residual.result c.from_residual.ensures.1) c.in_err-up.ensures.err)))
 
 pub returns-in_err-add-clause-breaks : goal.returns-in_err-add-clause-breaks
 returns-in_err-add-clause-breaks g c = on_err c.from_residual-in_err-add.result
-    (subst (λ (r : Recording). BreaksQuietly (IsErrOf c.from_residual-in_err-add.result Limit) (seats_one c.args.seat) r (g.S.Sink.written c.args.sink.now) (g.S.Sink.written c.up.new.sink)) c.self.view_is
+    (subst (λ (r : Recording). BreaksQuietly (IsErrOf c.from_residual-in_err-add.result Limit) (seats_one c.args.seat) r
+    (g.S.Sink.written c.args.sink.now) (g.S.Sink.written c.up.new.sink)) c.self.view_is
     (breaks_seat c.args.seat _ _ _
     (record {
       writable = c.in_ok-up.ensures.told.writable;

@@ -3,7 +3,8 @@ use Rattle.fs_recorder.proofs.recorder.Recorder.take.Goals as goal
 
 pub returns-in-Some-clause-did : goal.returns-in-Some-clause-did
 returns-in-Some-clause-did g c = ok_to c.replace.result c.replace.ensures.did
-    (λ did. did_take c.args.self.now.books.desk.config c.args.line c.args.from c.args.told c.args.since c.args.self.now _ _ _ _ c.in-Some.peer c.replace.new.self
+    (λ did. did_take c.args.self.now.books.desk.config c.args.line c.args.from c.args.told c.args.since c.args.self.now _ _ _ _ c.in-Some.peer
+    c.replace.new.self
     (sym c.peer_for.ensures.found ∙ c.in-Some.is) did)
 
 pub returns-in-Some-clause-breaks : goal.returns-in-Some-clause-breaks
@@ -13,5 +14,6 @@ returns-in-Some-clause-breaks g c = err_to c.replace.result c.replace.ensures.br
 
 pub returns-in-None-clause-did : goal.returns-in-None-clause-did
 returns-in-None-clause-did g c =
-    did_take_none c.args.self.now.books.desk.config c.args.line c.args.from c.args.told c.args.since c.args.self.now _ _ (g.S.Sink.written c.args.sink.now) (g.S.Sink.written c.args.sink.now)
+    did_take_none c.args.self.now.books.desk.config c.args.line c.args.from c.args.told c.args.since c.args.self.now _ _
+    (g.S.Sink.written c.args.sink.now) (g.S.Sink.written c.args.sink.now)
     (sym c.peer_for.ensures.found ∙ c.in-None.is) c.close.ensures.closed

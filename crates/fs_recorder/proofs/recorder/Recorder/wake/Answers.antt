@@ -1,4 +1,6 @@
-use Rattle.fs_recorder.proofs.{Words.{ap, nobody, ◌∙◌, on_err, subst, sym, refl, AreKnown, Recording}, Doing.{err_both, if_to, wanted_memory, ok_all, ok_to}, Stepping.{breaks_unwoken, breaks_woken, did_wake, wakes_so, woke_as}}
+use Rattle.fs_recorder.proofs.Words.{ap, nobody, ◌∙◌, on_err, subst, sym, refl, AreKnown, Recording}
+use Rattle.fs_recorder.proofs.Doing.{err_both, if_to, wanted_memory, ok_all, ok_to}
+use Rattle.fs_recorder.proofs.Stepping.{breaks_unwoken, breaks_woken, did_wake, wakes_so, woke_as}
 use Rattle.fs_recorder.proofs.recorder.Recorder.wake.Goals as goal
 
 pub returns-in_err-tick-clause-breaks : goal.returns-in_err-tick-clause-breaks
@@ -8,9 +10,18 @@ returns-in_err-tick-clause-breaks g c = on_err c.from_residual.result
 
 pub returns-clause-did : goal.returns-clause-did
 returns-clause-did g c =
-    let mid : Recording = record { books = c.tick.new.self; seats = c.self.inside.seats.items; door = c.self.inside.door; replies = c.tick.new.replies.items } in
-    let woke = woke_as c.args.time c.args.seat.peer (record { books = c.self.inside.books; seats = c.self.inside.seats.items; door = c.self.inside.door; replies = c.self.inside.replies.items }) c.args.self.now mid c.clear.new.self.items c.self.view_is c.clear.ensures.items
-    c.in_ok-tick.ensures.ticked c.in_ok-tick.ensures.played c.in_ok-tick.ensures.others c.in_ok-tick.ensures.expired c.tick.ensures.config c.tick.ensures.scribe refl refl in
+    let mid : Recording = record {
+      books = c.tick.new.self;
+      seats = c.self.inside.seats.items;
+      door = c.self.inside.door;
+      replies =
+          c.tick.new.replies.items;
+    } in
+    let woke = woke_as c.args.time c.args.seat.peer
+    (record { books = c.self.inside.books; seats = c.self.inside.seats.items; door = c.self.inside.door; replies = c.self.inside.replies.items })
+    c.args.self.now mid c.clear.new.self.items c.self.view_is c.clear.ensures.items
+    c.in_ok-tick.ensures.ticked c.in_ok-tick.ensures.played c.in_ok-tick.ensures.others c.in_ok-tick.ensures.expired c.tick.ensures.config
+    c.tick.ensures.scribe refl refl in
     ok_all c.answer.result c.answer.ensures.closes c.answer.ensures.answers c.answer.ensures.settled
     (λ lives closes answers settled. did_wake c.args.time c.args.seat lives c.args.self.now mid _ _ _ _ _ woke
     (record { closes = closes; answers = answers; settled = settled }))
@@ -23,17 +34,35 @@ returns-clause-stay g c = ok_to c.answer.result c.answer.ensures.stay
 
 pub returns-clause-breaks : goal.returns-clause-breaks
 returns-clause-breaks g c =
-    let mid : Recording = record { books = c.tick.new.self; seats = c.self.inside.seats.items; door = c.self.inside.door; replies = c.tick.new.replies.items } in
-    let woke = woke_as c.args.time c.args.seat.peer (record { books = c.self.inside.books; seats = c.self.inside.seats.items; door = c.self.inside.door; replies = c.self.inside.replies.items }) c.args.self.now mid c.clear.new.self.items c.self.view_is c.clear.ensures.items
-    c.in_ok-tick.ensures.ticked c.in_ok-tick.ensures.played c.in_ok-tick.ensures.others c.in_ok-tick.ensures.expired c.tick.ensures.config c.tick.ensures.scribe refl refl in
+    let mid : Recording = record {
+      books = c.tick.new.self;
+      seats = c.self.inside.seats.items;
+      door = c.self.inside.door;
+      replies =
+          c.tick.new.replies.items;
+    } in
+    let woke = woke_as c.args.time c.args.seat.peer
+    (record { books = c.self.inside.books; seats = c.self.inside.seats.items; door = c.self.inside.door; replies = c.self.inside.replies.items })
+    c.args.self.now mid c.clear.new.self.items c.self.view_is c.clear.ensures.items
+    c.in_ok-tick.ensures.ticked c.in_ok-tick.ensures.played c.in_ok-tick.ensures.others c.in_ok-tick.ensures.expired c.tick.ensures.config
+    c.tick.ensures.scribe refl refl in
     err_both c.answer.result c.answer.ensures.shut c.answer.ensures.breaks
     (λ shut breaks. breaks_woken c.args.time c.args.seat c.args.self.now mid _ _ _ _ woke shut breaks)
 
 pub returns-clause-lives : goal.returns-clause-lives
 returns-clause-lives g c =
-    let mid : Recording = record { books = c.tick.new.self; seats = c.self.inside.seats.items; door = c.self.inside.door; replies = c.tick.new.replies.items } in
-    let woke = woke_as c.args.time c.args.seat.peer (record { books = c.self.inside.books; seats = c.self.inside.seats.items; door = c.self.inside.door; replies = c.self.inside.replies.items }) c.args.self.now mid c.clear.new.self.items c.self.view_is c.clear.ensures.items
-    c.in_ok-tick.ensures.ticked c.in_ok-tick.ensures.played c.in_ok-tick.ensures.others c.in_ok-tick.ensures.expired c.tick.ensures.config c.tick.ensures.scribe refl refl in
+    let mid : Recording = record {
+      books = c.tick.new.self;
+      seats = c.self.inside.seats.items;
+      door = c.self.inside.door;
+      replies =
+          c.tick.new.replies.items;
+    } in
+    let woke = woke_as c.args.time c.args.seat.peer
+    (record { books = c.self.inside.books; seats = c.self.inside.seats.items; door = c.self.inside.door; replies = c.self.inside.replies.items })
+    c.args.self.now mid c.clear.new.self.items c.self.view_is c.clear.ensures.items
+    c.in_ok-tick.ensures.ticked c.in_ok-tick.ensures.played c.in_ok-tick.ensures.others c.in_ok-tick.ensures.expired c.tick.ensures.config
+    c.tick.ensures.scribe refl refl in
     if_to c.answer.result c.answer.ensures.closes
     (λ lives closes. wakes_so c.args.time c.args.seat lives c.args.self.now mid woke closes)
 

@@ -3,7 +3,8 @@ use Rattle.fs_rules.proofs.table.Table.list.Goals as goal
 
 pub returns-clause-list : goal.returns-clause-list
 returns-clause-list g c = c.in_ok-push_admitted.ensures
-    ∙ ap (λ items. map g.T.OfKept.shown items ++ shown_in g.T.OfKept.shows c.args.family c.lend-lent.result.groups.now.entries c.lend-lent.result.rest.now) c.new-list.ensures.items
+    ∙ ap (λ items. map g.T.OfKept.shown items
+    ++ shown_in g.T.OfKept.shows c.args.family c.lend-lent.result.groups.now.entries c.lend-lent.result.rest.now) c.new-list.ensures.items
     ∙ map-map (λ k. k.route) g.T.OfKept.shows (chosen_in c.args.family c.lend-lent.result.groups.now.entries c.lend-lent.result.rest.now)
     ∙ ap (map g.T.OfKept.shows) c.lend-lent.ensures.admits
 

@@ -1,4 +1,6 @@
-use Rattle.fs_speaker.proofs.{Words.{◌≡◌, ℕ, List, ap, ◌∙◌, subst, on_ok_weaker, arith, Live, line_of, receiver, Announcing, machine_in, TicksOver, Both, both, Becomes, Flying, flying, sent, wakes}, Happening.{taker_woke, teller_woke}}
+use Rattle.fs_speaker.proofs.Words.{◌≡◌, ℕ, List, ap, ◌∙◌, subst, on_ok_weaker, arith, Live, line_of, receiver, Announcing, machine_in, TicksOver}
+use Rattle.fs_speaker.proofs.Words.{Both, both, Becomes, Flying, flying, sent, wakes}
+use Rattle.fs_speaker.proofs.Happening.{taker_woke, teller_woke}
 use Rattle.fs_speaker.proofs.ends.Ends.wake.Goals as goal
 
 pub returns-then-end-eq0-clause-ok : goal.returns-then-end-eq0-clause-ok
@@ -10,8 +12,10 @@ returns-then-end-eq0-clause-ok c =
     rw c.if-end-eq0.true
     (on_ok_weaker c.tell_teller.result
     (λ put. subst (λ (o : Both). Becomes (λ config peer sending. wakes config peer sending 0 c.args.moment) o new) c.self.view_is
-    (λ config peer sending w here. taker_woke config peer sending w old here c.tick.new.end c.tell_teller.new.self c.tick.new.out.items c.args.moment c.in_ok-tick.ensures.own
-    (subst (λ (z : List ℕ). TicksOver (receiver taker.config taker.peer) c.args.moment (line_of taker) (line_of c.tick.new.end) z c.tick.new.out.items) c.new-said.ensures.items c.in_ok-tick.ensures.ticks)
+    (λ config peer sending w here. taker_woke config peer sending w old here c.tick.new.end c.tell_teller.new.self c.tick.new.out.items c.args.moment
+    c.in_ok-tick.ensures.own
+    (subst (λ (z : List ℕ). TicksOver (receiver taker.config taker.peer) c.args.moment (line_of taker)
+    (line_of c.tick.new.end) z c.tick.new.out.items) c.new-said.ensures.items c.in_ok-tick.ensures.ticks)
     (put ∙ ap (λ (z : List ℕ). flying flight.to_taker (sent flight.cut flight.to_teller z) flight.cut) c.deref.ensures.value)))
     c.tell_teller.ensures)
 
@@ -25,7 +29,9 @@ returns-clause-ok c =
     rw one
     (on_ok_weaker c.tell_taker.result
     (λ put. subst (λ (o : Both). Becomes (λ config peer sending. wakes config peer sending 1 c.args.moment) o new) c.self.view_is
-    (λ config peer sending w here. teller_woke config peer sending w old here c.tick-2.new.end c.tell_taker.new.self c.tick-2.new.out.items c.args.moment c.in_ok-tick-2.ensures.own
-    (subst (λ (z : List ℕ). TicksOver (machine_in teller) c.args.moment teller.line c.tick-2.new.end.line z c.tick-2.new.out.items) c.new-said.ensures.items c.in_ok-tick-2.ensures.ticks)
+    (λ config peer sending w here. teller_woke config peer sending w old here c.tick-2.new.end c.tell_taker.new.self c.tick-2.new.out.items
+    c.args.moment c.in_ok-tick-2.ensures.own
+    (subst (λ (z : List ℕ). TicksOver (machine_in teller) c.args.moment teller.line c.tick-2.new.end.line z c.tick-2.new.out.items)
+    c.new-said.ensures.items c.in_ok-tick-2.ensures.ticks)
     (put ∙ ap (λ (z : List ℕ). flying (sent flight.cut flight.to_taker z) flight.to_teller flight.cut) c.deref-2.ensures.value)))
     c.tell_taker.ensures)

@@ -25,4 +25,5 @@ invariant_of-result g c =
     let within : IsFrontWithin 8 c.in-Ok.count c.read_magic.result = search rules in
     let is : opened_answer Cut c.fill.new.counted.taken c.args.counted.limit c.read_magic.result ≡ Ok c.in-Ok-opened.version = search rules in
     let few = c.args.counted.few in
-    none_back 8 Cut c.args.counted c.fill.new.counted c.in-Ok.count c.read_magic.result within c.in-Ok-opened.version is (omega (arith, few)) c.in-Ok.ensures.back
+    none_back 8 Cut c.args.counted c.fill.new.counted c.in-Ok.count c.read_magic.result within c.in-Ok-opened.version is
+    (omega (arith, few)) c.in-Ok.ensures.back
