@@ -19,7 +19,7 @@ def main():
         for room in ("src", "specs", "proofs")
         for path in sorted(root.glob(f"crates/*/{room}/**/*"))
         if path.suffix in (".rt", ".antt")
-        for number, line in enumerate(path.read_text().split("\n"), 1)
+        for number, line in enumerate(path.read_text().splitlines(), 1)
     ]
     long = [found for found in widths if found[0] > LONG]
     longest = [found for found in long if found[0] > LONGEST]
