@@ -4,7 +4,7 @@
 Each case has a port that was free, and checks what the program wrote, its status, and what reached the peer. A listing
 has to be that of `rules` on a tape of the same octets. The last line counts the cases, which run side by side for some
 three minutes: so long the program waits for a peer that doesn't read. With --quick the cases that take more than some
-seconds are left out. A program that runs for 400 seconds is ended, so all cases end soon after that.
+seconds are left out. A program that runs for 1,200 seconds is ended, so all cases end soon after that.
 """
 import contextlib
 import pathlib
@@ -20,7 +20,7 @@ import wire
 from wire import KEEPALIVE, MARKER, ORIGIN, TAPE, UP, V4_RULES, frame, message, reach, record, update
 
 PROGRAM = str(pathlib.Path(sys.argv[1] if len(sys.argv) > 1 else "crates/welgutan/out/welgutan").resolve())
-PATIENCE = 400      # seconds that a program may run
+PATIENCE = 1200     # seconds that a program may run: many, since the machine may be busy
 CONFIG = "allow_no_destination = true\nhold_time = {}\n" + wire.CONFIG
 RULES = 'id = "198.51.100.1"\nas_path = [{}]\n'
 MANY = 60000        # rules of which the system can't keep all on the way, by their long paths
@@ -245,7 +245,7 @@ def case_silent(late):
 def case_starved(behave):
     """The program waits three minutes for room, and no longer if the system has taken a part of the message."""
     outcome, begun = announced(behave, MANY, stays=True)
-    return outcome == ("", 1) and time.monotonic() - begun < 300
+    return outcome == ("", 1) and time.monotonic() - begun < 450
 
 
 def case_refused():
