@@ -1,8 +1,9 @@
-//! Public calls, each made once over ample memory by the name of its crate, with the types of its answer, and what it
-//! answers compared; structs are read field by field. The first argument names the table, whose head says how its lines
+//! Public calls, made over ample memory by the names of their crates, with the types of their answers, and what they
+//! answer compared; structs are read field by field. The first argument names the table, whose head says how its lines
 //! are written, the second one the configuration.
 //!
-//! `try_runs` makes the other objects of the outside and `run_within`, `welgutan` makes `run`.
+//! `try_runs` makes the other objects of the outside, and calls `run_live_within` and by it `run_within`; `welgutan`
+//! calls `run_live`. No program calls `run`.
 #![tactic(auto)]
 
 mod call;
