@@ -4,7 +4,8 @@
     tools/layers.py [--check]
 
 It writes the table into DESIGN, between the lines that name this script: a row for each comment of crates.txt, with the
-crates below it. With --check it writes nothing, and ends with 1 where the table there is another.
+crates below it, linked where one has a page. With --check it writes nothing, and ends with 1 where the table there is
+another.
 """
 
 import pathlib
@@ -26,8 +27,14 @@ def groups():
     return found
 
 
+def shown(crate):
+    """Its name, which leads to its page if it has one."""
+    folder = f"crates/{crate}"
+    return f"[`{crate}`](../{folder})" if (ROOT / folder / "README.md").exists() else f"`{crate}`"
+
+
 def table():
-    rows = [f"| {subject} | {', '.join(f'`{crate}`' for crate in crates)} |" for subject, crates in groups()]
+    rows = [f"| {subject} | {', '.join(shown(crate) for crate in crates)} |" for subject, crates in groups()]
     return "\n".join(["| | crates |", "|---|---|", *rows]) + "\n"
 
 

@@ -4,8 +4,8 @@
     tools/prose.py [DOCUMENT ..]
 
 Of each document the mean of its sentences' words is printed, and each sentence of more than 40. The status is 1 where
-there is such a sentence, or where a mean is above 18. Without words it looks at every document, and the status is 1 too
-where README and docs/ have more than 110 KB together.
+there is such a sentence, or where a mean is above 18. Without words it looks at every document and every crate's page,
+and the status is 1 too where README and docs/ have more than 110 KB together, or a page more than 25 lines.
 
 A sentence ends at a full stop, a question mark or an exclamation mark with a space behind it, and where a paragraph, an
 item or a cell of a table ends. Code is one word, and a link has the words of its text. Blocks of commands aren't read,
@@ -19,7 +19,7 @@ import sys
 
 ROOT = pathlib.Path(__file__).resolve().parent.parent
 MOST, MEAN, LEAST_CELL = 40, 18, 4
-MOST_OCTETS = 110 * 1024
+MOST_OCTETS, MOST_LINES = 110 * 1024, 25
 
 
 def plain(text):
@@ -66,15 +66,24 @@ def are_short(pages):
     return octets <= MOST_OCTETS
 
 
+def is_short(page):
+    """Whether a crate's page has no more than MOST_LINES; one that has more is named."""
+    lines = page.read_text().count("\n")
+    if lines > MOST_LINES:
+        print(f"{page.relative_to(ROOT)}: {lines} lines, at most {MOST_LINES}")
+    return lines <= MOST_LINES
+
+
 def main():
     parser = argparse.ArgumentParser(description=__doc__, formatter_class=argparse.RawDescriptionHelpFormatter)
     parser.add_argument("documents", nargs="*", type=pathlib.Path)
     chosen = [path.resolve() for path in parser.parse_args().documents]
     pages = [ROOT / "README.md", *sorted((ROOT / "docs").glob("*.md"))]
     others = [path for path in sorted(ROOT.glob("*.md")) if path not in pages]
-    found = [look(path) for path in chosen or pages + others]
+    of_crates = sorted(ROOT.glob("crates/*/README.md"))
+    found = [look(path) for path in chosen or pages + others + of_crates]
     if not chosen:
-        found.append(are_short(pages))
+        found += [are_short(pages), *map(is_short, of_crates)]
     sys.exit(0 if all(found) else 1)
 
 
