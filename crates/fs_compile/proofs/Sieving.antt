@@ -2,7 +2,7 @@
 use Rattle.fs_compile.proofs.Words.{◌≡◌, ℕ, ◌+◌, ◌-◌, ◌*◌, ◌/◌, ◌%◌, ◌^◌, ◌<◌, ◌≤◌, ◌⊎◌, inl, inr, max, min, sym, subst, ap, ◌∙◌, Bool, true, false}
 use Rattle.fs_compile.proofs.Words.{bit_and, map, List, get_or, length, w64, arith, bit_at, trailing_zeros, cases_lt, get_or-map}
 use Rattle.fs_compile.proofs.Words.{bit_at-trailing_zeros, bit_at-zero, bit_at_and, bit_at_or, false_from, Rows, PortRows, Fast, ArePortRows, IsClass}
-use Rattle.fs_compile.proofs.Words.{IsRow, bit_in, words_for, Facts, AreRows, front_of, word_of, Missed, hits}
+use Rattle.fs_compile.proofs.Words.{IsRow, bit_in, words_for, Facts, AreRows, first_at, front_of, word_of, Missed, hits}
 use Rattle.std.proofs.{Math.Nat.{div-div-eq-div-mul, div-le_self}, lemmas.Nat.{pow-add}}
 use Rattle.fs_ranges.specs.Facts.{number_of}
 
@@ -34,28 +34,28 @@ clear_in_both a b i h = bit_at_and a b i ∙ at (bit_at a i) (bit_at b i) h wher
 none_in_front : (front a b c i : ℕ) → front ≡ 0 → bit_at (bit_and (bit_and (bit_and front a) b) c) i ≡ 0
 none_in_front front a b c i h = clear_in_both _ c i (clear_in_both _ b i (clear_in_both front a i (ap (λ (n : ℕ). bit_at n i) h ∙ bit_at-zero i)))
 
-pub set_in_all : (tests : List Bool) (rows : Rows) (first to place k : ℕ) → AreRows tests first to rows → first + place * 64 ≤ k
-    → k < first + place * 64 + 64 → k < to → get_or tests k false ≡ true
-    → bit_at (word_of rows place) (k - (first + place * 64)) ≡ 1
-set_in_all tests rows first to place k are from within before hit =
-    subst (λ (i : ℕ). bit_at (word_of rows i) (k - (first + place * 64)) ≡ 1) here
-    (subst (λ (i : ℕ). bit_at (word_of rows ((k - first) / 64)) i ≡ 1) bit
-    (both_set _ _ ((k - first) % 64)
-    (both_set _ _ ((k - first) % 64)
-    (both_set _ _ ((k - first) % 64)
-    (both_set _ _ ((k - first) % 64)
-    (both_set _ _ ((k - first) % 64) (are.source.marked k low before hit) (are.destination_port.marked k low before hit))
+pub set_in_all : (tests : List Bool) (rows : Rows) (to place k : ℕ) → AreRows tests to rows → first_at rows place ≤ k
+    → k < first_at rows place + 64 → k < to → get_or tests k false ≡ true
+    → bit_at (word_of rows place) (k - first_at rows place) ≡ 1
+set_in_all tests rows to place k are from within before hit =
+    subst (λ (i : ℕ). bit_at (word_of rows i) (k - first_at rows place) ≡ 1) here
+    (subst (λ (i : ℕ). bit_at (word_of rows ((k - rows.first) / 64)) i ≡ 1) bit
+    (both_set _ _ ((k - rows.first) % 64)
+    (both_set _ _ ((k - rows.first) % 64)
+    (both_set _ _ ((k - rows.first) % 64)
+    (both_set _ _ ((k - rows.first) % 64)
+    (both_set _ _ ((k - rows.first) % 64) (are.source.marked k low before hit) (are.destination_port.marked k low before hit))
     (are.source_port.marked k low before hit))
     (are.protocol.marked k low before hit))
     (are.length.marked k low before hit))
-    (bit_at_or _ _ ((k - first) % 64) ∙ are.ports k low before hit))) where
-      low : first ≤ k
+    (bit_at_or _ _ ((k - rows.first) % 64) ∙ are.ports k low before hit))) where
+      low : rows.first ≤ k
       low = omega (arith, from)
 
-      here : (k - first) / 64 ≡ place
+      here : (k - rows.first) / 64 ≡ place
       here = omega (arith, from, within)
 
-      bit : (k - first) % 64 ≡ k - (first + place * 64)
+      bit : (k - rows.first) % 64 ≡ k - first_at rows place
       bit = omega (arith, from, within)
 
 -- a word that has no bit in front has no rule that matches
@@ -102,13 +102,13 @@ fewer tests first end to row least is = record {
 }
 
 -- rows of a run are rows of its front
-pub fewer_rows : (tests : List Bool) (first end to : ℕ) (rows : Rows) → to ≤ end → AreRows tests first end rows → AreRows tests first to rows
-fewer_rows tests first end to rows least are = record {
-  source = fewer tests first end to rows.source.now least are.source;
-  protocol = fewer tests first end to rows.protocol.now least are.protocol;
-  destination_port = fewer tests first end to rows.destination_port.now least are.destination_port;
-  source_port = fewer tests first end to rows.source_port.now least are.source_port;
-  length = fewer tests first end to rows.length.now least are.length;
+pub fewer_rows : (tests : List Bool) (end to : ℕ) (rows : Rows) → to ≤ end → AreRows tests end rows → AreRows tests to rows
+fewer_rows tests end to rows least are = record {
+  source = fewer tests rows.first end to rows.source.now least are.source;
+  protocol = fewer tests rows.first end to rows.protocol.now least are.protocol;
+  destination_port = fewer tests rows.first end to rows.destination_port.now least are.destination_port;
+  source_port = fewer tests rows.first end to rows.source_port.now least are.source_port;
+  length = fewer tests rows.first end to rows.length.now least are.length;
   to_port = let a = are.to_port in omega (arith, a, least);
   from_port = let a = are.from_port in omega (arith, a, least);
   ports = λ number from before hit. are.ports number from (omega (arith, before, least)) hit;

@@ -36,11 +36,12 @@ pub use Rattle.fs_buckets.specs.{Addresses.{nodes_in, number_of, numbers_in}, Bu
 pub use Rattle.fs_buckets.specs.Destinations.{AreTo, IsOfFamily, IsStretch, place_by, span_by, span_cmp, span_of, spans_of, target_of}
 pub use Rattle.fs_buckets.specs.{Housed.{AreHoused, AreSound, HasStretch}, Runs.{AreNesting}, declared.Node.{Node}}
 pub use Rattle.fs_compile.specs.Columns.{AreMarked, ArePortRows, ArePortsMarked, AreRowsOf, Grown, IsClass, IsColumn, IsRow, bit_in, words_for}
-pub use Rattle.fs_compile.specs.Filters.{AreFilters, AreRows, IsFilter, front_of, word_of}
+pub use Rattle.fs_compile.specs.Filters.{AreFilters, AreRows, IsFilter, first_at, front_of, word_of}
 pub use Rattle.fs_compile.specs.Index.{AreKept, Indexed, IsIndexOf, IsMended, StandForEach, actions_of}
 pub use Rattle.fs_compile.specs.Matcher.{AreMadeWhereNoted, ArePut, StandsForLists, compiled_in, WalksByNext, WalksOn, admitted_in, next_from}
 pub use Rattle.fs_compile.specs.Mending.{AreOwn, put_in, replaced}
 pub use Rattle.fs_compile.specs.Reach.{covers_address, reaches, reaching, reaching_behind, reaching_from}
-pub use Rattle.fs_compile.specs.Search.{AreNear, Found, IsNear, Missed, Within, hit_number, hits, marked, parent_at, start_at, tested_to}
+pub use Rattle.fs_compile.specs.Searched.{IsWhole, count_of}
+pub use Rattle.fs_compile.specs.Search.{AreNear, Found, IsNear, Missed, Within, hit_number, hits, marked, parent_at, start_at, tested_to, tests_of}
 pub use Rattle.fs_compile.specs.declared.{columns.PortRows.{PortRows}, compiled.Compiled.{Compiled}, filters.{Filter.{Filter}, Rows.{Rows}}}
 pub use Rattle.fs_compile.specs.declared.«search».Hit.{Hit}

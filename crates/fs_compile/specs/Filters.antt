@@ -20,18 +20,22 @@ pub record IsFilter (rules : List Fast) (filter : Filter) : Type 0 where
 abbrev pub AreFilters : List Fast → Filters → Type 0
 AreFilters rules filters = All (IsFilter rules) filters.runs.items
 
--- rows of the tests of the rules from one number on up to another
-pub record AreRows (tests : List Bool) (first end : ℕ) (rows : Rows) : Type 0 where
-  pub source : IsRow tests first end rows.source.now
-  pub protocol : IsRow tests first end rows.protocol.now
-  pub destination_port : IsRow tests first end rows.destination_port.now
-  pub source_port : IsRow tests first end rows.source_port.now
-  pub to_port : end ≤ first + length rows.to_port.now * 64
-  pub from_port : end ≤ first + length rows.from_port.now * 64
-  pub ports : (number : ℕ) → first ≤ number → number < end → get_or tests number false ≡ true
-      → max (bit_at (get_or rows.to_port.now ((number - first) / 64) 0) ((number - first) % 64))
-      (bit_at (get_or rows.from_port.now ((number - first) / 64) 0) ((number - first) % 64)) ≡ 1
-  pub length : IsRow tests first end rows.length.now
+-- rows of the tests of the rules from their first on up to a number
+pub record AreRows (tests : List Bool) (end : ℕ) (rows : Rows) : Type 0 where
+  pub source : IsRow tests rows.first end rows.source.now
+  pub protocol : IsRow tests rows.first end rows.protocol.now
+  pub destination_port : IsRow tests rows.first end rows.destination_port.now
+  pub source_port : IsRow tests rows.first end rows.source_port.now
+  pub to_port : end ≤ rows.first + length rows.to_port.now * 64
+  pub from_port : end ≤ rows.first + length rows.from_port.now * 64
+  pub ports : (number : ℕ) → rows.first ≤ number → number < end → get_or tests number false ≡ true
+      → max (bit_at (get_or rows.to_port.now ((number - rows.first) / 64) 0) ((number - rows.first) % 64))
+      (bit_at (get_or rows.from_port.now ((number - rows.first) / 64) 0) ((number - rows.first) % 64)) ≡ 1
+  pub length : IsRow tests rows.first end rows.length.now
+
+-- the number of the first of the 64 rules of a place
+abbrev pub first_at : Rows → (place : ℕ) → ℕ
+first_at rows place = rows.first + place * 64
 
 -- the rows have a word at the place
 pub record IsInside (place : ℕ) (rows : Rows) : Type 0 where

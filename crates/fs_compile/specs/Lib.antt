@@ -6,6 +6,7 @@ pub use Rattle.fs_ranges.specs.Spans
 pub mod Search
 pub mod Columns
 pub mod Filters
+pub mod Searched
 pub mod Reach
 pub mod Index
 pub mod Matches

@@ -4,10 +4,13 @@ use Rattle.std.specs.Prelude.{map}
 use Rattle.std.specs.List.{count_by}
 use Rattle.fs_buckets.specs.{declared.{Buckets.{Buckets}, Node.{Node}}, Addresses.{numbers_in, nodes_in}, Buckets.{node_at}}
 use Rattle.fs_ranges.specs.{declared.Fast.{Fast}, Facts.{Facts}, Fast.{facts_hold}}
-use Rattle.fs_compile.specs.declared.search.{Hit.{Hit}, Cursor.{Cursor}}
+use Rattle.fs_compile.specs.declared.{search.{Hit.{Hit}, Cursor.{Cursor}}, tested.Tested.{Tested}}
 
 abbrev pub hits : Facts → List Fast → List Bool
 hits facts rules = map (facts_hold facts) rules
+
+abbrev pub tests_of : Tested → List Bool
+tests_of tested = hits tested.facts.now tested.rules.now
 
 -- none in a stretch
 abbrev pub Missed : List Bool → (lo to : ℕ) → Type 0

@@ -1,11 +1,12 @@
 //! Which rules of a long run a packet may match.
 
 ghost use Rattle.std.specs.{Prelude.{◌≡◌, ℕ, ◌+◌, ◌-◌, ◌*◌, ◌^◌, ◌<◌, ◌≤◌, false, true, IfOk, IfSome, List, get_or, length, min}, Int.{bit_at}};
-ghost use Rattle.fs_compile.specs.{Filters.{AreFilters, AreRows, IsFilter, IsInside, front_of, word_of}, Search.{Scanned, hits}};
+ghost use Rattle.fs_compile.specs.{Filters.{AreFilters, AreRows, IsFilter, IsInside, first_at, front_of, word_of}, Search.{Scanned, tests_of}};
 
 use crate::columns::{Column, PortRows, row_of, words_of};
+use crate::tested::Tested;
 use fs_base::{Memory, Steps};
-use fs_ranges::{Facts, Fast};
+use fs_ranges::Fast;
 use std::alloc::Global;
 use std::sync::ledger::Ledger;
 
@@ -53,11 +54,33 @@ impl Filters {
             _ => None,
         }
     }
+
+    /// The first rule that matches of those from `from` on before `to`, by the filter of their run if there is one. As
+    /// many steps at most as rules up to that one.
+    #[inline(never)]
+    pub(crate) fn scan<L: Ledger>(
+        &self,
+        tested: Tested<'_>,
+        from: usize,
+        to: usize,
+        steps: &mut Steps<L>,
+    ) -> Option<usize>
+        requires within { to ≤ length tested.rules.now }
+        requires few { length tested.rules.now < 2 ^ 32 }
+        requires filters { AreFilters tested.rules.now self.now }
+        ensures { Scanned (tests_of tested.entry) from to to steps.old steps.new result }
+    {
+        match self.of(from, to) {
+            Some(filter) => filter.scan(&tested, from, to, steps),
+            None => tested.scan(from, to, steps),
+        }
+    }
 }
 
-/// The rows of a packet's classes.
+/// The rows of a packet's classes, for the rules from the number `first` on.
 #[derive(Clone, Copy, Drop)]
 pub(crate) struct Rows<'a> {
+    pub(crate) first: usize,
     pub(crate) source: &'a [u64],
     pub(crate) protocol: &'a [u64],
     pub(crate) destination_port: &'a [u64],
@@ -68,6 +91,76 @@ pub(crate) struct Rows<'a> {
 }
 
 impl<'a> Rows<'a> {
+    /// The first rule that matches of those from `from` on before `to`, of which only those are tested whose bits are set.
+    fn scan<L: Ledger>(
+        &self,
+        tested: &Tested<'_>,
+        from: usize,
+        to: usize,
+        steps: &mut Steps<L>,
+    ) -> Option<usize>
+        requires rows { AreRows (tests_of tested.now) to self.now }
+        requires first { self.now.first ≤ from }
+        requires to { to ≤ length tested.now.rules.now }
+        requires few { length tested.now.rules.now < 2 ^ 32 }
+        ensures { Scanned (tests_of tested.now) from to to steps.old steps.new result }
+    {
+        let mut place = (from - self.first) / 64;
+        'words: while self.first + place * 64 < to {
+            let start = from.max(self.first + place * 64);
+            match self.scan_word(tested, place, start, to, steps) {
+                Some(number) => return Some(number),
+                None => place = self.next_front(place + 1, words_of(to - self.first)),
+            }
+        }
+        None
+    }
+
+    /// The first rule that matches of those from `from` on before `to` among the 64 of the place, of which only those are
+    /// tested whose bits are set in the words there.
+    #[inline(always)]
+    fn scan_word<L: Ledger>(
+        &self,
+        tested: &Tested<'_>,
+        place: usize,
+        from: usize,
+        to: usize,
+        steps: &mut Steps<L>,
+    ) -> Option<usize>
+        requires start { (first_at self.now place ≤ from) × (from < first_at self.now place + 64) }
+        requires low { first_at self.now place < length tested.now.rules.now }
+        requires to { to ≤ length tested.now.rules.now }
+        requires few { length tested.now.rules.now < 2 ^ 32 }
+        requires inside { IsInside place self.now }
+        requires marked { (k : ℕ)
+            → from ≤ k
+            → k < min to (first_at self.now place + 64)
+            → get_or (tests_of tested.now) k false ≡ true
+            → bit_at (word_of self.now place) (k - first_at self.now place) ≡ 1 }
+        ensures { Scanned (tests_of tested.now) from (min to (first_at self.now place + 64)) to steps.old steps.new result }
+    {
+        if self.front(place) == 0 {
+            return None;
+        }
+        let start = self.first + place * 64;
+        let end = to.min(start + 64);
+        let mut rest = self.word(place) >> (from - start);
+        let mut number = from;
+        'candidates: while rest != 0 {
+            let clear = rest.trailing_zeros();
+            number += clear as usize;
+            if number >= end {
+                return None;
+            }
+            if tested.rules[number].test_facts(tested.facts, steps) {
+                return Some(number);
+            }
+            number += 1;
+            rest = rest >> clear >> 1;
+        }
+        None
+    }
+
     /// The bits of 64 rules that are set in the rows of sources and ports, in which most are clear.
     #[inline(always)]
     fn front(&self, place: usize) -> u64
@@ -166,18 +259,18 @@ impl Filter {
     /// The first rule that matches of those from `from` on before `to`. As many steps at most as rules up to that one.
     pub(crate) fn scan<L: Ledger>(
         &self,
-        rules: &[Fast],
-        facts: &Facts<'_>,
+        tested: &Tested<'_>,
         from: usize,
         to: usize,
         steps: &mut Steps<L>,
     ) -> Option<usize>
-        requires filter { IsFilter rules.now self.now }
-        requires few { length rules.now < 2 ^ 32 }
+        requires filter { IsFilter tested.now.rules.now self.now }
+        requires few { length tested.now.rules.now < 2 ^ 32 }
         requires from { self.now.first ≤ from }
         requires to { to ≤ self.now.end }
-        ensures { Scanned (hits facts.now rules.now) from to to steps.old steps.new result }
+        ensures { Scanned (tests_of tested.now) from to to steps.old steps.new result }
     {
+        let facts = tested.facts;
         let words = words_of(self.end - self.first);
         let source = self.source.class(facts.key(self.source.field));
         let protocol = self.protocol.class(facts.number(3));
@@ -189,6 +282,7 @@ impl Filter {
             self.source_port.bounds.len(),
         );
         let rows = Rows {
+            first: self.first,
             source: self.source.row(source, words),
             protocol: self.protocol.row(protocol, words),
             destination_port: self.destination_port.row(into, words),
@@ -197,79 +291,6 @@ impl Filter {
             to_port: row_of(&self.ports.to, words, to_last, into),
             from_port: row_of(&self.ports.from, words, from_last, out_of),
         };
-        scan_rows(rules, facts, &rows, self.first, from, to, steps)
+        rows.scan(tested, from, to, steps)
     }
-}
-
-/// The first rule that matches of those from `from` on before `to`, of which only those are tested whose bits are set.
-fn scan_rows<L: Ledger>(
-    rules: &[Fast],
-    facts: &Facts<'_>,
-    rows: &Rows<'_>,
-    first: usize,
-    from: usize,
-    to: usize,
-    steps: &mut Steps<L>,
-) -> Option<usize>
-    requires rows { AreRows (hits facts.now rules.now) first to rows.now }
-    requires first { first ≤ from }
-    requires to { to ≤ length rules.now }
-    requires few { length rules.now < 2 ^ 32 }
-    ensures { Scanned (hits facts.now rules.now) from to to steps.old steps.new result }
-{
-    let mut place = (from - first) / 64;
-    'words: while first + place * 64 < to {
-        let start = first + place * 64;
-        match scan_word(rules, facts, rows, place, start, from.max(start), to, steps) {
-            Some(number) => return Some(number),
-            None => place = rows.next_front(place + 1, words_of(to - first)),
-        }
-    }
-    None
-}
-
-/// The first rule that matches of those from `from` on before `to` among the 64 from `start` on, of which only those are
-/// tested whose bits are set in the rows' words at the place.
-#[inline(always)]
-fn scan_word<L: Ledger>(
-    rules: &[Fast],
-    facts: &Facts<'_>,
-    rows: &Rows<'_>,
-    place: usize,
-    start: usize,
-    from: usize,
-    to: usize,
-    steps: &mut Steps<L>,
-) -> Option<usize>
-    requires start { (start ≤ from) × (from < start + 64) }
-    requires low { start < length rules.now }
-    requires to { to ≤ length rules.now }
-    requires few { length rules.now < 2 ^ 32 }
-    requires inside { IsInside place rows.now }
-    requires marked { (k : ℕ)
-        → from ≤ k
-        → k < min to (start + 64)
-        → get_or (hits facts.now rules.now) k false ≡ true
-        → bit_at (word_of rows.now place) (k - start) ≡ 1 }
-    ensures { Scanned (hits facts.now rules.now) from (min to (start + 64)) to steps.old steps.new result }
-{
-    if rows.front(place) == 0 {
-        return None;
-    }
-    let end = to.min(start + 64);
-    let mut rest = rows.word(place) >> (from - start);
-    let mut number = from;
-    'candidates: while rest != 0 {
-        let clear = rest.trailing_zeros();
-        number += clear as usize;
-        if number >= end {
-            return None;
-        }
-        if rules[number].test_facts(facts, steps) {
-            return Some(number);
-        }
-        number += 1;
-        rest = rest >> clear >> 1;
-    }
-    None
 }

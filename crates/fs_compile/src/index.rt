@@ -12,7 +12,8 @@ ghost use Rattle.fs_compile.specs.{Filters.{AreFilters, IsFilter}, Index.{IsInde
 ghost use Rattle.fs_compile.specs.{Matcher.{next_from}, Reach.{reaching_behind, reaching_from}, Search.{Starts, behind_hit, hit_number}};
 
 use crate::filters::{FEW_RULES, Filter, Filters};
-use crate::search::{Cursor, Hit, climb, place_behind, place_from};
+use crate::search::{Cursor, Hit, Search, place_behind, place_from};
+use crate::tested::Tested;
 use fs_base::{Address, Family, Memory, Prefix, Steps};
 use fs_buckets::{Buckets, buckets_of, mended, put_between};
 use fs_ranges::{Facts, Fast};
@@ -221,12 +222,24 @@ impl Index {
             → steps.new + reaching_behind (hit_number result) view rules
             ≤ steps.old + reaching_from start.from view rules }
     {
+        let search = Search {
+            buckets: &self.buckets,
+            filters: &self.filters,
+            tested: Tested {
+                rules: &self.rules,
+                facts,
+            },
+            long: false,
+        };
         // two copies, so that where no run is long no bucket pays for the others
-        let (buckets, rules, filters) = (&self.buckets, &self.rules, &self.filters);
-        if filters.runs.is_empty() {
-            climb(buckets, rules, filters, facts, start, false, steps)
+        if self.filters.runs.is_empty() {
+            search.climb(start, steps)
         } else {
-            climb(buckets, rules, filters, facts, start, true, steps)
+            Search {
+                long: true,
+                ..search
+            }
+            .climb(start, steps)
         }
     }
 }

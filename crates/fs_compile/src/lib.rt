@@ -9,6 +9,7 @@ mod filters;
 mod index;
 mod matches;
 mod search;
+mod tested;
 
 pub use compiled::{Compiled, walks_by_next};
 pub use fs_ranges::{Fast, Spans};

@@ -17,12 +17,12 @@ returns-then-is_empty-clause-steps g c = λ view rules are h.
 pub returns-else-is_empty-clause-found : goal.returns-else-is_empty-clause-found
 returns-else-is_empty-clause-found g c = λ view rules are h.
     let inside : Indexed = record { buckets = c.self.inside.buckets; rules = c.self.inside.rules.items; actions = c.self.inside.actions.items } in
-    search_is view c.args.facts.now rules inside c.deref-else-is_empty.result.now c.args.start.address c.args.start.from c.climb-else-is_empty.result
-    c.deref-else-is_empty.ensures.value are c.requires.address (subst (IsIndexOf view.family rules) (sym c.self.view_is) h) c.climb-else-is_empty.ensures.found
+    search_is view c.args.facts.now rules inside c.deref.result.now c.args.start.address c.args.start.from c.climb-else-is_empty.result
+    c.deref.ensures.value are c.requires.address (subst (IsIndexOf view.family rules) (sym c.self.view_is) h) c.climb-else-is_empty.ensures.found
 
 pub returns-else-is_empty-clause-steps : goal.returns-else-is_empty-clause-steps
 returns-else-is_empty-clause-steps g c = λ view rules are h.
     let inside : Indexed = record { buckets = c.self.inside.buckets; rules = c.self.inside.rules.items; actions = c.self.inside.actions.items } in
-    steps_are view c.args.facts.now rules inside c.deref-else-is_empty.result.now c.args.start.address c.args.start.from
+    steps_are view c.args.facts.now rules inside c.deref.result.now c.args.start.address c.args.start.from
     c.args.steps.now c.climb-else-is_empty.new.steps (hit_number c.climb-else-is_empty.result)
-    c.deref-else-is_empty.ensures.value are c.requires.address (subst (IsIndexOf view.family rules) (sym c.self.view_is) h) c.climb-else-is_empty.ensures.steps
+    c.deref.ensures.value are c.requires.address (subst (IsIndexOf view.family rules) (sym c.self.view_is) h) c.climb-else-is_empty.ensures.steps
