@@ -16,6 +16,14 @@ const MOST_BOUNDS: usize = 63;
 /// Of a run of more rules, only so many are asked where classes may end.
 const MOST_ASKED: usize = 1024;
 
+/// The rules from the number `first` on before `end`.
+#[derive(Clone, Copy, Drop)]
+pub(crate) struct Run<'a> {
+    pub(crate) rules: &'a [Fast],
+    pub(crate) first: usize,
+    pub(crate) end: usize,
+}
+
 /// The numbers of a field in classes, with a row of bits for each class: a bit for each rule of a run, which is set where
 /// the rule may match a packet whose number is of the class.
 #[derive(Drop)]
@@ -28,24 +36,18 @@ pub(crate) struct Column {
 }
 
 impl Column {
-    /// Of the rules from the number `first` on before `end`.
-    pub(crate) fn of(
-        alloc: Global,
-        rules: &[Fast],
-        first: usize,
-        end: usize,
-        field: u8,
-    ) -> Result<Column, Memory>
-        requires ordered { first ≤ end }
-        requires within { end ≤ length rules.now }
-        requires few { length rules.now < 2 ^ 32 }
-        ensures column { IfOk result (IsColumn rules.now first end) }
+    /// Of the rules of the run.
+    pub(crate) fn of(alloc: Global, run: Run<'_>, field: u8) -> Result<Column, Memory>
+        requires ordered { run.first ≤ run.end }
+        requires within { run.end ≤ length run.rules.now }
+        requires few { length run.rules.now < 2 ^ 32 }
+        ensures column { IfOk result (IsColumn run.entry.rules.now run.entry.first run.entry.end) }
         ensures field { IfOk result (λ column. column.field ≡ field) }
     {
-        let bounds = bounds_of(alloc, rules, first, end, field)?;
-        let words = words_of(end - first);
+        let bounds = bounds_of(alloc, run, field)?;
+        let words = words_of(run.end - run.first);
         let mut rows = empty_rows(alloc, bounds.len() + 1, words)?;
-        mark_rules(&mut rows, words, &bounds, rules, first, end, field);
+        mark_rules(&mut rows, words, &bounds, run, field);
         Ok(Column {
             field,
             bounds,
@@ -86,35 +88,24 @@ pub(crate) struct PortRows {
 }
 
 impl PortRows {
-    /// Of the rules from the number `first` on before `end`, by the classes of these columns.
+    /// Of the rules of the run, by the classes of these columns.
     pub(crate) fn of(
         alloc: Global,
-        rules: &[Fast],
-        first: usize,
-        end: usize,
+        run: Run<'_>,
         destination: &[u64],
         source: &[u64],
     ) -> Result<PortRows, Memory>
-        requires ordered { first ≤ end }
-        requires within { end ≤ length rules.now }
-        requires few { length rules.now < 2 ^ 32 }
+        requires ordered { run.first ≤ run.end }
+        requires within { run.end ≤ length run.rules.now }
+        requires few { length run.rules.now < 2 ^ 32 }
         requires destination { AreRising destination.now × (length destination.now ≤ 63) }
         requires source { AreRising source.now × (length source.now ≤ 63) }
-        ensures { IfOk result (ArePortRows rules.now first end destination.now source.now) }
+        ensures { IfOk result (ArePortRows run.entry.rules.now run.entry.first run.entry.end destination.now source.now) }
     {
-        let words = words_of(end - first);
+        let words = words_of(run.end - run.first);
         let mut to = empty_rows(alloc, destination.len() + 1, words)?;
         let mut from = empty_rows(alloc, source.len() + 1, words)?;
-        mark_ports(
-            &mut to,
-            &mut from,
-            words,
-            destination,
-            source,
-            rules,
-            first,
-            end,
-        );
+        mark_ports(&mut to, &mut from, words, destination, source, run);
         Ok(PortRows { to, from })
     }
 }
@@ -126,22 +117,21 @@ fn mark_ports(
     words: usize,
     destination: &[u64],
     source: &[u64],
-    rules: &[Fast],
-    first: usize,
-    end: usize,
+    run: Run<'_>,
 )
-    requires within { end ≤ length rules.now }
+    requires within { run.end ≤ length run.rules.now }
     requires to { AreRowsOf destination.now to.old words }
     requires from { AreRowsOf source.now from.old words }
-    requires words { words ≡ words_for (end - first) }
+    requires words { words ≡ words_for (run.end - run.first) }
     ensures to { length to.new ≡ length to.old }
     ensures from { length from.new ≡ length from.old }
-    ensures marked { ArePortsMarked rules.now first end destination.now source.now to.new from.new words }
+    ensures marked { ArePortsMarked run.entry.rules.now run.entry.first run.entry.end destination.now source.now to.new from.new words }
 {
-    for number in first..end {
+    let rules = run.rules;
+    for number in run.first..run.end {
         let limit = rules[number].ports_limit();
-        mark_limit(to, words, destination, number - first, limit);
-        mark_limit(from, words, source, number - first, limit);
+        mark_limit(to, words, destination, number - run.first, limit);
+        mark_limit(from, words, source, number - run.first, limit);
     }
 }
 
@@ -188,24 +178,17 @@ fn empty_rows(alloc: Global, classes: usize, words: usize) -> Result<Vec<u64>, M
 }
 
 /// Sets the bits of all rules of the run.
-fn mark_rules(
-    rows: &mut [u64],
-    words: usize,
-    bounds: &[u64],
-    rules: &[Fast],
-    first: usize,
-    end: usize,
-    field: u8,
-)
-    requires within { end ≤ length rules.now }
+fn mark_rules(rows: &mut [u64], words: usize, bounds: &[u64], run: Run<'_>, field: u8)
+    requires within { run.end ≤ length run.rules.now }
     requires shaped { AreRowsOf bounds.now rows.old words }
-    requires words { words ≡ words_for (end - first) }
+    requires words { words ≡ words_for (run.end - run.first) }
     ensures size { length rows.new ≡ length rows.old }
-    ensures marked { AreMarked rules.now first end field bounds.now rows.new words }
+    ensures marked { AreMarked run.entry.rules.now run.entry.first run.entry.end field bounds.now rows.new words }
 {
-    for number in first..end {
+    let rules = run.rules;
+    for number in run.first..run.end {
         let limit = rules[number].limit(field);
-        mark_limit(rows, words, bounds, number - first, limit);
+        mark_limit(rows, words, bounds, number - run.first, limit);
     }
 }
 
@@ -275,21 +258,15 @@ fn set_bit(rows: &mut [u64], word: usize, bit: usize)
 }
 
 /// Where classes of the field's numbers end: at ends of the rules' ranges.
-fn bounds_of(
-    alloc: Global,
-    rules: &[Fast],
-    first: usize,
-    end: usize,
-    field: u8,
-) -> Result<Vec<u64>, Memory>
-    requires ordered { first ≤ end }
-    requires within { end ≤ length rules.now }
+fn bounds_of(alloc: Global, run: Run<'_>, field: u8) -> Result<Vec<u64>, Memory>
+    requires ordered { run.first ≤ run.end }
+    requires within { run.end ≤ length run.rules.now }
     ensures rising { IfOk result (λ bounds. AreRising bounds.items) }
     ensures few { IfOk result (λ bounds. length bounds.items ≤ 63) }
 {
-    let mut ends = ends_of(alloc, &rules[first..end], field)?;
+    let mut ends = ends_of(alloc, &run.rules[run.first..run.end], field)?;
     ends.sort_unstable();
-    let most = MOST_BOUNDS.min((end - first) / 2);
+    let most = MOST_BOUNDS.min((run.end - run.first) / 2);
     thinned(alloc, &ends, ends.len() / (most + 1) + 1, most)
 }
 

@@ -3,7 +3,7 @@
 ghost use Rattle.std.specs.{Prelude.{◌≡◌, ℕ, ◌+◌, ◌-◌, ◌*◌, ◌^◌, ◌<◌, ◌≤◌, false, true, IfOk, IfSome, List, get_or, length, min}, Int.{bit_at}};
 ghost use Rattle.fs_compile.specs.{Filters.{AreFilters, AreRows, IsFilter, IsInside, first_at, front_of, word_of}, Search.{Scanned, tests_of}};
 
-use crate::columns::{Column, PortRows, row_of, words_of};
+use crate::columns::{Column, PortRows, Run, row_of, words_of};
 use crate::tested::Tested;
 use fs_base::{Memory, Steps};
 use fs_ranges::Fast;
@@ -215,25 +215,19 @@ impl Filter {
         requires few { length rules.now < 2 ^ 32 }
         ensures { IfOk result (IsFilter rules.now) }
     {
+        let run = Run { rules, first, end };
         let source = rules[first].source_field();
-        let destination_port = Column::of(alloc, rules, first, end, 5)?;
-        let source_port = Column::of(alloc, rules, first, end, 6)?;
-        let ports = PortRows::of(
-            alloc,
-            rules,
-            first,
-            end,
-            &destination_port.bounds,
-            &source_port.bounds,
-        )?;
+        let destination_port = Column::of(alloc, run, 5)?;
+        let source_port = Column::of(alloc, run, 6)?;
+        let ports = PortRows::of(alloc, run, &destination_port.bounds, &source_port.bounds)?;
         Ok(Filter {
             first,
             end,
-            source: Column::of(alloc, rules, first, end, source)?,
-            protocol: Column::of(alloc, rules, first, end, 3)?,
+            source: Column::of(alloc, run, source)?,
+            protocol: Column::of(alloc, run, 3)?,
             destination_port,
             source_port,
-            length: Column::of(alloc, rules, first, end, 10)?,
+            length: Column::of(alloc, run, 10)?,
             ports,
         })
     }

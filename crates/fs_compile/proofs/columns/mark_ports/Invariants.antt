@@ -5,5 +5,5 @@ abbrev pub invariant-loop-number : goal.invariant-loop-number
 invariant-loop-number l = record {
   to : length l.to ≡ length l.initial.to;
   from : length l.from ≡ length l.initial.from;
-  marked : ArePortsMarked l.rules l.first l.number l.destination l.source l.to l.from l.words;
+  marked : ArePortsMarked l.run.rules.now l.run.first l.number l.destination l.source l.to l.from l.words;
 }

@@ -10,8 +10,8 @@ scan-requires-clause-rows g c =
       protocol = c.row-2.ensures c.args.tested.now.facts.now c.args.tested.now.rules.now c.args.self.now.first c.args.self.now.end c.words_of-words.ensures
           (subst (λ (n : ℕ). IsClass c.args.self.now.protocol.bounds.items n c.class-protocol.result) (c.number.ensures
           ∙ sym (ap (key_of c.args.tested.now.facts.now) fields.0)) c.class-protocol.ensures) c.requires.filter.protocol;
-      destination_port = c.row-3.ensures c.args.tested.now.facts.now c.args.tested.now.rules.now c.args.self.now.first c.args.self.now.end c.words_of-words.ensures
-          (subst (λ (n : ℕ). IsClass c.args.self.now.destination_port.bounds.items n c.class-into.result) (c.number-2.ensures
+      destination_port = c.row-3.ensures c.args.tested.now.facts.now c.args.tested.now.rules.now c.args.self.now.first c.args.self.now.end
+          c.words_of-words.ensures (subst (λ (n : ℕ). IsClass c.args.self.now.destination_port.bounds.items n c.class-into.result) (c.number-2.ensures
           ∙ sym (ap (key_of c.args.tested.now.facts.now) fields.1)) c.class-into.ensures) c.requires.filter.destination_port;
       source_port = c.row-4.ensures c.args.tested.now.facts.now c.args.tested.now.rules.now c.args.self.now.first c.args.self.now.end c.words_of-words.ensures
           (subst (λ (n : ℕ). IsClass c.args.self.now.source_port.bounds.items n c.class-out_of.result) (c.number-3.ensures
@@ -21,8 +21,9 @@ scan-requires-clause-rows g c =
           ∙ sym (ap (key_of c.args.tested.now.facts.now) fields.3)) c.class-length.ensures) c.requires.filter.length;
       to_port = let s = c.row_of.ensures.size in let w = c.words_of-words.ensures in let o = c.requires.filter.ordered in omega (arith, s, w, o);
       from_port = let s = c.row_of-2.ensures.size in let w = c.words_of-words.ensures in let o = c.requires.filter.ordered in omega (arith, s, w, o);
-      ports = port_set c.args.tested.now.rules.now c.args.tested.now.facts.now c.args.self.now.first c.args.self.now.end c.words_of-words.result c.class-into.result
-          c.class-out_of.result c.args.self.now.destination_port.bounds.items c.args.self.now.source_port.bounds.items _ _ c.args.self.now.ports
+      ports = port_set c.args.tested.now.rules.now c.args.tested.now.facts.now c.args.self.now.first c.args.self.now.end c.words_of-words.result
+          c.class-into.result c.class-out_of.result c.args.self.now.destination_port.bounds.items
+          c.args.self.now.source_port.bounds.items _ _ c.args.self.now.ports
           c.words_of-words.ensures c.requires.filter.ports
           (subst (λ (n : ℕ). IsClass c.args.self.now.destination_port.bounds.items n c.class-into.result) c.number-2.ensures c.class-into.ensures)
           (subst (λ (n : ℕ). IsClass c.args.self.now.source_port.bounds.items n c.class-out_of.result) c.number-3.ensures c.class-out_of.ensures)

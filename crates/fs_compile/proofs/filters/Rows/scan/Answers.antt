@@ -74,7 +74,8 @@ words-preserved g c = record {
       → (k < first_at c.args.self.now (c.words.place + 1)) ⊎ (first_at c.args.self.now (c.words.place + 1) ≤ k)
       → get_or (tests_of c.args.tested.now) k false ≡ false
   by k above below (inl earlier) any = let t = c.words-test.true in c.words.invariant.missed k above (omega (arith, earlier, t))
-  by k above below (inr here) (inl early) = let e = c.max-start.ensures in c.in-None.ensures.found k (omega (arith, above, here, e)) (omega (arith, below, early))
+  by k above below (inr here) (inl early) =
+      let e = c.max-start.ensures in c.in-None.ensures.found k (omega (arith, above, here, e)) (omega (arith, below, early))
   by k above below (inr here) (inr late) =
       words_missed (tests_of c.args.tested.now) c.args.self.now c.args.to
       (c.words.place + 1) c.next_front-place.result c.requires.rows c.next_front-place.ensures.clear k late (omega (arith, below))

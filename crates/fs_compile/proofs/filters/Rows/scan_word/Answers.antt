@@ -15,8 +15,10 @@ candidates-init g c = record {
   from = omega arith;
   small = omega (arith, c.requires.start.1, c.requires.low, c.requires.few);
   rest = fits_shifted c.word.result (c.args.from - first_at c.args.self.now c.args.place) c.word.type_inv;
-  left = left_first (tests_of c.args.tested.now) c.word.result (first_at c.args.self.now c.args.place) c.args.from (min c.args.to (first_at c.args.self.now c.args.place + 64)) c.requires.start.0
-      (λ k above below hit. subst (λ (w : ℕ). bit_at w (k - first_at c.args.self.now c.args.place) ≡ 1) (sym c.word.ensures) (c.requires.marked k above below hit));
+  left = left_first (tests_of c.args.tested.now) c.word.result (first_at c.args.self.now c.args.place) c.args.from
+      (min c.args.to (first_at c.args.self.now c.args.place + 64)) c.requires.start.0
+      (λ k above below hit. subst (λ (w : ℕ). bit_at w (k - first_at c.args.self.now c.args.place) ≡ 1) (sym c.word.ensures)
+      (c.requires.marked k above below hit));
   missed = λ k above below. absurd (omega (arith, above, below));
   later = omega arith;
   steps = omega arith;
