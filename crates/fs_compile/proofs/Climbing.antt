@@ -1,155 +1,178 @@
 -- The search through buckets, from one to its parent: what it passes holds no rule that matches, and what it tests is near.
 use Rattle.fs_compile.proofs.Words.{◌≡◌, ℕ, ◌+◌, ◌-◌, ◌<◌, ◌≤◌, ◌⊎◌, inl, inr, max, sym, ap, subst, ◌∙◌, Bool, true, false, true≢false, Option, Some}
 use Rattle.fs_compile.proofs.Words.{None, MatchOption, IfSome, cond, map, List, length, get_or, count_by, arith, cases_lt, get_or-map, sum_by-take-le}
-use Rattle.fs_compile.proofs.Words.{false_from, Node, AreBuckets, node_at, AreNear, Found, Missed, Within, marked, tested_to}
+use Rattle.fs_compile.proofs.Words.{false_from, Node, AreSound, nodes_in, numbers_in, node_at, Found, Missed, Scanned, Within, marked, tested_to}
+use Rattle.fs_compile.proofs.Words.{tests_of, Search, Cursor, IsAt, IsNearIn, IsWhole, count_of}
 use Rattle.fs_compile.proofs.Counts.{marked_all, marked_later, marked_tested}
 use Rattle.fs_buckets.proofs.Homes.{home_before, home_from}
 
+abbrev pub node_of : Search → ℕ → Node ℕ
+node_of s i = node_at (nodes_in s.buckets.now.nodes) i
+
+abbrev pub last_of : Search → ℕ → ℕ
+last_of s i = get_or (numbers_in s.buckets.now.lasts) i 0
+
+-- the bucket of a rule
+abbrev pub home_of : Search → ℕ → ℕ
+home_of s k = get_or s.buckets.now.homes.items k 0
+
+-- the nodes of a place's bucket, of the next one and of its parent
+abbrev pub own_node : Search → Cursor → Node ℕ
+own_node s p = node_of s p.bucket
+
+abbrev pub next_node : Search → Cursor → Node ℕ
+next_node s p = node_of s (p.bucket + 1)
+
+abbrev pub up_node : Search → Cursor → Node ℕ
+up_node s p = node_of s (own_node s p).parent
+
 -- Stretches joined.
-pub missed_join : (hits : List Bool) (lo start low to : ℕ) → low ≡ max lo start → Missed hits lo start → Missed hits low to → Missed hits lo to
-missed_join hits lo start low to e first second k above below = at (cases_lt k start) where
+missed_join : (hits : List Bool) (lo start to : ℕ) → Missed hits lo start → Missed hits (max lo start) to → Missed hits lo to
+missed_join hits lo start to first second k above below = at (cases_lt k start) where
   at : (k < start) ⊎ (start ≤ k) → get_or hits k false ≡ false
   at (inl before) = first k above before
-  at (inr behind) = let later : low ≤ k = omega (arith, e, above, behind) in second k later below
+  at (inr behind) = let later : max lo start ≤ k = omega (arith, above, behind) in second k later below
 
-pub found_join : (hits : List Bool) (lo start low to count k : ℕ) → low ≡ max lo start → to ≤ count → Missed hits lo start → Found hits low to k
-    → Found hits lo count k
-found_join hits lo start low to count k e most first f = record {
-  above = let a : low ≤ k = f.above in omega (arith, e, a);
+found_join : (hits : List Bool) (lo start to count k : ℕ) → to ≤ count → Missed hits lo start → Found hits (max lo start) to k → Found hits lo count k
+found_join hits lo start to count k most first f = record {
+  above = let a : max lo start ≤ k = f.above in omega (arith, a);
   below = let a : k < to = f.below in omega (arith, most, a);
   hit = f.hit;
-  before = missed_join hits lo start low k e first f.before;
+  before = missed_join hits lo start k first f.before;
 }
 
 -- where a bucket begins above the address, none up to its parent holds that
-above_it : (lasts : List ℕ) (nodes : List (Node ℕ)) (homes : List ℕ) (count d at k : ℕ) (near : List Bool) → AreBuckets lasts nodes homes count
-    → AreNear lasts nodes homes d count near → at < length lasts → d < (node_at nodes at).first
-    → (node_at nodes at).start ≤ k → k < (node_at nodes (node_at nodes at).parent).start → get_or near k false ≡ false
-above_it lasts nodes homes count d at k near s n inside high low below = false_from (get_or near k false) (λ hit.
-    let held = n.apart k before.0 hit in
-    by (cases_lt at (get_or homes k 0)) held.0)
+above_it : (s : Search) (p : Cursor) (near : List Bool) (k : ℕ) → IsAt s p → IsNearIn s p near → p.address < (own_node s p).first
+    → (own_node s p).start ≤ k → k < (up_node s p).start → get_or near k false ≡ false
+above_it s p near k at n high low below = false_from (get_or near k false) (λ hit. by (cases_lt p.bucket (home_of s k)) (n.apart k before.0 hit).0)
   where
-    parent : (node_at nodes at).parent ≤ length lasts
-    parent = s.within at inside
+    b : AreSound s.buckets.now (count_of s)
+    b = at.whole.sound
 
-    before : (k < length homes) × (get_or homes k 0 < (node_at nodes at).parent)
-    before = home_before lasts nodes homes count (node_at nodes at).parent k s parent below
+    before : (k < length s.buckets.now.homes.items) × (home_of s k < (own_node s p).parent)
+    before = home_before _ _ _ _ (own_node s p).parent k b (b.within p.bucket at.inside) below
 
-    from : at ≤ get_or homes k 0
-    from = home_from lasts nodes homes count at k s (omega (arith, inside)) before.0 low
+    from : p.bucket ≤ home_of s k
+    from = home_from _ _ _ _ p.bucket k b (omega (arith, at.inside)) before.0 low
 
-    by : (at < get_or homes k 0) ⊎ (get_or homes k 0 ≤ at) → (node_at nodes (get_or homes k 0)).first ≤ d → ⊥
+    by : (p.bucket < home_of s k) ⊎ (home_of s k ≤ p.bucket) → (node_of s (home_of s k)).first ≤ p.address → ⊥
     by (inl later) held =
-        let a : (node_at nodes at).first < (node_at nodes (get_or homes k 0)).first = s.least at (get_or homes k 0) inside later before.1 in
+        let a : (own_node s p).first < (node_of s (home_of s k)).first = b.least p.bucket (home_of s k) at.inside later before.1 in
         omega (arith, a, held, high)
     by (inr no_later) held =
-        let same : get_or homes k 0 ≡ at = omega (arith, from, no_later) in
-        let own : (node_at nodes at).first ≤ d = subst (λ h. (node_at nodes h).first ≤ d) same held in
+        let same : home_of s k ≡ p.bucket = omega (arith, from, no_later) in
+        let own : (own_node s p).first ≤ p.address = subst (λ h. (node_of s h).first ≤ p.address) same held in
         omega (arith, own, high)
 
 -- nor does one behind a bucket that ends no earlier, up to its parent
-beyond_it : (lasts : List ℕ) (nodes : List (Node ℕ)) (homes : List ℕ) (count d at k : ℕ) (near : List Bool) → AreBuckets lasts nodes homes count
-    → AreNear lasts nodes homes d count near → at < length lasts → d ≤ get_or lasts at 0
-    → (node_at nodes (at + 1)).start ≤ k → k < (node_at nodes (node_at nodes at).parent).start → get_or near k false ≡ false
-beyond_it lasts nodes homes count d at k near s n inside ends low below = false_from (get_or near k false) (λ hit.
-    let held : (node_at nodes (get_or homes k 0)).first ≤ d = (n.apart k before.0 hit).0 in
-    let a : (node_at nodes at).first < (node_at nodes (get_or homes k 0)).first = s.least at (get_or homes k 0) inside (omega (arith, from)) before.1 in
-    let meets : (node_at nodes (get_or homes k 0)).first ≤ get_or lasts at 0 = omega (arith, held, ends) in
-    let b : (node_at nodes (get_or homes k 0)).first ≤ (node_at nodes at).first =
-    s.nested at (get_or homes k 0) (omega (arith, from)) (s.home k before.0) meets in
-    omega (arith, a, b))
+beyond_it : (s : Search) (p : Cursor) (near : List Bool) (k : ℕ) → IsAt s p → IsNearIn s p near
+    → (next_node s p).start ≤ k → k < (up_node s p).start → get_or near k false ≡ false
+beyond_it s p near k at n low below = false_from (get_or near k false) (λ hit.
+    let held : (node_of s (home_of s k)).first ≤ p.address = (n.apart k before.0 hit).0 in
+    let a : (own_node s p).first < (node_of s (home_of s k)).first = b.least p.bucket (home_of s k) at.inside (omega (arith, from)) before.1 in
+    let ends : p.address ≤ last_of s p.bucket = at.ends in
+    let meets : (node_of s (home_of s k)).first ≤ last_of s p.bucket = omega (arith, held, ends) in
+    let c : (node_of s (home_of s k)).first ≤ (own_node s p).first =
+    b.nested p.bucket (home_of s k) (omega (arith, from)) (b.home k before.0) meets in
+    omega (arith, a, c))
   where
-    parent : (node_at nodes at).parent ≤ length lasts
-    parent = s.within at inside
+    b : AreSound s.buckets.now (count_of s)
+    b = at.whole.sound
 
-    before : (k < length homes) × (get_or homes k 0 < (node_at nodes at).parent)
-    before = home_before lasts nodes homes count (node_at nodes at).parent k s parent below
+    before : (k < length s.buckets.now.homes.items) × (home_of s k < (own_node s p).parent)
+    before = home_before _ _ _ _ (own_node s p).parent k b (b.within p.bucket at.inside) below
 
-    from : at + 1 ≤ get_or homes k 0
-    from = home_from lasts nodes homes count (at + 1) k s (omega (arith, inside)) before.0 low
+    from : p.bucket + 1 ≤ home_of s k
+    from = home_from _ _ _ _ (p.bucket + 1) k b (omega (arith, at.inside)) before.0 low
 
 -- what isn't near doesn't match
 not_near : (hits near : List Bool) (k : ℕ) → Within hits near → get_or near k false ≡ false → get_or hits k false ≡ false
 not_near hits near k w e = false_from (get_or hits k false) (λ hit. true≢false (sym (w k hit) ∙ e))
 
 -- A step from a bucket to its parent: the bucket isn't searched, or is searched in vain.
-pub skipped_up : (lasts : List ℕ) (nodes : List (Node ℕ)) (homes : List ℕ) (count d at lo : ℕ) (hits near : List Bool) → AreBuckets lasts nodes homes count
-    → AreNear lasts nodes homes d count near → Within hits near → at < length lasts → d < (node_at nodes at).first
-    → Missed hits lo (node_at nodes at).start → Missed hits lo (node_at nodes (node_at nodes at).parent).start
-skipped_up lasts nodes homes count d at lo hits near s n w inside high missed k above below = by (cases_lt k (node_at nodes at).start) where
-  by : (k < (node_at nodes at).start) ⊎ ((node_at nodes at).start ≤ k) → get_or hits k false ≡ false
+pub skipped_up : (s : Search) (p : Cursor) (near : List Bool) → IsAt s p → IsNearIn s p near → Within (tests_of s.tested) near
+    → p.address < (own_node s p).first
+    → Missed (tests_of s.tested) p.from (own_node s p).start → Missed (tests_of s.tested) p.from (up_node s p).start
+skipped_up s p near at n w high missed k above below = by (cases_lt k (own_node s p).start) where
+  by : (k < (own_node s p).start) ⊎ ((own_node s p).start ≤ k) → get_or (tests_of s.tested) k false ≡ false
   by (inl before) = missed k above before
-  by (inr behind) = not_near hits near k w (above_it lasts nodes homes count d at k near s n inside high behind below)
+  by (inr behind) = not_near (tests_of s.tested) near k w (above_it s p near k at n high behind below)
 
-pub searched_up : (lasts : List ℕ) (nodes : List (Node ℕ)) (homes : List ℕ) (count d at lo low : ℕ) (hits near : List Bool) → AreBuckets lasts nodes homes count
-    → AreNear lasts nodes homes d count near → Within hits near → at < length lasts → d ≤ get_or lasts at 0 → low ≡ max lo (node_at nodes at).start
-    → Missed hits lo (node_at nodes at).start → Missed hits low (node_at nodes (at + 1)).start → Missed hits lo (node_at nodes (node_at nodes at).parent).start
-searched_up lasts nodes homes count d at lo low hits near s n w inside ends e missed searched k above below =
-    by (cases_lt k (node_at nodes (at + 1)).start) where
-      by : (k < (node_at nodes (at + 1)).start) ⊎ ((node_at nodes (at + 1)).start ≤ k) → get_or hits k false ≡ false
-      by (inl before) = missed_join hits lo (node_at nodes at).start low (node_at nodes (at + 1)).start e missed searched k above before
-      by (inr behind) = not_near hits near k w (beyond_it lasts nodes homes count d at k near s n inside ends behind below)
+searched_up : (s : Search) (p : Cursor) (near : List Bool) → IsAt s p → IsNearIn s p near → Within (tests_of s.tested) near
+    → Missed (tests_of s.tested) p.from (own_node s p).start → Missed (tests_of s.tested) (max p.from (own_node s p).start) (next_node s p).start
+    → Missed (tests_of s.tested) p.from (up_node s p).start
+searched_up s p near at n w missed searched k above below = by (cases_lt k (next_node s p).start) where
+  by : (k < (next_node s p).start) ⊎ ((next_node s p).start ≤ k) → get_or (tests_of s.tested) k false ≡ false
+  by (inl before) = missed_join (tests_of s.tested) p.from (own_node s p).start (next_node s p).start missed searched k above before
+  by (inr behind) = not_near (tests_of s.tested) near k w (beyond_it s p near k at n behind below)
 
 -- a bucket ends where the next begins, which is no later than its parent
-pub next_starts : (lasts : List ℕ) (nodes : List (Node ℕ)) (homes : List ℕ) (count at : ℕ) → AreBuckets lasts nodes homes count → at < length lasts
-    → ((node_at nodes at).start ≤ (node_at nodes (at + 1)).start) × ((node_at nodes (at + 1)).start ≤ (node_at nodes (node_at nodes at).parent).start)
-    × ((node_at nodes (at + 1)).start ≤ count)
-next_starts lasts nodes homes count at s inside = (own, up, omega (arith, all, tail, few)) where
-  own : (node_at nodes at).start ≤ (node_at nodes (at + 1)).start
-  own = s.starts at (at + 1) (omega arith) (omega (arith, inside))
+next_starts : (s : Search) (p : Cursor) → IsAt s p
+    → ((own_node s p).start ≤ (next_node s p).start) × ((next_node s p).start ≤ (up_node s p).start) × ((next_node s p).start ≤ count_of s)
+next_starts s p at = (own, up, omega (arith, all, tail, few)) where
+  b : AreSound s.buckets.now (count_of s)
+  b = at.whole.sound
 
-  up : (node_at nodes (at + 1)).start ≤ (node_at nodes (node_at nodes at).parent).start
-  up = let after : at < (node_at nodes at).parent = s.after at inside in s.starts (at + 1) (node_at nodes at).parent (omega (arith, after)) (s.within at inside)
+  own : (own_node s p).start ≤ (next_node s p).start
+  own = b.starts p.bucket (p.bucket + 1) (omega arith) (omega (arith, at.inside))
 
-  all : (node_at nodes (at + 1)).start ≤ (node_at nodes (length lasts)).start
-  all = s.starts (at + 1) (length lasts) (omega (arith, inside)) (omega arith)
+  up : (next_node s p).start ≤ (up_node s p).start
+  up = let after : p.bucket < (own_node s p).parent = b.after p.bucket at.inside in
+      b.starts (p.bucket + 1) (own_node s p).parent (omega (arith, after)) (b.within p.bucket at.inside)
 
-  tail : (node_at nodes (length lasts)).start ≡ length homes
-  tail = s.tail
+  all : (next_node s p).start ≤ (node_of s (length (numbers_in s.buckets.now.lasts))).start
+  all = b.starts (p.bucket + 1) (length (numbers_in s.buckets.now.lasts)) (omega (arith, at.inside)) (omega arith)
 
-  few : length homes ≤ count
-  few = s.few
+  tail : (node_of s (length (numbers_in s.buckets.now.lasts))).start ≡ length s.buckets.now.homes.items
+  tail = b.tail
+
+  few : length s.buckets.now.homes.items ≤ count_of s
+  few = b.few
 
 -- The steps: none for a bucket that isn't searched; of one that is, each rule tested is near.
-pub skipped_cost : (lasts : List ℕ) (nodes : List (Node ℕ)) (homes : List ℕ) (count at lo : ℕ) (near : List Bool) → AreBuckets lasts nodes homes count
-    → at < length lasts
-    → marked (max lo (node_at nodes at).start) near ≤ marked (max lo (node_at nodes (node_at nodes at).parent).start) near
-skipped_cost lasts nodes homes count at lo near s inside =
-    let n = next_starts lasts nodes homes count at s inside in
-    let a : (node_at nodes at).start ≤ (node_at nodes (at + 1)).start = n.0 in
-    let b : (node_at nodes (at + 1)).start ≤ (node_at nodes (node_at nodes at).parent).start = n.1 in
-    marked_later (max lo (node_at nodes at).start) (max lo (node_at nodes (node_at nodes at).parent).start) near (omega (arith, a, b))
+pub skipped_cost : (s : Search) (p : Cursor) (near : List Bool) → IsAt s p
+    → marked (max p.from (own_node s p).start) near ≤ marked (max p.from (up_node s p).start) near
+skipped_cost s p near at =
+    let n = next_starts s p at in
+    let a : (own_node s p).start ≤ (next_node s p).start = n.0 in
+    let b : (next_node s p).start ≤ (up_node s p).start = n.1 in
+    marked_later (max p.from (own_node s p).start) (max p.from (up_node s p).start) near (omega (arith, a, b))
 
-searched_cost : (lasts : List ℕ) (nodes : List (Node ℕ)) (homes : List ℕ) (count d at low stop : ℕ) (near : List Bool) → AreBuckets lasts nodes homes count
-    → AreNear lasts nodes homes d count near → at < length lasts → d ≤ get_or lasts at 0 → (node_at nodes at).first ≤ d
-    → (node_at nodes at).start ≤ low → stop ≤ (node_at nodes (at + 1)).start → marked low near + (stop - low) ≤ marked (max low stop) near
-searched_cost lasts nodes homes count d at low stop near s n inside ends begins from to = marked_tested near low stop most each where
+searched_cost : (s : Search) (p : Cursor) (near : List Bool) (low stop : ℕ) → IsAt s p → IsNearIn s p near → (own_node s p).first ≤ p.address
+    → (own_node s p).start ≤ low → stop ≤ (next_node s p).start → marked low near + (stop - low) ≤ marked (max low stop) near
+searched_cost s p near low stop at n begins from to = marked_tested near low stop most each where
+  b : AreSound s.buckets.now (count_of s)
+  b = at.whole.sound
+
   most : stop ≤ length near
   most =
-      let a : (node_at nodes (at + 1)).start ≤ count = (next_starts lasts nodes homes count at s inside).2 in
-      let size : length near ≡ count = n.size in
+      let a : (next_node s p).start ≤ count_of s = (next_starts s p at).2 in
+      let size : length near ≡ count_of s = n.size in
       omega (arith, size, a, to)
 
   each : (k : ℕ) → low ≤ k → k < stop → get_or near k false ≡ true
   each k above below =
-      let before = home_before lasts nodes homes count (at + 1) k s (omega (arith, inside)) (omega (arith, below, to)) in
-      let least : at ≤ get_or homes k 0 = home_from lasts nodes homes count at k s (omega (arith, inside)) before.0 (omega (arith, from, above)) in
-      let most : get_or homes k 0 < at + 1 = before.1 in
-      let same : at ≡ get_or homes k 0 = omega (arith, least, most) in
-      n.held k before.0 (subst (λ h. (node_at nodes h).first ≤ d) same begins) (subst (λ h. d ≤ get_or lasts h 0) same ends)
+      let before = home_before _ _ _ _ (p.bucket + 1) k b (omega (arith, at.inside)) (omega (arith, below, to)) in
+      let least : p.bucket ≤ home_of s k = home_from _ _ _ _ p.bucket k b (omega (arith, at.inside)) before.0 (omega (arith, from, above)) in
+      let most : home_of s k < p.bucket + 1 = before.1 in
+      let same : p.bucket ≡ home_of s k = omega (arith, least, most) in
+      n.held k before.0 (subst (λ h. (node_of s h).first ≤ p.address) same begins) (subst (λ h. p.address ≤ last_of s h) same at.ends)
 
 -- a scan in which each rule tested is near
-scanned_cost : (hits near : List Bool) (low to before after : ℕ) (r : Option ℕ) → MatchOption r (Missed hits low to) (Found hits low to)
+scanned_cost : (hits near : List Bool) (low to before after : ℕ) (r : Option ℕ) → Scanned hits low to to before after r
     → ((stop : ℕ) → stop ≤ to → marked low near + (stop - low) ≤ marked (max low stop) near)
-    → after ≤ before + (tested_to r to - low) → after + marked low near ≤ before + marked (tested_to r (max low to)) near
-scanned_cost hits near low to before after None found cost own = let c : marked low near + (to - low) ≤ marked (max low to) near =
-    cost to (omega arith) in omega (arith, c, own)
-scanned_cost hits near low to before after (Some k) found cost own =
-    let above : low ≤ k = found.above in
-    let below : k < to = found.below in
+    → after + marked low near ≤ before + marked (tested_to r (max low to)) near
+scanned_cost hits near low to before after None scanned cost =
+    let c : marked low near + (to - low) ≤ marked (max low to) near = cost to (omega arith) in
+    let own : after ≤ before + (to - low) = scanned.steps in
+    omega (arith, c, own)
+scanned_cost hits near low to before after (Some k) scanned cost =
+    let above : low ≤ k = scanned.found.above in
+    let below : k < to = scanned.found.below in
     let same : max low (k + 1) ≡ k + 1 = omega (arith, above) in
     let c : marked low near + (k + 1 - low) ≤ marked (k + 1) near =
     subst (λ n. marked low near + (k + 1 - low) ≤ marked n near) same (cost (k + 1) (omega (arith, below))) in
+    let own : after ≤ before + (k + 1 - low) = scanned.steps in
     omega (arith, c, own)
 
 tested_later : (r : Option ℕ) (n m : ℕ) (near : List Bool) → marked n near ≤ marked m near → marked (tested_to r n) near ≤ marked (tested_to r m) near
@@ -160,53 +183,54 @@ option_weaker : {A : Type 0} (P P' : Type 0) (Q Q' : A → Type 0) (r : Option A
 option_weaker P P' Q Q' None f g h = f h
 option_weaker P P' Q Q' (Some k) f g h = g k h
 
--- What a bucket's search says, by the nodes that it read.
-pub searched_found : (lasts : List ℕ) (nodes : List (Node ℕ)) (homes : List ℕ) (count d at lo low : ℕ) (node end : Node ℕ) (hits near : List Bool)
-    (r : Option ℕ)
-    → AreBuckets lasts nodes homes count → AreNear lasts nodes homes d count near → Within hits near → at < length lasts → d ≤ get_or lasts at 0
-    → node ≡ node_at nodes at → end ≡ node_at nodes (at + 1) → low ≡ max lo node.start
-    → Missed hits lo (node_at nodes at).start → MatchOption r (Missed hits low end.start) (Found hits low end.start)
-    → MatchOption r (Missed hits lo (node_at nodes (node_at nodes at).parent).start) (Found hits lo count)
-searched_found lasts nodes homes count d at lo low node end hits near r s n w inside ends e f l missed =
-    option_weaker (Missed hits low end.start) (Missed hits lo (node_at nodes (node_at nodes at).parent).start) (Found hits low end.start)
-    (Found hits lo count) r
-    (λ h. searched_up lasts nodes homes count d at lo low hits near s n w inside ends low_is missed (subst (λ (x : Node ℕ). Missed hits low x.start) f h))
-    (λ k h. found_join hits lo (node_at nodes at).start low (node_at nodes (at + 1)).start count k low_is most missed
-    (subst (λ (x : Node ℕ). Found hits low x.start k) f h))
-  where
-    low_is : low ≡ max lo (node_at nodes at).start
-    low_is = subst (λ (x : Node ℕ). low ≡ max lo x.start) e l
+-- What a bucket's search says: of its run, by the nodes that were read, and of what is passed up to its parent.
+pub scanned_at : (s : Search) (p : Cursor) (node end : Node ℕ) (low before after : ℕ) (r : Option ℕ) → node ≡ own_node s p → end ≡ next_node s p
+    → low ≡ max p.from node.start → Scanned (tests_of s.tested) low end.start end.start before after r
+    → Scanned (tests_of s.tested) (max p.from (own_node s p).start) (next_node s p).start (next_node s p).start before after r
+scanned_at s p node end low before after r e f l scanned =
+    subst (λ (x : Node ℕ). Scanned (tests_of s.tested) (max p.from (own_node s p).start) x.start x.start before after r) f
+    (subst (λ (n : ℕ). Scanned (tests_of s.tested) n end.start end.start before after r) (l ∙ ap (λ (x : Node ℕ). max p.from x.start) e) scanned)
 
-    most : (node_at nodes (at + 1)).start ≤ count
-    most = (next_starts lasts nodes homes count at s inside).2
+pub searched_found : (s : Search) (p : Cursor) (near : List Bool) (before after : ℕ) (r : Option ℕ) → IsAt s p → IsNearIn s p near
+    → Within (tests_of s.tested) near → Missed (tests_of s.tested) p.from (own_node s p).start
+    → Scanned (tests_of s.tested) (max p.from (own_node s p).start) (next_node s p).start (next_node s p).start before after r
+    → MatchOption r (Missed (tests_of s.tested) p.from (up_node s p).start) (Found (tests_of s.tested) p.from (count_of s))
+searched_found s p near before after r at n w missed scanned =
+    option_weaker (Missed (tests_of s.tested) (max p.from (own_node s p).start) (next_node s p).start)
+    (Missed (tests_of s.tested) p.from (up_node s p).start)
+    (Found (tests_of s.tested) (max p.from (own_node s p).start) (next_node s p).start) (Found (tests_of s.tested) p.from (count_of s)) r
+    (searched_up s p near at n w missed)
+    (λ k f. found_join (tests_of s.tested) p.from (own_node s p).start (next_node s p).start (count_of s) k (next_starts s p at).2 missed f)
+    scanned.found
 
-pub searched_steps : (lasts : List ℕ) (nodes : List (Node ℕ)) (homes : List ℕ) (count d at lo low before after : ℕ) (node end : Node ℕ)
-    (hits near : List Bool) (r : Option ℕ)
-    → AreBuckets lasts nodes homes count → AreNear lasts nodes homes d count near → at < length lasts → d ≤ get_or lasts at 0
-    → node ≡ node_at nodes at → end ≡ node_at nodes (at + 1) → low ≡ max lo node.start → node.first ≤ d
-    → MatchOption r (Missed hits low end.start) (Found hits low end.start) → after ≤ before + (tested_to r end.start - low)
-    → after + marked (max lo (node_at nodes at).start) near ≤ before + marked (tested_to r (max lo (node_at nodes (node_at nodes at).parent).start)) near
-searched_steps lasts nodes homes count d at lo low before after node end hits near r s n inside ends e f l begins found cost =
-    subst (λ m. after + marked m near ≤ before + marked (tested_to r (max lo (node_at nodes (node_at nodes at).parent).start)) near) low_is
-    (omega (arith, own, later)) where
-      low_is : low ≡ max lo (node_at nodes at).start
-      low_is = subst (λ (x : Node ℕ). low ≡ max lo x.start) e l
+pub searched_steps : (s : Search) (p : Cursor) (near : List Bool) (before after : ℕ) (r : Option ℕ) → IsAt s p → IsNearIn s p near
+    → (own_node s p).first ≤ p.address
+    → Scanned (tests_of s.tested) (max p.from (own_node s p).start) (next_node s p).start (next_node s p).start before after r
+    → after + marked (max p.from (own_node s p).start) near ≤ before + marked (tested_to r (max p.from (up_node s p).start)) near
+searched_steps s p near before after r at n begins scanned = omega (arith, own, later) where
+  own : after + marked (max p.from (own_node s p).start) near
+      ≤ before + marked (tested_to r (max (max p.from (own_node s p).start) (next_node s p).start)) near
+  own = scanned_cost (tests_of s.tested) near (max p.from (own_node s p).start) (next_node s p).start before after r scanned
+      (λ stop to. searched_cost s p near (max p.from (own_node s p).start) stop at n begins (omega arith) to)
 
-      end_is : end.start ≡ (node_at nodes (at + 1)).start
-      end_is = ap (λ (x : Node ℕ). x.start) f
+  later : marked (tested_to r (max (max p.from (own_node s p).start) (next_node s p).start)) near
+      ≤ marked (tested_to r (max p.from (up_node s p).start)) near
+  later =
+      let parts = next_starts s p at in
+      let a : (own_node s p).start ≤ (next_node s p).start = parts.0 in
+      let b : (next_node s p).start ≤ (up_node s p).start = parts.1 in
+      tested_later r (max (max p.from (own_node s p).start) (next_node s p).start) (max p.from (up_node s p).start) near
+      (marked_later (max (max p.from (own_node s p).start) (next_node s p).start) (max p.from (up_node s p).start) near (omega (arith, a, b)))
 
-      own : after + marked low near ≤ before + marked (tested_to r (max low end.start)) near
-      own = scanned_cost hits near low end.start before after r found
-          (λ stop to. searched_cost lasts nodes homes count d at low stop near s n inside ends (subst (λ (x : Node ℕ). x.first ≤ d) e begins)
-          (omega (arith, low_is)) (omega (arith, to, end_is))) cost
-
-      later : marked (tested_to r (max low end.start)) near ≤ marked (tested_to r (max lo (node_at nodes (node_at nodes at).parent).start)) near
-      later =
-          let parts = next_starts lasts nodes homes count at s inside in
-          let a : (node_at nodes at).start ≤ (node_at nodes (at + 1)).start = parts.0 in
-          let b : (node_at nodes (at + 1)).start ≤ (node_at nodes (node_at nodes at).parent).start = parts.1 in
-          tested_later r (max low end.start) (max lo (node_at nodes (node_at nodes at).parent).start) near
-          (marked_later (max low end.start) (max lo (node_at nodes (node_at nodes at).parent).start) near (omega (arith, low_is, end_is, a, b)))
+pub searched_inside : (s : Search) (p : Cursor) (before after : ℕ) (r : Option ℕ) → IsAt s p
+    → Scanned (tests_of s.tested) (max p.from (own_node s p).start) (next_node s p).start (next_node s p).start before after r
+    → IfSome r (λ number. ((own_node s p).start ≤ number) × (number < count_of s))
+searched_inside s p before after None at scanned = tt
+searched_inside s p before after (Some k) at scanned =
+    let a : max p.from (own_node s p).start ≤ k = scanned.found.above in
+    let b : k < (next_node s p).start = scanned.found.below in
+    let most : (next_node s p).start ≤ count_of s = (next_starts s p at).2 in
+    (omega (arith, a), omega (arith, b, most))
 
 -- one more that doesn't match
 pub missed_more : (hits : List Bool) (lo n : ℕ) → Missed hits lo n → get_or hits n false ≡ false → Missed hits lo (n + 1)
@@ -220,11 +244,12 @@ pub missed_none : {A : Type 0} (P : Type 0) (Q : A → Type 0) (r : Option A) �
 missed_none P Q r h e = subst (λ (o : Option _). MatchOption o P Q) e h
 
 -- the parent of a bucket that doesn't end below the address
-pub parent_ends : (lasts : List ℕ) (nodes : List (Node ℕ)) (homes : List ℕ) (count d at : ℕ) → AreBuckets lasts nodes homes count → at < length lasts
-    → d ≤ get_or lasts at 0
-    → (node_at nodes at).parent < length lasts → d ≤ get_or lasts (node_at nodes at).parent 0
-parent_ends lasts nodes homes count d at s inside ends below =
-    let up : get_or lasts at 0 ≤ get_or lasts (node_at nodes at).parent 0 = s.rising at (node_at nodes at).parent (s.after at inside) below in
+pub parent_ends : (s : Search) (p : Cursor) → IsAt s p → (own_node s p).parent < length (numbers_in s.buckets.now.lasts)
+    → p.address ≤ last_of s (own_node s p).parent
+parent_ends s p at below =
+    let ends : p.address ≤ last_of s p.bucket = at.ends in
+    let up : last_of s p.bucket ≤ last_of s (own_node s p).parent =
+    at.whole.sound.rising p.bucket (own_node s p).parent (at.whole.sound.after p.bucket at.inside) below in
     omega (arith, ends, up)
 
 pub marked_most : (n : ℕ) (near : List Bool) → marked n near ≤ count_by (λ b. b) near
@@ -235,38 +260,29 @@ pub test_fails : {X : Type 0} (test : X → Bool) (xs : List X) (i : ℕ) (d : X
     → get_or (map test xs) i false ≡ false
 test_fails test xs i d r below e f = get_or-map test xs i d false below ∙ sym e ∙ f
 
--- what was found lies from the bucket's start on
-pub found_inside : (hits : List Bool) (low to start count : ℕ) (r : Option ℕ) → start ≤ low → to ≤ count
-    → MatchOption r (Missed hits low to) (Found hits low to)
-    → IfSome r (λ number. (start ≤ number) × (number < count))
-found_inside hits low to start count None above below found = tt
-found_inside hits low to start count (Some k) above below found = let a : low ≤ k = found.above in let b : k < to = found.below in
-    (omega (arith, above, a), omega (arith, below, b))
-
 -- what is tested behind the last bucket, where all rules are near
-pub climbed_cost : (lasts : List ℕ) (nodes : List (Node ℕ)) (homes : List ℕ) (count d at lo low before between after : ℕ) (hits near : List Bool)
-    (r : Option ℕ) → AreBuckets lasts nodes homes count
-    → AreNear lasts nodes homes d count near → at ≡ length lasts → low ≡ max lo (length homes)
-    → MatchOption r (Missed hits low count) (Found hits low count)
-    → between + marked lo near ≤ before + marked (max lo (node_at nodes at).start) near → after ≤ between + (tested_to r count - low)
-    → after + marked lo near ≤ before + marked (tested_to r count) near
-climbed_cost lasts nodes homes count d at lo low before between after hits near r s n last least found inv cost = omega (arith, so_far, own, whole) where
-  size : length near ≡ count
+pub climbed_cost : (s : Search) (p : Cursor) (near : List Bool) (at low before between after : ℕ) (r : Option ℕ) → IsWhole s → IsNearIn s p near
+    → at ≡ length (numbers_in s.buckets.now.lasts) → low ≡ max p.from (length s.buckets.now.homes.items)
+    → between + marked p.from near ≤ before + marked (max p.from (node_of s at).start) near
+    → Scanned (tests_of s.tested) low (count_of s) (count_of s) between after r
+    → after + marked p.from near ≤ before + marked (tested_to r (count_of s)) near
+climbed_cost s p near at low before between after r whole n last least inv scanned = omega (arith, so_far, own, all) where
+  size : length near ≡ count_of s
   size = n.size
 
-  so_far : between + marked lo near ≤ before + marked low near
+  so_far : between + marked p.from near ≤ before + marked low near
   so_far =
-      let start : (node_at nodes at).start ≡ length homes = ap (λ i. (node_at nodes i).start) last ∙ s.tail in
-      let same : max lo (node_at nodes at).start ≡ low = omega (arith, start, least) in
-      subst (λ m. between + marked lo near ≤ before + marked m near) same inv
+      let start : (node_of s at).start ≡ length s.buckets.now.homes.items = ap (λ i. (node_of s i).start) last ∙ whole.sound.tail in
+      let same : max p.from (node_of s at).start ≡ low = omega (arith, start, least) in
+      subst (λ m. between + marked p.from near ≤ before + marked m near) same inv
 
-  own : after + marked low near ≤ between + marked (tested_to r (max low count)) near
-  own = scanned_cost hits near low count between after r found
+  own : after + marked low near ≤ between + marked (tested_to r (max low (count_of s))) near
+  own = scanned_cost (tests_of s.tested) near low (count_of s) between after r scanned
       (λ stop to. marked_tested near low stop (omega (arith, size, to))
-      (λ k above below. n.bare k (omega (arith, least, above)) (omega (arith, below, to)))) cost
+      (λ k above below. n.bare k (omega (arith, least, above)) (omega (arith, below, to))))
 
-  whole : marked (tested_to r (max low count)) near ≤ marked (tested_to r count) near
-  whole =
-      let all : marked (max low count) near ≤ count_by (λ b. b) near = marked_most (max low count) near in
-      let most : marked count near ≡ count_by (λ b. b) near = marked_all near count (omega (arith, size)) in
-      tested_later r (max low count) count near (omega (arith, all, most))
+  all : marked (tested_to r (max low (count_of s))) near ≤ marked (tested_to r (count_of s)) near
+  all =
+      let a : marked (max low (count_of s)) near ≤ count_by (λ b. b) near = marked_most (max low (count_of s)) near in
+      let m : marked (count_of s) near ≡ count_by (λ b. b) near = marked_all near (count_of s) (omega (arith, size)) in
+      tested_later r (max low (count_of s)) (count_of s) near (omega (arith, a, m))

@@ -32,7 +32,7 @@ pub use Rattle.fs_buckets.proofs.Replacing.{nothing_nests, rules_size, sound_mor
 pub use Rattle.fs_buckets.proofs.Splicing.{at_back, at_front, each_got, each_spliced, map_spliced, spliced_size}
 pub use Rattle.fs_buckets.proofs.Stretching.{Before, behind_of, equal_greater, follows_at, less_equal, less_greater, of_behind, of_same, proper_at}
 pub use Rattle.fs_buckets.proofs.Stretching.{same_of, same_place, stretch_none, stretch_some, three}
-pub use Rattle.fs_buckets.specs.{Addresses.{nodes_in, number_of, numbers_in}, Buckets.{AreBuckets, AreRising, node_at}}
+pub use Rattle.fs_buckets.specs.{Addresses.{nodes_in, number_of, numbers_in}, Buckets.{AreRising, node_at}}
 pub use Rattle.fs_buckets.specs.Destinations.{AreTo, IsOfFamily, IsStretch, place_by, span_by, span_cmp, span_of, spans_of, target_of}
 pub use Rattle.fs_buckets.specs.{Housed.{AreHoused, AreSound, HasStretch}, Runs.{AreNesting}, declared.Node.{Node}}
 pub use Rattle.fs_compile.specs.Columns.{AreMarked, ArePortRows, ArePortsMarked, AreRowsOf, Grown, IsClass, IsColumn, IsRow, bit_in, words_for}
@@ -41,7 +41,7 @@ pub use Rattle.fs_compile.specs.Index.{AreKept, Indexed, IsIndexOf, IsMended, St
 pub use Rattle.fs_compile.specs.Matcher.{AreMadeWhereNoted, ArePut, StandsForLists, compiled_in, WalksByNext, WalksOn, admitted_in, next_from}
 pub use Rattle.fs_compile.specs.Mending.{AreOwn, put_in, replaced}
 pub use Rattle.fs_compile.specs.Reach.{covers_address, reaches, reaching, reaching_behind, reaching_from}
-pub use Rattle.fs_compile.specs.Searched.{IsWhole, count_of}
-pub use Rattle.fs_compile.specs.Search.{AreNear, Found, IsNear, Missed, Within, hit_number, hits, marked, parent_at, start_at, tested_to, tests_of}
+pub use Rattle.fs_compile.specs.Searched.{IsAt, IsNearIn, IsWhole, count_of}
+pub use Rattle.fs_compile.specs.Search.{Found, IsNear, Missed, Scanned, Within, hit_number, hits, marked, start_at, tested_to, tests_of}
 pub use Rattle.fs_compile.specs.declared.{columns.PortRows.{PortRows}, compiled.Compiled.{Compiled}, filters.{Filter.{Filter}, Rows.{Rows}}}
-pub use Rattle.fs_compile.specs.declared.«search».Hit.{Hit}
+pub use Rattle.fs_compile.specs.declared.«search».{Cursor.{Cursor}, Hit.{Hit}, Search.{Search}}

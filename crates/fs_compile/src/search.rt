@@ -1,10 +1,10 @@
 //! The search for a rule that matches a packet: through the buckets that hold its destination, then through the rules
 //! without a destination.
 
-ghost use Rattle.std.specs.Prelude.{◌≡◌, ◌<◌, ◌≤◌, ◌+◌, ◌^◌, List, Bool, get_or, length, max, IfSome, MatchOption};
-ghost use Rattle.fs_buckets.specs.{Addresses.{numbers_in, number_of}, Housed.{AreSound}};
-ghost use Rattle.fs_compile.specs.Search.{Found, IsNear, Missed, Scanned, Starts, Within, behind_hit, hit_number, marked, parent_at, start_at};
-ghost use Rattle.fs_compile.specs.{Search.{tested_to, tests_of}, Searched.{IsWhole, count_of}};
+ghost use Rattle.std.specs.Prelude.{◌≡◌, ◌<◌, ◌≤◌, ◌+◌, ◌^◌, List, Bool, length, max, IfSome, MatchOption};
+ghost use Rattle.fs_buckets.specs.{Addresses.{number_of}, Housed.{AreSound}};
+ghost use Rattle.fs_compile.specs.Search.{Found, Missed, Scanned, Starts, Within, behind_hit, hit_number, marked, parent_at, start_at};
+ghost use Rattle.fs_compile.specs.{Search.{tested_to, tests_of}, Searched.{IsAt, IsNearIn, IsWhole, count_of}};
 
 use crate::filters::{FEW_RULES, Filters};
 use crate::tested::Tested;
@@ -45,7 +45,7 @@ impl<'a> Search<'a> {
         requires whole { IsWhole self.now }
         requires starts { Starts self.now.buckets.now start }
         ensures found { (near : List Bool)
-            → IsNear self.now.buckets.now start.address (count_of self.now) near
+            → IsNearIn self.now start near
             → Within (tests_of self.now.tested) near
             → MatchOption result
             (Missed (tests_of self.now.tested) start.from (count_of self.now))
@@ -54,7 +54,7 @@ impl<'a> Search<'a> {
         ensures inside { IfSome result (λ hit. hit.number < count_of self.now) }
         ensures later { steps.old ≤ steps.new }
         ensures steps { (near : List Bool)
-            → IsNear self.now.buckets.now start.address (count_of self.now) near
+            → IsNearIn self.now start near
             → steps.new + marked start.from near
             ≤ steps.old + marked (tested_to (hit_number result) (count_of self.now)) near }
     {
@@ -75,11 +75,9 @@ impl<'a> Search<'a> {
     /// The first rule that matches of those in the bucket of the place, if that holds the address.
     #[inline(always)]
     fn bucket<L: Ledger>(&self, place: Cursor, steps: &mut Steps<L>) -> Option<usize>
-        requires whole { IsWhole self.now }
-        requires within { place.bucket < length (numbers_in self.now.buckets.now.lasts) }
-        requires ends { place.address ≤ get_or (numbers_in self.now.buckets.now.lasts) place.bucket 0 }
+        requires { IsAt self.now place }
         ensures found { (near : List Bool)
-            → IsNear self.now.buckets.now place.address (count_of self.now) near
+            → IsNearIn self.now place near
             → Within (tests_of self.now.tested) near
             → Missed (tests_of self.now.tested) place.from (start_at self.now.buckets.now place.bucket)
             → MatchOption result
@@ -90,7 +88,7 @@ impl<'a> Search<'a> {
             (start_at self.now.buckets.now place.bucket ≤ number) × (number < count_of self.now)) }
         ensures later { steps.old ≤ steps.new }
         ensures steps { (near : List Bool)
-            → IsNear self.now.buckets.now place.address (count_of self.now) near
+            → IsNearIn self.now place near
             → steps.new + marked (max place.from (start_at self.now.buckets.now place.bucket)) near
             ≤ steps.old
             + marked (tested_to result
