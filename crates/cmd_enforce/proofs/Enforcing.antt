@@ -5,10 +5,10 @@ use Rattle.cmd_enforce.proofs.Words.{goes_flush, goes_flush_part, Captured, Reco
 use Rattle.cmd_enforce.proofs.Words.{Stage, Found, Stopped, answered, status_of, and_then, HasReason, Refusal, Memory, answered_err, answers_for}
 use Rattle.cmd_enforce.proofs.Words.{outside_one, rose_earlier, rose_later, accepted_with, ends_early, reason_then, IsOfPackets, always, status_at}
 use Rattle.cmd_enforce.proofs.Words.{capture_stage, AnswersAt, CameTo, EndsBefore, IsUnjudged, Judged, Judging, Outcome, WroteJudged, came_lines}
-use Rattle.cmd_enforce.proofs.Words.{judging, packets_of, verdict_at, Desked, Played, EnforcesSo, Unfinished, Names, config_stage, HasVersion}
-use Rattle.cmd_enforce.proofs.Words.{HaveNoMoments, IsWhole, tape_stage, accepted_stage, untimed, PlayerState, Stands}
+use Rattle.cmd_enforce.proofs.Words.{judging, packets_of, verdict_at, EnforcesSo, Unfinished, Names, config_stage, HasVersion}
+use Rattle.cmd_enforce.proofs.Words.{IsReadWhole, StandsOrWaits, tape_stage, accepted_stage, PlayerState, Stands, None, Some}
 use Rattle.cmd_stages.{specs.Writing.{Finishes}, proofs.Texts.{said_by, said_front}}
-use Rattle.fs_tape.specs.declared.magic.Version.{Version, TheVariants.{One, Two}}
+use Rattle.fs_tape.specs.declared.magic.Version.TheVariants.{Two}
 
 -- of no packets there are no lines
 
@@ -217,42 +217,42 @@ tape_ends limit holds holds' config tape capture accepted failed failed' a resul
     answered_err (EnforcesSo limit holds config tape capture failed' a a) result refusal is
     (inl (ends_early (accepted_stage limit holds config tape) failed failed' a refusal whole f))
 
-pub found_in : {limit : ℕ} {holds tape_holds : Names} {tape : List ℕ} {accepted : Config} {version : Version} {desk : Desked} → tape_holds ≡ holds
-    → (w : IsWhole accepted limit tape_holds tape version desk) → tape_stage accepted limit holds tape ≡ Found w.played.items
+pub found_in : {limit : ℕ} {holds tape_holds : Names} {tape : List ℕ} {accepted : Config} {whole : Option PlayerState} → tape_holds ≡ holds
+    → (w : IsReadWhole accepted limit tape_holds tape whole) → tape_stage accepted limit holds tape ≡ Found w.items
 found_in {limit} {tape = tape} {accepted = accepted} same w =
-    subst (λ (names : Names). tape_stage accepted limit names tape ≡ Found w.played.items) same w.played.found
+    subst (λ (names : Names). tape_stage accepted limit names tape ≡ Found w.items) same w.found
 
 -- the capture was judged, by what the tape holds at the packets' moments
-pub answers_so : {tape_holds : Names} {accepted : Config} {version : Version} {desk : Desked}
+pub answers_so : {tape_holds : Names} {accepted : Config} {whole : Option PlayerState}
     (limit : ℕ) (holds capture_holds : Names) (config tape capture : List ℕ) (failed : Type 0) (before now : Option (List ℕ)) (answer : ℕ)
     → config_stage limit holds config ≡ Found accepted → tape_holds ≡ holds → capture_holds ≡ tape_holds
-    → (w : IsWhole accepted limit tape_holds tape version desk)
-    → AnswersAt accepted w.played.items (capture_stage limit capture_holds capture) failed before now answer
+    → (w : IsReadWhole accepted limit tape_holds tape whole)
+    → AnswersAt accepted w.items (capture_stage limit capture_holds capture) failed before now answer
     → EnforcesSo limit holds config tape capture failed before now answer
 answers_so {tape_holds} {accepted} limit holds capture_holds config tape capture failed before now answer e same same' w a =
     inr (record {
       accepted = accepted;
-      items = w.played.items;
+      items = w.items;
       found = accepted_with limit holds config tape accepted e
           ∙ ap (λ (s : Stage (List Timed)). and_then s (λ items. Found (accepted, items))) (found_in same w);
-      judged = subst (λ (names : Names). AnswersAt accepted w.played.items (capture_stage limit names capture) failed before now answer) (same' ∙ same) a;
+      judged = subst (λ (names : Names). AnswersAt accepted w.items (capture_stage limit names capture) failed before now answer) (same' ∙ same) a;
     })
 
 -- at want of memory behind configuration and tape
-pub unfinished_so : {tape_holds : Names} {accepted : Config} {version : Version} {desk : Desked}
+pub unfinished_so : {tape_holds : Names} {accepted : Config} {whole : Option PlayerState}
     (limit : ℕ) (holds capture_holds : Names) (config tape capture left : List ℕ) (before now : Option (List ℕ)) (reader : CaptureState)
     → config_stage limit holds config ≡ Found accepted → tape_holds ≡ holds → capture_holds ≡ tape_holds
-    → (w : IsWhole accepted limit tape_holds tape version desk)
-    → (judged : WroteJudged accepted w.played.items (packets_of (capture_stage limit capture_holds capture)) (coming reader left).0 before now)
+    → (w : IsReadWhole accepted limit tape_holds tape whole)
+    → (judged : WroteJudged accepted w.items (packets_of (capture_stage limit capture_holds capture)) (coming reader left).0 before now)
     → ((HasVersion limit holds tape Two → ⊥) → judged.came.judged ≡ [])
     → Unfinished limit holds config tape capture left before now
 unfinished_so {tape_holds} {accepted} limit holds capture_holds config tape capture left before now reader e same same' w judged none =
     let both = subst (λ (names : Names).
-    (judged : WroteJudged accepted w.played.items (packets_of (capture_stage limit names capture)) (coming reader left).0 before now)
+    (judged : WroteJudged accepted w.items (packets_of (capture_stage limit names capture)) (coming reader left).0 before now)
     × ((HasVersion limit holds tape Two → ⊥) → judged.came.judged ≡ [])) (same' ∙ same) (judged, none) in
     record {
       accepted = accepted;
-      items = w.played.items;
+      items = w.items;
       found = accepted_with limit holds config tape accepted e
           ∙ ap (λ (s : Stage (List Timed)). and_then s (λ items. Found (accepted, items))) (found_in same w);
       reader = reader;
@@ -280,18 +280,13 @@ never_tape {A} config items found failed before now answer a four = by a.answers
     by (inr (inl h)) = let six : answer ≡ 6 = h in absurd cc
     by (inr (inr h)) = let one : answer ≡ 1 = h.0 in absurd cc
 
--- a tape of the second version is one
-pub is_second : {limit : ℕ} {holds holds' : Names} {config : Config} {tape : List ℕ} {version : Version} {desk : Desked}
-    → holds' ≡ holds → IsWhole config limit holds' tape version desk → version ≡ Two → HasVersion limit holds tape Two
-is_second {limit} {holds} {holds'} {config} {tape} same w v =
-    subst (λ (names : Names). HasVersion limit names tape Two) same (subst (HasVersion limit holds' tape) v w.has_version)
+-- a tape that was read whole is of the second version, or was played
 
--- a tape of the first version that was played whole is a player with nothing ahead
-pub whole_played : {limit : ℕ} {holds : Names} {config : Config} {tape : List ℕ} {version : Version} {desk : Desked} (player : PlayerState) (left : List ℕ)
-    → (w : IsWhole config limit holds tape version desk) → version ≡ One
-    → ((items : List Timed) (left : List ℕ) → Played desk.config (untimed items) desk → HaveNoMoments One items → Stands items 0 player left)
-    → Stands w.played.items 0 player left
-whole_played {desk = desk} player left w v stands =
-    stands w.played.items left
-    (subst (λ (c : Config). Played c (untimed w.played.items) desk) (sym w.played.played.config_is) w.played.played)
-    (subst (λ (z : Version). HaveNoMoments z w.played.items) v w.moments)
+pub is_second : {limit : ℕ} {holds holds' : Names} {config : Config} {tape : List ℕ} {whole : Option PlayerState}
+    → holds' ≡ holds → IsReadWhole config limit holds' tape whole → whole ≡ None → HasVersion limit holds tape Two
+is_second {limit} {holds} {holds'} {config} {tape} same w none =
+    subst (λ (names : Names). HasVersion limit names tape Two) same (subst (StandsOrWaits limit holds' tape w.items) none w.stands)
+
+pub whole_played : {limit : ℕ} {holds : Names} {config : Config} {tape : List ℕ} {whole : Option PlayerState} {player : PlayerState}
+    → (w : IsReadWhole config limit holds tape whole) → whole ≡ Some player → (left : List ℕ) → Stands w.items 0 player left
+whole_played {limit} {holds} {config} {tape} w some = subst (StandsOrWaits limit holds tape w.items) some w.stands

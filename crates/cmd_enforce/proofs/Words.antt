@@ -20,8 +20,8 @@ pub use Rattle.cmd_stages.proofs.Stages.{accepted_with, answered_err, answers_fo
 pub use Rattle.cmd_stages.proofs.Stages.{reason_then, rose_later}
 pub use Rattle.cmd_stages.proofs.Openings.{opened_due, refused_at}
 pub use Rattle.cmd_stages.specs.Load.{Names, config_stage}
-pub use Rattle.cmd_stages.specs.Play.{HasVersion, HaveNoMoments, IsOpenOrDone, IsWhole, accepted_stage, tape_stage, until, untimed}
-pub use Rattle.cmd_stages.specs.Player.{IsUnplayed, PlayerState, Stands, due_item}
+pub use Rattle.cmd_stages.specs.Play.{HasVersion, IsOpenOrDone, accepted_stage, tape_stage, until, untimed}
+pub use Rattle.cmd_stages.specs.Player.{IsReadWhole, IsUnplayed, PlayerState, Stands, StandsOrWaits, due_item}
 pub use Rattle.cmd_stages.specs.Refusal.{Found, HasReason, Stage, Stopped, and_then, answered, status_of}
 pub use Rattle.cmd_stages.specs.declared.refusal.Refusal.{Refusal, TheVariants.{Memory, Outside}}
 pub use Rattle.cmd_enforce.specs.Capture.{CaptureState, Captured, IsRead, Recorded, captured_by, captured_in, coming, is_section, packet_from}

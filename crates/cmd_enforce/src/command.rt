@@ -8,9 +8,8 @@ ghost use Rattle.fs_tape.specs.declared.magic.Version.TheVariants.{Two};
 
 use crate::judge::judge_capture;
 use crate::packets::open_capture;
-use cmd_stages::{Player, Refusal, load_config, play_whole};
+use cmd_stages::{Player, Refusal, load_config};
 use fs_base::{Files, Sink};
-use fs_tape::Version;
 use std::alloc::Global;
 
 /// The names of the files that `enforce` reads.
@@ -60,18 +59,12 @@ pub fn enforce<F: Files, S: Sink>(
         (happened F.Files S.Sink files.old files.new sink.old sink.new) }
 {
     let config = load_config(alloc, files, names.config, limit)?;
-    let whole = play_whole(alloc, files, &config, names.tape, limit)?;
+    let whole = Player::read_whole(alloc, files, &config, names.tape, limit)?;
     let mut capture = open_capture(files, names.capture, limit)?;
-    match whole.version {
-        Version::One => judge_capture(
-            alloc,
-            files,
-            sink,
-            &mut capture,
-            Player::ended(alloc, whole),
-        ),
-        Version::Two => {
-            drop(whole); // the second reading begins with an empty table
+    match whole {
+        Some(player) => judge_capture(alloc, files, sink, &mut capture, player),
+        None => {
+            // the second version is read again, and played along the capture
             let player = Player::begin(alloc, files, &config, names.tape, limit)?;
             judge_capture(alloc, files, sink, &mut capture, player)
         }

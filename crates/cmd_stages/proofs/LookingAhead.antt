@@ -5,8 +5,8 @@ use Rattle.cmd_stages.proofs.Words.{filter-append, filter_all, filter_none, Only
 use Rattle.cmd_stages.proofs.Words.{TapeState, Timed, coming, item_from, items_to_come, timed, version_of, TapeReason, Version, One, Two, Desked}
 use Rattle.cmd_stages.proofs.Words.{Played, Plays, Leaves, nobody, Covers, Noted, Refusal, Names, Stage, Found, Stopped, HasReason, Gives, HasVersion}
 use Rattle.cmd_stages.proofs.Words.{HaveNoMoments, IsOpened, played_to, tape_stage, until, untimed, IsReady, IsUnplayed, PlayerState, Stands}
-use Rattle.cmd_stages.proofs.Words.{due_item, items_ahead, to_play, rose_earlier}
-use Rattle.cmd_stages.proofs.Playing.{untimed_more}
+use Rattle.cmd_stages.proofs.Words.{IsReadWhole, PlaysOn, due_item, items_ahead, to_play, rose_earlier}
+use Rattle.cmd_stages.proofs.Playing.{comes_at, done_found, untimed_more}
 use Rattle.std.{specs.{Prelude.{option_map, Result, Ok}, Option.{is_some}, List.{AllByRecursion}}, proofs.lemmas.Bool.{le-leb, leb-false, leb-true, lt-leb}}
 use Rattle.fs_tape.{specs.{Laws.{AreFrom}, declared.item.TapeItem.{TapeItem}}, proofs.Rising.{moments_rise}}
 use Rattle.fs_desk.proofs.Leaves.{played_leaves}
@@ -186,6 +186,28 @@ stands_ended items tape into desk left p none = record {
   early = each_weaker (λ (x : Timed). One ≡ One → x.moment ≡ 0) (λ (x : Timed). x.moment ≤ 0) (λ x h. omega (arith, h refl)) items none;
   played = p;
   version_is = tt;
+}
+
+-- the whole tape was read: one of the first version was played, one of the second is to be
+
+pub read_played : (config : Config) (limit : ℕ) (holds : Names) (name : List ℕ) (left : ℕ → List ℕ) (tape tape' : TapeState) (into : List ℕ) (desk : Desked)
+    → IsOpened limit holds name (left 1) tape → tape.slot ≡ 1 → tape.version ≡ One
+    → PlaysOn config tape.version (coming config tape (left tape.slot)) desk → IsReadWhole config limit holds name (Some (player_with tape' None into desk))
+read_played config limit holds name left tape tape' into desk o one v p = record {
+  items = (coming config tape (left tape.slot)).0;
+  found = comes_at config limit holds name left tape o one ∙ done_found (coming config tape (left tape.slot)) p.done_is;
+  stands = λ left'. stands_ended (coming config tape (left tape.slot)).0 tape' into desk left'
+      (subst (λ (c : Config). Played c (untimed (coming config tape (left tape.slot)).0) desk) (sym p.played.config_is) p.played)
+      (subst (λ (z : Version). HaveNoMoments z (coming config tape (left tape.slot)).0) v p.moments);
+}
+
+pub read_timed : (config : Config) (limit : ℕ) (holds : Names) (name : List ℕ) (left : ℕ → List ℕ) (tape : TapeState)
+    → IsOpened limit holds name (left 1) tape → tape.slot ≡ 1 → tape.version ≡ Two → (coming config tape (left tape.slot)).1 ≡ done
+    → IsReadWhole config limit holds name None
+read_timed config limit holds name left tape o one v d = record {
+  items = (coming config tape (left tape.slot)).0;
+  found = comes_at config limit holds name left tape o one ∙ done_found (coming config tape (left tape.slot)) d;
+  stands = subst (HasVersion limit holds name) v o.has_version;
 }
 
 pub rose_on : (before mid after : ℕ) (refusal : Refusal) → before ≤ mid → IsUnplayed (Rose mid after) refusal → IsUnplayed (Rose before after) refusal

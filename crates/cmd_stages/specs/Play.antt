@@ -74,19 +74,13 @@ pub record IsPlayed (config : Config) (stage : Stage (List Timed)) (desk : Deske
   pub found : stage ≡ Found items
   pub played : Played config (untimed items) desk
 
--- the items of a tape of this version without a fault were played
-pub record IsWhole (config : Config) (limit : ℕ) (holds : Names) (name : List ℕ) (version : Version) (desk : Desked) : Type 0 where
-  pub played : IsPlayed config (tape_stage config limit holds name) desk
-  pub has_version : HasVersion limit holds name version
-  pub moments : HaveNoMoments version played.items
-
 -- an item was given, of this moment, and these are the items to come behind it; or the tape is done
 abbrev pub Gives : (before now : List Timed × End TapeReason) → (moment : ℕ) → List ℕ → Option TapeItem → Type 0
 Gives before now moment into (Some item) = before ≡ with_part (timed moment (item_from item into)) now
 Gives before now moment into None = before ≡ ([], done)
 
 -- what was to come was all played, up to the end
-pub record PlaysOn (config : Config) (version : Version) (coming : List Timed × End TapeReason) (old new : Desked) : Type 0 where
+pub record PlaysOn (config : Config) (version : Version) (coming : List Timed × End TapeReason) (desk : Desked) : Type 0 where
   pub done_is : coming.1 ≡ done
   pub moments : HaveNoMoments version coming.0
-  pub played : (items : List Item) → Played config items old → Played config (items ++ untimed coming.0) new
+  pub played : Played config (untimed coming.0) desk

@@ -14,7 +14,7 @@ pub use items::ItemPlayer;
 pub use load::{
     CAPTURE_SLOT, CONFIG_SLOT, RULES_SLOT, TAPE_SLOT, load_config, load_file, load_rules, open,
 };
-pub use play::{WholeTape, next_item, open_tape, play_whole};
+pub use play::{next_item, open_tape, play_whole};
 pub use player::Player;
 pub use refusal::Refusal;
 pub use writing::{write_made, write_text};

@@ -1,30 +1,22 @@
 //! Playing a tape.
 
-ghost use Rattle.std.specs.Prelude.{◌≡◌, ◌≤◌, ◌<◌, None, Some, length, IsOk, IsTrue, IfErr, IfOk, IfSome, OnOk, MatchResult};
+ghost use Rattle.std.specs.Prelude.{◌≡◌, ◌≤◌, ◌<◌, [], None, Some, length, IsOk, IsTrue, IfErr, IfOk, IfSome, OnOk, MatchResult};
 ghost use Rattle.fs_base.specs.{Files.{OnlySlot, one_opening}, Outside.{Rose}, Sink.{Grew}, declared.config.Config.{Config}};
-ghost use Rattle.fs_input.specs.declared.fault.Ended.TheVariants.{Done};
+ghost use Rattle.fs_input.specs.{Records.{done}, declared.fault.Ended.TheVariants.{Done}};
 ghost use Rattle.fs_tape.specs.{Header.{IsTimed, longest_payload}, Tape.{IsBegun, IsItem, coming, item_from}};
 ghost use Rattle.cmd_stages.specs.Items.{Ceases, read_stage};
 ghost use Rattle.cmd_stages.specs.Refusal.{Found, HasReason, IsOfTape, answered, status_of};
-ghost use Rattle.cmd_stages.specs.Play.{EndsBy, IsOpenOrDone, tape_stage, played_to, IsOpened, IsWhole, Gives, PlaysOn, refused_by};
-ghost use Rattle.fs_desk.specs.Desk.{Notes, Plays};
+ghost use Rattle.cmd_stages.specs.Play.{EndsBy, IsOpenOrDone, tape_stage, played_to, IsOpened, IsPlayed, Gives, PlaysOn, refused_by};
+ghost use Rattle.fs_desk.specs.Desk.{Notes, Played, Plays};
 
 use crate::load::{TAPE_SLOT, open};
 use crate::refusal::Refusal;
 use fs_base::{Config, Counted, Files, Memory};
 use fs_desk::Desk;
-use fs_tape::{LONGEST_PAYLOAD, Tape, TapeFault, TapeItem, Version};
+use fs_tape::{LONGEST_PAYLOAD, Tape, TapeFault, TapeItem};
 use std::alloc::Global;
 
-/// A tape that was played whole: the desk behind it, the tape at its end, and its version.
-#[derive(Drop)]
-pub struct WholeTape<'a> {
-    pub desk: Desk<'a>,
-    pub tape: Tape,
-    pub version: Version,
-}
-
-/// Plays the whole tape, and tells its version.
+/// Plays the whole tape, and hands out the desk behind it.
 ///
 /// # Errors
 ///
@@ -36,33 +28,20 @@ pub fn play_whole<'a, F: Files>(
     config: &'a Config,
     name: &str,
     limit: u64,
-) -> Result<WholeTape<'a>, Refusal>
+) -> Result<Desk<'a>, Refusal>
     ensures later { F.faults files.old ≤ F.faults files.new }
-    ensures holds { IsTrue F.tells → F.holds files.new ≡ F.holds files.old }
     ensures possible { IsOfTape (answered result) }
 
     ensures played { IsTrue F.tells
         → MatchResult result
-        (λ whole. IsWhole config.entry.now limit (F.holds files.old) name.now whole.version whole.desk)
+        (IsPlayed config.entry.now (tape_stage config.entry.now limit (F.holds files.old) name.now))
         (HasReason (tape_stage config.entry.now limit (F.holds files.old) name.now)
         (Rose (F.faults files.old) (F.faults files.new))) }
-    ensures slot { IfOk result (λ whole. whole.tape.slot ≡ 1) }
-    ensures done { IfOk result (λ whole. whole.tape.end ≡ Some Done) }
     ensures opens { Grew (F.opened files.old) (F.opened files.new) (one_opening 1 name.now) }
     ensures others { OnlySlot F.tells F.left F.holds 1 files.old files.new }
 {
     let mut tape = open_tape(files, name, limit)?;
-    let version = tape.format();
-    let mut desk = Desk::new(alloc, config)?;
-    let mut buffer = vec![in alloc; 0u8; LONGEST_PAYLOAD]?;
-    match play_items(alloc, files, &mut tape, config, &mut desk, &mut buffer) {
-        Ok(()) => Ok(WholeTape {
-            desk,
-            tape,
-            version,
-        }),
-        Err(refusal) => Err(refusal),
-    }
+    play_rest(alloc, files, &mut tape, config)
 }
 
 /// Opens the tape, up to its first item.
@@ -99,6 +78,38 @@ pub fn open_tape<F: Files>(files: &mut F, name: &str, limit: u64) -> Result<Tape
     }
 }
 
+/// Plays what is left of a tape of which no item was read, and hands out the desk behind it.
+pub(crate) fn play_rest<'a, F: Files>(
+    alloc: Global,
+    files: &mut F,
+    tape: &mut Tape,
+    config: &'a Config,
+) -> Result<Desk<'a>, Refusal>
+    requires open { tape.old.end ≡ None }
+    requires within { tape.old.place ≤ tape.old.limit }
+    ensures later { F.faults files.old ≤ F.faults files.new }
+    ensures slot { tape.new.slot ≡ tape.old.slot }
+    ensures config { IfOk result (λ desk. desk.config ≡ config.entry.now) }
+    ensures possible { IsOfTape (answered result) }
+    ensures done { IsOk result → tape.new.end ≡ Some Done }
+
+    ensures played { IsTrue F.tells
+        → MatchResult result
+        (PlaysOn config.entry.now tape.old.version
+        (coming config.entry.now tape.old (F.left files.old tape.old.slot)))
+        (HasReason (played_to (coming config.entry.now tape.old (F.left files.old tape.old.slot)))
+        (Rose (F.faults files.old) (F.faults files.new))) }
+    ensures opened { F.opened files.new ≡ F.opened files.old }
+    ensures others { OnlySlot F.tells F.left F.holds tape.old.slot files.old files.new }
+{
+    let mut desk = Desk::new(alloc, config)?;
+    let mut buffer = vec![in alloc; 0u8; LONGEST_PAYLOAD]?;
+    match play_items(alloc, files, tape, config, &mut desk, &mut buffer) {
+        Ok(()) => Ok(desk),
+        Err(refusal) => Err(refusal),
+    }
+}
+
 /// Plays what is left of the tape.
 fn play_items<F: Files>(
     alloc: Global,
@@ -111,16 +122,17 @@ fn play_items<F: Files>(
     requires room { longest_payload ≤ length buffer.old }
     requires open { tape.old.end ≡ None }
     requires within { tape.old.place ≤ tape.old.limit }
-    requires config { desk.old.config ≡ config.now }
+    requires first { Played config.now [] desk.old }
     ensures later { F.faults files.old ≤ F.faults files.new }
     ensures slot { tape.new.slot ≡ tape.old.slot }
+    ensures config { desk.new.config ≡ config.now }
     ensures possible { IsOfTape (answered result) }
     ensures done { IsOk result → tape.new.end ≡ Some Done }
 
     ensures played { IsTrue F.tells
         → MatchResult result
         (λ _. PlaysOn config.now tape.old.version (coming config.now tape.old (F.left files.old tape.old.slot))
-        desk.old desk.new)
+        desk.new)
         (HasReason (played_to (coming config.now tape.old (F.left files.old tape.old.slot)))
         (Rose (F.faults files.old) (F.faults files.new))) }
     ensures opened { F.opened files.new ≡ F.opened files.old }
@@ -131,6 +143,31 @@ fn play_items<F: Files>(
         replies.clear();
         play_item(desk, item, buffer, &mut replies)?;
     }
+    Ok(())
+}
+
+/// Reads what is left of the tape, and plays nothing.
+pub(crate) fn read_rest<F: Files>(
+    alloc: Global,
+    files: &mut F,
+    tape: &mut Tape,
+    config: &Config,
+) -> Result<(), Refusal>
+    requires open { tape.old.end ≡ None }
+    requires within { tape.old.place ≤ tape.old.limit }
+    ensures later { F.faults files.old ≤ F.faults files.new }
+    ensures possible { IsOfTape (answered result) }
+
+    ensures read { IsTrue F.tells
+        → MatchResult result
+        (λ _. (coming config.now tape.old (F.left files.old tape.old.slot)).1 ≡ done)
+        (HasReason (played_to (coming config.now tape.old (F.left files.old tape.old.slot)))
+        (Rose (F.faults files.old) (F.faults files.new))) }
+    ensures opened { F.opened files.new ≡ F.opened files.old }
+    ensures others { OnlySlot F.tells F.left F.holds tape.old.slot files.old files.new }
+{
+    let mut buffer = vec![in alloc; 0u8; LONGEST_PAYLOAD]?;
+    'items: while next_item(files, tape, config, &mut buffer)?.is_some() {}
     Ok(())
 }
 

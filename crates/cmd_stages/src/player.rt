@@ -1,11 +1,11 @@
 //! A tape that is played up to moments.
 
-use crate::play::{WholeTape, next_item, open_tape, play_item};
+use crate::play::{next_item, open_tape, play_item, play_rest, read_rest};
 use crate::refusal::Refusal;
 use fs_base::{Config, Files};
 use fs_desk::Desk;
 use fs_rules::{Changes, Table};
-use fs_tape::{LONGEST_PAYLOAD, Tape, TapeItem};
+use fs_tape::{LONGEST_PAYLOAD, Tape, TapeItem, Version};
 use std::alloc::Global;
 use std::marker::Model;
 
@@ -35,12 +35,11 @@ impl<'a> Model for Player<'a> {
 impl<'a> Player<'a> {
     ghost use Rattle.std.specs.{Option.{is_some}, Prelude.{ℕ, ◌≡◌, ◌≤◌, ◌<◌, [], false, List, None, Some, IfOk, IfSome, IsOk, IsTrue, MatchResult, OnOk}};
     ghost use Rattle.fs_base.specs.{Files.{OnlySlot, one_opening}, Outside.{Rose}, Sink.{Grew}};
-    ghost use Rattle.fs_desk.specs.{Desk.{Notes, Played}, Leaves.{Leaves}};
-    ghost use Rattle.fs_input.specs.declared.fault.Ended.TheVariants.{Done};
+    ghost use Rattle.fs_desk.specs.{Desk.{Notes}, Leaves.{Leaves}};
     ghost use Rattle.fs_rules.specs.Changes.{Covers};
-    ghost use Rattle.cmd_stages.specs.Play.{EndsBy, HasVersion, HaveNoMoments, IsOpenOrDone, tape_stage, until, untimed};
-    ghost use Rattle.cmd_stages.specs.{Player.{IsUnplayed, Stands, due_item}, Refusal.{Found, IsOfTape, answered}};
-    ghost use Rattle.fs_tape.specs.{Tape.{Timed}, declared.magic.Version.TheVariants.{One, Two}};
+    ghost use Rattle.cmd_stages.specs.Play.{EndsBy, HasVersion, IsOpenOrDone, tape_stage, until};
+    ghost use Rattle.cmd_stages.specs.{Player.{IsEnded, IsReadWhole, IsUnplayed, Stands, due_item}, Refusal.{Found, HasReason, IsOfTape, answered}};
+    ghost use Rattle.fs_tape.specs.{Tape.{Timed}, declared.magic.Version.TheVariants.{Two}};
 
     /// Opens the tape, and reads its first item ahead. Nothing is played yet.
     ///
@@ -84,26 +83,48 @@ impl<'a> Player<'a> {
         })
     }
 
-    /// A tape of the first version that was played whole: nothing of it is ahead, at any moment. No memory is taken.
-    pub fn ended(alloc: Global, whole: WholeTape<'a>) -> Player<'a>
-        ensures desk { result.desk ≡ whole.entry.desk }
-        ensures ahead { result.ahead ≡ None }
-        ensures slot { result.tape.slot ≡ whole.entry.tape.slot }
-        ensures ends { whole.entry.tape.end ≡ Some Done → IsOpenOrDone result.tape result.ahead }
+    /// Reads the whole tape. One of the first version is played, and then nothing of it is ahead, at any moment. `None`: it
+    /// is of the second version, and nothing of it is played.
+    ///
+    /// # Errors
+    ///
+    /// `Outside` where the file isn't there or the files failed, `Tape` where it has a fault, `Limit` where it has at least
+    /// `limit` octets without one, `Memory` where the machine refused memory.
+    pub fn read_whole<F: Files>(
+        alloc: Global,
+        files: &mut F,
+        config: &'a Config,
+        name: &str,
+        limit: u64,
+    ) -> Result<Option<Player<'a>>, Refusal>
+        ensures later { F.faults files.old ≤ F.faults files.new }
+        ensures ended { IfOk result (λ whole. IfSome whole (IsEnded 1 config.entry.now)) }
+        ensures possible { IsOfTape (answered result) }
 
-        ensures stands { (items : List Timed)
-            → (left : List ℕ)
-            → Played whole.entry.desk.config (untimed items) whole.entry.desk
-            → HaveNoMoments One items
-            → Stands items 0 result left }
+        ensures read { IsTrue F.tells
+            → MatchResult result
+            (IsReadWhole config.entry.now limit (F.holds files.old) name.now)
+            (HasReason (tape_stage config.entry.now limit (F.holds files.old) name.now)
+            (Rose (F.faults files.old) (F.faults files.new))) }
+        ensures opens { Grew (F.opened files.old) (F.opened files.new) (one_opening 1 name.now) }
+        ensures others { OnlySlot F.tells F.left F.holds 1 files.old files.new }
     {
-        let WholeTape { desk, tape, .. } = whole;
-        Player {
-            tape,
-            desk,
-            ahead: None,
-            buffer: Vec::new(alloc),
-            replies: Vec::new(alloc),
+        let mut tape = open_tape(files, name, limit)?;
+        match tape.format() {
+            Version::One => match play_rest(alloc, files, &mut tape, config) {
+                Ok(desk) => Ok(Some(Player {
+                    tape,
+                    desk,
+                    ahead: None,
+                    buffer: Vec::new(alloc),
+                    replies: Vec::new(alloc),
+                })),
+                Err(refusal) => Err(refusal),
+            },
+            Version::Two => match read_rest(alloc, files, &mut tape, config) {
+                Ok(()) => Ok(None),
+                Err(refusal) => Err(refusal),
+            },
         }
     }
 

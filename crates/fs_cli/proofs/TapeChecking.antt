@@ -8,7 +8,7 @@ use Rattle.std.proofs.lemmas.{Bool.{cases_lt, Decides.{nat_tests}}, List.{get_or
 use Rattle.fs_base.specs.Parts.{with_part}
 use Rattle.fs_input.specs.Records.{End, done}
 use Rattle.fs_tape.specs.{Tape.{Item, TapeState, coming, timed}, Magic.{version_number}, declared.{fault.TapeReason.{TapeReason}}}
-use Rattle.cmd_stages.{specs.Play.{IsOpened, played_to}, proofs.Playing.{untimed_more}}
+use Rattle.cmd_stages.{specs.Play.{IsOpened}, proofs.Playing.{done_found, untimed_more}}
 use Rattle.fs_cli.specs.FileCheck.{Due, IsDue, OfTape, Unsaid}
 use Rattle.fs_cli.specs.TapeCheck.{CountsOf, CountsOn, CountsState, IsWithin, JudgesTape, TapeCounted, counted_text, no_tally, peer_of_item}
 use Rattle.fs_cli.specs.TapeCheck.{span_behind, span_of, span_with, tally_at, tally_behind, tally_lines, tally_of, tally_with, tape_line, tape_text}
@@ -103,7 +103,7 @@ pub tape_counted : (config : Config) (limit : ℕ) (holds : Names) (name left : 
     → TapeCounted config limit holds name version counts
 tape_counted config limit holds name left tape version nothing counts o v on first = record {
   items = (coming config tape left).0;
-  found = o.comes config ∙ subst (λ (e : End TapeReason). played_to ((coming config tape left).0, e) ≡ Found (coming config tape left).0) (sym on.done_is) refl;
+  found = o.comes config ∙ done_found (coming config tape left) on.done_is;
   own = tape.version;
   has_version = o.has_version;
   version_is = v;

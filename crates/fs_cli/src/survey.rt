@@ -53,7 +53,7 @@ pub fn survey_tape<F: Files, S: Sink>(
 {
     let config = load_config(alloc, files, config, limit)?;
     match play_whole(alloc, files, &config, tape, limit) {
-        Ok(whole) => write_made(survey_text(alloc, survey, &whole.desk), sink),
+        Ok(desk) => write_made(survey_text(alloc, survey, &desk), sink),
         Err(refusal) => tell_refusal(alloc, refusal, sink),
     }
 }

@@ -17,7 +17,7 @@ items-preserved g c = record {
       slots_then g.F.Files.tells g.F.Files.left g.F.Files.holds c.args.tape.now.slot c.items.tape.slot c.args.files.now c.items.files c.next_item.new.files
       c.items.invariant.others c.items.invariant.slot c.in_ok-item.ensures.others;
   playing = λ told.
-      playing_more c.args.config.now c.args.tape.now.version _ _ _ c.args.desk.now c.items.desk c.play_item.new.desk
+      playing_more c.args.config.now c.args.tape.now.version _ _ _ c.items.desk c.play_item.new.desk
       (timed c.next_item.new.tape.moment (item_from c.in-Some.item c.next_item.new.buffer)) (c.items.invariant.playing told)
       (subst (λ (slot : ℕ).
       coming c.args.config.now c.items.tape (g.F.Files.left c.items.files c.items.tape.slot)
@@ -31,5 +31,5 @@ items-preserved g c = record {
 
 pub returns-clause-played : goal.returns-clause-played
 returns-clause-played g c = λ told.
-    playing_done c.args.config.now c.args.tape.now.version _ _ c.args.desk.now c.items.desk (c.items.invariant.playing told)
+    playing_done c.args.config.now c.args.tape.now.version _ _ c.items.desk (c.items.invariant.playing told)
     (rw c.in_default.is at (c.in_ok-item.ensures.gives told))

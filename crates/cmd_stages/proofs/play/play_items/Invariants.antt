@@ -15,7 +15,7 @@ invariant-items g l = record {
   others : OnlySlot g.F.Files.tells g.F.Files.left g.F.Files.holds l.fn.tape.slot l.fn.files l.files;
   playing : IsTrue g.F.Files.tells
       → Playing l.config l.fn.tape.version (coming l.config l.fn.tape (g.F.Files.left l.fn.files l.fn.tape.slot))
-      (coming l.config l.tape (g.F.Files.left l.files l.tape.slot)) l.fn.desk l.desk;
+      (coming l.config l.tape (g.F.Files.left l.files l.tape.slot)) l.desk;
 }
 
 abbrev pub decreases-items : goal.decreases-items

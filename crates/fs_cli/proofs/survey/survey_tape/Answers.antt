@@ -19,15 +19,15 @@ returns-in_err-config-clause-lists g c = λ told.
 pub returns-in-Ok-clause-lists : goal.returns-in-Ok-clause-lists
 returns-in-Ok-clause-lists g c = λ told.
     desk_listed (text_for c.args.survey) c.args.limit (g.F.Files.holds c.args.files.now) (g.F.Files.holds c.load_config.new.files) c.args.config.now
-    c.args.tape.now c.in_ok-config.config c.in-Ok.whole.desk
+    c.args.tape.now c.in_ok-config.config c.in-Ok.desk
     (Rose (g.S.Sink.faults c.args.sink.now) (g.S.Sink.faults c.write_made.new.sink))
     (Rose (g.F.Files.faults c.args.files.now) (g.F.Files.faults c.play_whole.new.files)
     ⊎ Rose (g.S.Sink.faults c.args.sink.now) (g.S.Sink.faults c.write_made.new.sink)) (g.S.Sink.written c.args.sink.now)
     (g.S.Sink.written c.write_made.new.sink) c.write_made.result
-    (c.in_ok-config.ensures.reaches told) (c.in_ok-config.ensures.holds told) (c.in-Ok.ensures.played told).played (λ r. inr r)
-    (c.write_made.ensures.written (text_for c.args.survey c.in_ok-config.config (untimed (c.in-Ok.ensures.played told).played.items) c.in-Ok.whole.desk.held)
+    (c.in_ok-config.ensures.reaches told) (c.in_ok-config.ensures.holds told) (c.in-Ok.ensures.played told) (λ r. inr r)
+    (c.write_made.ensures.written (text_for c.args.survey c.in_ok-config.config (untimed (c.in-Ok.ensures.played told).items) c.in-Ok.desk.held)
     (IfOk-weaker c.survey_text.result _ _
-    (λ text h. h c.in_ok-config.config (untimed (c.in-Ok.ensures.played told).played.items) (c.in-Ok.ensures.played told).played.played)
+    (λ text h. h c.in_ok-config.config (untimed (c.in-Ok.ensures.played told).items) (c.in-Ok.ensures.played told).played)
     c.survey_text.ensures))
 
 pub returns-clause-lists : goal.returns-clause-lists

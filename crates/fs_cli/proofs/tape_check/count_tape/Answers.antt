@@ -1,6 +1,6 @@
-use Rattle.fs_cli.proofs.{Words.{ℕ, subst, Rose, HasReason, tape_stage}, TapeChecking.{tape_counted}}
+use Rattle.fs_cli.proofs.{Words.{ℕ, subst}, TapeChecking.{tape_counted}}
 use Rattle.fs_tape.specs.Tape.{coming}
-use Rattle.cmd_stages.{specs.Play.{played_to}, proofs.Playing.{refused_whole}}
+use Rattle.cmd_stages.proofs.Playing.{comes_at, refused_whole}
 use Rattle.fs_cli.specs.TapeCheck.{CountsOn}
 use Rattle.fs_cli.proofs.tape_check.count_tape.Goals as goal
 
@@ -15,15 +15,7 @@ returns-in-Ok-clause-counted g c = λ told.
 
 pub returns-clause-counted : goal.returns-clause-counted
 returns-clause-counted g c = λ told.
-    refused_whole
-    (tape_stage c.args.config.now c.args.limit (g.F.Files.holds c.args.files.now) c.args.name.now)
-    (coming c.args.config.now c.in_ok-tape.tape (g.F.Files.left c.open_tape.new.files 1))
-    (g.F.Files.faults c.args.files.now)
-    (g.F.Files.faults c.open_tape.new.files)
-    (g.F.Files.faults c.count_items.new.files)
-    c.in-Err.refusal
-    ((c.in_ok-tape.ensures.opened told).comes c.args.config.now)
-    c.in_ok-tape.ensures.later
-    (subst (λ (n : ℕ). HasReason (played_to (coming c.args.config.now c.in_ok-tape.tape (g.F.Files.left c.open_tape.new.files n)))
-    (Rose (g.F.Files.faults c.open_tape.new.files) (g.F.Files.faults c.count_items.new.files)) c.in-Err.refusal)
-    c.in_ok-tape.ensures.state.slot_is (c.in-Err.ensures.counted told))
+    refused_whole _ _ _ _ _ c.in-Err.refusal
+    (comes_at c.args.config.now c.args.limit (g.F.Files.holds c.args.files.now) c.args.name.now (g.F.Files.left c.open_tape.new.files)
+    c.in_ok-tape.tape (c.in_ok-tape.ensures.opened told) c.in_ok-tape.ensures.state.slot_is)
+    c.in_ok-tape.ensures.later (c.in-Err.ensures.counted told)
