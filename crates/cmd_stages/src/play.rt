@@ -167,7 +167,31 @@ pub(crate) fn read_rest<F: Files>(
     ensures others { OnlySlot F.tells F.left F.holds tape.old.slot files.old files.new }
 {
     let mut buffer = vec![in alloc; 0u8; LONGEST_PAYLOAD]?;
-    'items: while next_item(files, tape, config, &mut buffer)?.is_some() {}
+    read_items(files, tape, config, &mut buffer)
+}
+
+/// Reads what is left of the tape, item by item.
+fn read_items<F: Files>(
+    files: &mut F,
+    tape: &mut Tape,
+    config: &Config,
+    buffer: &mut [u8],
+) -> Result<(), Refusal>
+    requires room { longest_payload ≤ length buffer.old }
+    requires open { tape.old.end ≡ None }
+    requires within { tape.old.place ≤ tape.old.limit }
+    ensures later { F.faults files.old ≤ F.faults files.new }
+    ensures possible { IsOfTape (answered result) }
+
+    ensures read { IsTrue F.tells
+        → MatchResult result
+        (λ _. (coming config.now tape.old (F.left files.old tape.old.slot)).1 ≡ done)
+        (HasReason (played_to (coming config.now tape.old (F.left files.old tape.old.slot)))
+        (Rose (F.faults files.old) (F.faults files.new))) }
+    ensures opened { F.opened files.new ≡ F.opened files.old }
+    ensures others { OnlySlot F.tells F.left F.holds tape.old.slot files.old files.new }
+{
+    'items: while let Some(_item) = next_item(files, tape, config, buffer)? {}
     Ok(())
 }
 

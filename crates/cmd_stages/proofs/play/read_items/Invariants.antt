@@ -1,11 +1,12 @@
 use Rattle.cmd_stages.proofs.Words.{◌≡◌, ◌≤◌, ◌-◌, length, IsTrue, None, OnlySlot, longest_payload, coming}
-use Rattle.cmd_stages.proofs.play.read_rest.Given as goal
+use Rattle.cmd_stages.proofs.play.read_items.Given as goal
 
 abbrev pub invariant-items : goal.invariant-items
 invariant-items g l = record {
-  room : longest_payload ≤ length l.buffer.items;
+  room : longest_payload ≤ length l.buffer;
   unended : l.tape.end ≡ None;
   slot : l.tape.slot ≡ l.fn.tape.slot;
+  limit : l.tape.limit ≡ l.fn.tape.limit;
   within : l.tape.place ≤ l.tape.limit;
   later : g.F.Files.faults l.fn.files ≤ g.F.Files.faults l.files;
   opened : g.F.Files.opened l.files ≡ g.F.Files.opened l.fn.files;
