@@ -188,8 +188,7 @@ stands_ended items tape into desk left p none = record {
   version_is = tt;
 }
 
--- the whole tape was read: one of the first version was played, one of the second is to be
-
+-- the whole tape was read, and one of the first version was played
 pub read_played : (config : Config) (limit : ℕ) (holds : Names) (name : List ℕ) (left : ℕ → List ℕ) (tape tape' : TapeState) (into : List ℕ) (desk : Desked)
     → IsOpened limit holds name (left 1) tape → tape.slot ≡ 1 → tape.version ≡ One
     → PlaysOn config tape.version (coming config tape (left tape.slot)) desk → IsReadWhole config limit holds name (Some (player_with tape' None into desk))
@@ -199,15 +198,6 @@ read_played config limit holds name left tape tape' into desk o one v p = record
   stands = λ left'. stands_ended (coming config tape (left tape.slot)).0 tape' into desk left'
       (subst (λ (c : Config). Played c (untimed (coming config tape (left tape.slot)).0) desk) (sym p.played.config_is) p.played)
       (subst (λ (z : Version). HaveNoMoments z (coming config tape (left tape.slot)).0) v p.moments);
-}
-
-pub read_timed : (config : Config) (limit : ℕ) (holds : Names) (name : List ℕ) (left : ℕ → List ℕ) (tape : TapeState)
-    → IsOpened limit holds name (left 1) tape → tape.slot ≡ 1 → tape.version ≡ Two → (coming config tape (left tape.slot)).1 ≡ done
-    → IsReadWhole config limit holds name None
-read_timed config limit holds name left tape o one v d = record {
-  items = (coming config tape (left tape.slot)).0;
-  found = comes_at config limit holds name left tape o one ∙ done_found (coming config tape (left tape.slot)) d;
-  stands = subst (HasVersion limit holds name) v o.has_version;
 }
 
 pub rose_on : (before mid after : ℕ) (refusal : Refusal) → before ≤ mid → IsUnplayed (Rose mid after) refusal → IsUnplayed (Rose before after) refusal

@@ -1,4 +1,4 @@
-use Rattle.cmd_stages.proofs.Words.{◌≡◌, ◌∙◌, ℕ, List, [], ap, subst, sym, arith, rules, with_part, coming, item_from, timed, End, Timed, TapeReason}
+use Rattle.cmd_stages.proofs.Words.{◌≡◌, ◌∙◌, ℕ, List, ap, subst, sym, arith, rules, with_part, coming, item_from, timed, End, Timed, TapeReason}
 use Rattle.cmd_stages.proofs.LookingAhead.{slots_then}
 use Rattle.cmd_stages.proofs.play.read_items.Goals as goal
 
