@@ -11,7 +11,7 @@ const BLOCK: usize = 256 * 1024;
 
 /// A file, and its last block, of which the octets in `from..to` are still to be given.
 #[derive(Drop)]
-pub struct Blocks<F> {
+pub(crate) struct Blocks<F> {
     file: F,
     block: Vec<u8>,
     from: usize,

@@ -10,7 +10,7 @@ use std::alloc::Global;
 
 /// Where the octets of an end come from.
 #[derive(Clone, Copy, Debug, PartialEq, Eq, Drop)]
-pub enum Origin {
+pub(crate) enum Origin {
     /// The end isn't open.
     Nothing,
     /// From what it is to receive.
@@ -21,7 +21,7 @@ pub enum Origin {
 
 /// An end in memory: it gave the first `taken` octets of where its octets come from.
 #[derive(Drop)]
-pub struct MemEnd {
+pub(crate) struct MemEnd {
     pub to_receive: Vec<u8>,
     pub origin: Origin,
     pub taken: usize,
@@ -90,7 +90,7 @@ impl MemEnd {
 
 /// Two ends, each with the same room for what is written through it.
 #[derive(Drop)]
-pub struct Cable {
+pub(crate) struct Cable {
     pub first: MemEnd,
     pub second: MemEnd,
     pub ghost same_room: { second.written.room ≡ first.written.room },

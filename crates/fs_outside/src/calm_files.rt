@@ -46,7 +46,7 @@ fn place_of(files: &[HeldFile], name: &str) -> Option<usize>
 
 /// Copies what `content` has behind its first `taken` octets into the front of `into`, as far as it has room, and at
 /// most so many octets.
-pub fn copy_behind(content: &[u8], taken: usize, most: usize, into: &mut [u8]) -> usize
+pub(crate) fn copy_behind(content: &[u8], taken: usize, most: usize, into: &mut [u8]) -> usize
     ensures count { result ≡ min (length (drop taken content.now)) (min (length into.old) most) }
     ensures copied { take result into.new ≡ take result (drop taken content.now) }
     ensures fits { taken + result < 2 ^ 64 }

@@ -18,7 +18,7 @@ const LINGER: u64 = 5_000;
 
 /// What a connection gave.
 #[derive(Clone, Copy, Debug, PartialEq, Eq, Drop)]
-pub enum Heard {
+pub(crate) enum Heard {
     /// So many octets, at the front of the buffer.
     Octets(usize),
     /// Nothing now.
@@ -42,7 +42,7 @@ enum State {
 }
 
 /// Nothing waits: a read or a write that would wait says so. Each piece leaves at once.
-pub fn prepare<S: OpenStream>(stream: &S) -> io::Result<()> {
+pub(crate) fn prepare<S: OpenStream>(stream: &S) -> io::Result<()> {
     stream.set_nonblocking(true)?;
     stream.set_nodelay(true)
 }
@@ -54,7 +54,7 @@ fn is_for_later(error: &io::Error) -> bool {
 
 /// A connection, and what waits to leave through it, where it last moved at a time.
 #[derive(Drop)]
-pub struct Line<S: Read + Write + OpenStream + Drop> {
+pub(crate) struct Line<S: Read + Write + OpenStream + Drop> {
     pub number: u64,
     stream: S,
     waiting: Waiting,

@@ -48,7 +48,7 @@ enum Taken<S> {
 
 /// Connections that don't wait, of which each has a number that no other one had.
 #[derive(Drop)]
-pub struct Lines<S: Read + Write + OpenStream + Drop> {
+pub(crate) struct Lines<S: Read + Write + OpenStream + Drop> {
     alloc: Global,
     accept_from: u64,
     lines: Vec<Line<S>>,

@@ -15,7 +15,7 @@ struct NotedOpening {
 
 /// The openings so far, in order. Once the machine refused the memory to note one, none is told any more.
 #[derive(Drop)]
-pub struct Openings {
+pub(crate) struct Openings {
     noted: Vec<NotedOpening>,
     tells: bool,
 }

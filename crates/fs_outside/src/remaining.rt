@@ -8,7 +8,7 @@ use std::marker::Model;
 
 /// What remains of a list: the items from `taken` on.
 #[derive(Drop)]
-pub struct Remaining<T> {
+pub(crate) struct Remaining<T> {
     items: Vec<T>,
     taken: usize,
     ghost within: { taken ≤ vec_len items },

@@ -53,7 +53,7 @@ fn open_and_gather<R: rt::Files>(
 /// # Errors
 ///
 /// `Memory` where the machine refused memory for its octets.
-pub fn read_file<R: rt::Files>(
+pub(crate) fn read_file<R: rt::Files>(
     runtime: &R,
     name: &str,
     limit: u64,

@@ -34,7 +34,7 @@ pub enum Held {
 
 /// A cue, at a moment and a time.
 #[derive(Drop)]
-pub struct TimedCue {
+pub(crate) struct TimedCue {
     moment: u64,
     time: u64,
     cue: Cue,
@@ -43,7 +43,7 @@ pub struct TimedCue {
 /// What is to come, what the file holds at each reading, the moment and the time of the last event, and how many
 /// connections were dialled.
 #[derive(Drop)]
-pub struct Script {
+pub(crate) struct Script {
     cues: Remaining<TimedCue>,
     contents: Remaining<Held>,
     moment: u64,

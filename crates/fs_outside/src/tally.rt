@@ -6,7 +6,7 @@ ghost use Rattle.fs_outside.specs.Outside.{Rose};
 use crate::Failed;
 
 /// Counts a fault.
-pub fn fault(faults: &mut u64) -> Failed
+pub(crate) fn fault(faults: &mut u64) -> Failed
     ensures rose { Rose faults.old faults.new }
     ensures later { faults.old ≤ faults.new }
 {
@@ -17,7 +17,7 @@ pub fn fault(faults: &mut u64) -> Failed
 /// The calls on an object in memory, counted from 1: those that the list names fail, and none moves more than `most`
 /// octets.
 #[derive(Drop)]
-pub struct Tally {
+pub(crate) struct Tally {
     failing: Vec<u64>,
     calls: u64,
     pub faults: u64,

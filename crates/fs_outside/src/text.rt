@@ -7,7 +7,7 @@ use std::alloc::Global;
 
 /// What was written, with room for so many octets.
 #[derive(Drop)]
-pub struct Text {
+pub(crate) struct Text {
     pub octets: Vec<u8>,
     pub room: usize,
     pub ghost reserved: { room ≤ vec_capacity octets },

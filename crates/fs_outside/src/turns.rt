@@ -9,7 +9,7 @@ use std::marker::Model;
 
 /// A turn, with the octets of an event, of a file that was read whole, or that were to be sent.
 #[derive(Drop)]
-pub enum NotedTurn {
+pub(crate) enum NotedTurn {
     Came {
         event: Event,
         octets: Vec<u8>,
@@ -34,7 +34,7 @@ pub enum NotedTurn {
 
 /// The turns so far, in order. Once the machine refused the memory to note one, none is told any more.
 #[derive(Drop)]
-pub struct Turns {
+pub(crate) struct Turns {
     noted: Vec<NotedTurn>,
     tells: bool,
 }

@@ -7,7 +7,7 @@ use std::alloc::Global;
 
 /// Octets that wait to leave: those of `octets` from `left` on.
 #[derive(Drop)]
-pub struct Waiting {
+pub(crate) struct Waiting {
     octets: Vec<u8>,
     left: usize,
     ghost within: { left ≤ vec_len octets },
