@@ -5,7 +5,6 @@ pub mod ReplySteps
 pub mod Transitions
 mod Closing
 mod Quiet
-mod Ends
 pub mod Fitting
 pub mod Arriving
 pub mod TwoPieces

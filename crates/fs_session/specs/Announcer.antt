@@ -4,8 +4,8 @@ use Rattle.fs_base.specs.declared.config.{Config.{Config}, Peer.{Peer}}
 use Rattle.fs_message.specs.Write.{message_text, open_body}
 use Rattle.fs_attrs.specs.declared.update.Update.{Update}
 use Rattle.fs_session.specs.declared.state.{State.{State, TheVariants.{Established}}, Closed.{Closed, TheVariants.{Memory}}}
-use Rattle.fs_session.specs.declared.{sending.{Sent.{Sent}, Sending.{Sending}}, side.Needs.{Needs}}
-use Rattle.fs_session.specs.{Transition.{Machine}, Side.{announcer}, Line.{Lined, lined, state_in, FeedsAt, Ticks}}
+use Rattle.fs_session.specs.declared.{sending.{Sent.{Sent}, Sending.{Sending}}, side.{Side.{Side}, Role.TheVariants.{Announcer}}}
+use Rattle.fs_session.specs.{Transition.{Machine}, Side.{announcer}, Line.{Intake, Lined, closed_as, state_in, FeedsAt, Ticks}}
 use Rattle.fs_session.specs.Sending.{is_sending, needs_of, text_sent}
 
 -- Whose end it is and what it is to send, what it keeps of the other's octets, whether its OPEN was written, and how
@@ -28,6 +28,10 @@ announcing config peer sending line started appended = record {
   appended = appended;
 }
 
+abbrev pub announcing_in : Intake → Sending → Bool → ℕ → Announcing
+announcing_in intake sending started appended =
+    announcing intake.side.config.now intake.side.peer sending intake.line started appended
+
 -- the same with another line, with its OPEN written, with one rule more written
 abbrev pub with_line : Announcing → Lined → Announcing
 with_line end line = announcing end.config end.peer end.sending line end.started end.appended
@@ -39,7 +43,7 @@ abbrev pub one_sent : Announcing → Announcing
 one_sent end = announcing end.config end.peer end.sending end.line end.started (end.appended + 1)
 
 abbrev pub out_of_memory : Lined → Lined
-out_of_memory line = lined line.framing line.phase line.times (Some Memory)
+out_of_memory line = closed_as Memory line
 
 abbrev pub machine_in : Announcing → Machine
 machine_in end = announcer end.config (needs_of end.sending.rules)
@@ -125,5 +129,6 @@ CanSend config None sending = ⊥
 CanSend config (Some peer) sending = IsTrue (is_sending config peer sending)
 
 -- what an announcing end keeps fits together
-abbrev pub IsReady : Config → Peer → Sending → Needs → Type 0
-IsReady config peer sending needs = (needs ≡ needs_of sending.rules) × IsTrue (is_sending config peer sending)
+abbrev pub IsReady : Side → Sending → Type 0
+IsReady side sending =
+    (side.role ≡ Announcer (needs_of sending.rules)) × IsTrue (is_sending side.config.now side.peer sending)

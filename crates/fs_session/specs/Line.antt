@@ -5,6 +5,7 @@ use Rattle.fs_message.specs.{declared.fault.MessageFault.{MessageFault}, Stream.
 use Rattle.fs_message.specs.Deframer.{Framing, framing, pending}
 use Rattle.fs_attrs.specs.declared.update.Update.{Update}
 use Rattle.fs_session.specs.declared.state.{State.{State, TheVariants.{WaitOpen, Closed as IsClosed}}, Closed.{Closed, TheVariants.{Memory, Fault}}}
+use Rattle.fs_session.specs.declared.side.Side.{Side}
 use Rattle.fs_session.specs.declared.times.{Times.{Times}, Tick.{Tick, TheVariants.{Quiet, Keeps, Expires}}}
 use Rattle.fs_session.specs.{Times.{no_times, at_moment, taken_in, written_now, tick_at}, Transition.{Machine, Phase, phase, faulted, transition_by}}
 use Rattle.fs_session.specs.Side.{notice_text, at_fault}
@@ -18,6 +19,17 @@ pub record Lined : Type 0 where
 
 abbrev pub lined : Framing → Phase → Times → Option Closed → Lined
 lined framing phase times how = record { framing = framing; phase = phase; times = times; closed = how }
+
+-- an end that keeps so much
+pub record Intake : Type 0 where
+  pub side : Side
+  pub line : Lined
+
+abbrev pub intake : Side → Lined → Intake
+intake side line = record { side = side; line = line }
+
+abbrev pub closed_as : Closed → Lined → Lined
+closed_as why line = lined line.framing line.phase line.times (Some why)
 
 -- before the first octet
 abbrev pub fresh : Lined

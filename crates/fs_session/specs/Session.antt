@@ -6,7 +6,7 @@ use Rattle.fs_message.specs.{declared.fault.MessageFault.{MessageFault}, Stream.
 use Rattle.fs_attrs.specs.declared.update.Update.{Update}
 use Rattle.fs_session.specs.declared.{state.{State.{State, TheVariants.{WaitOpen, Closed as IsClosed}}, Closed.{Closed}}, times.Times.{Times}}
 use Rattle.fs_session.specs.{Transition.{Machine, Phase, phase, faulted, transition_by}, Side.{receiver}}
-use Rattle.fs_session.specs.Line.{Lined, lined, fresh, Step, step_by, DoesAt, FeedsAt, answer_of}
+use Rattle.fs_session.specs.Line.{Intake, Lined, lined, fresh, Step, step_by, DoesAt, FeedsAt, answer_of}
 
 abbrev pub at_start : Phase
 at_start = phase WaitOpen false 0
@@ -61,6 +61,9 @@ live config peer line = record {
   times = line.times;
   closed = line.closed;
 }
+
+abbrev pub live_in : Intake → Live
+live_in intake = live intake.side.config.now intake.side.peer intake.line
 
 -- what any end keeps
 abbrev pub line_of : Live → Lined

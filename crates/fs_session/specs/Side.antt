@@ -1,10 +1,10 @@
 -- The two ends of a session.
-use Rattle.std.specs.Prelude.{◌≡◌, ℕ, Bool, false, not, ◌&&◌, ◌||◌, List, [], ◌∷◌, ◌++◌, Option, Some, None, Result, Ok, Err, ⊤}
+use Rattle.std.specs.Prelude.{◌≡◌, ℕ, Bool, false, not, ◌&&◌, ◌||◌, List, [], ◌∷◌, ◌++◌, Option, Some, None, Result, Ok, Err}
 use Rattle.fs_base.specs.declared.config.{Config.{Config}, Peer.{Peer}}
 use Rattle.fs_message.specs.{declared.open_.Open.{Open}, Write.{message_text, open_body}}
-use Rattle.fs_attrs.specs.{declared.update.{Update.{Update}, UpdateFault.{UpdateFault, TheVariants.{Memory as NoMemory}}}, Update.{update_of}}
+use Rattle.fs_attrs.specs.{declared.update.{Update.{Update}, UpdateFault.{UpdateFault}}, Update.{update_of}}
 use Rattle.fs_session.specs.declared.state.{State.{State, TheVariants.{WaitOpen}}, Closed.{Closed, TheVariants.{Memory, Fault}}}
-use Rattle.fs_session.specs.declared.side.{Side.{Side, TheVariants.{Receiver, Announcer}}, Needs.{Needs}}
+use Rattle.fs_session.specs.declared.side.{Side.{Side}, Role.{Role, TheVariants.{Receiver, Announcer}}, Needs.{Needs}}
 use Rattle.fs_session.specs.Transition.{Machine, terms_of}
 
 -- What the receiving end answers: to an OPEN our OPEN and a KEEPALIVE, to a fault a NOTIFICATION.
@@ -73,14 +73,12 @@ announcer config needs = record {
   farewell = no_farewell;
 }
 
-abbrev pub machine_of : Side → Machine
-machine_of (Receiver config peer) = receiver config.now peer
-machine_of (Announcer config needs) = announcer config.now needs
+abbrev pub machine_as : Config → Peer → Role → Machine
+machine_as config peer Receiver = receiver config peer
+machine_as config peer (Announcer needs) = announcer config needs
 
--- what is answered of an UPDATE, where memory is there
-abbrev pub Takes : Result (Option Update) UpdateFault → Result (Option Update) UpdateFault → Type 0
-Takes (Err NoMemory) wanted = ⊤
-Takes result wanted = wanted ≡ result
+abbrev pub machine_of : Side → Machine
+machine_of side = machine_as side.config.now side.peer side.role
 
 -- a fault is answered as this end answers it, or memory is wanting and nothing is
 abbrev pub ClosesAs : Machine → Closed → List ℕ → List ℕ → Closed → Type 0

@@ -1,11 +1,11 @@
 //! The announcing end of a session.
 
-use crate::line::Line;
+use crate::intake::Intake;
 use crate::sending::{Sending, append_rule, sender};
-use crate::side::{Needs, Side, terms};
+use crate::side::{Needs, Role, Side};
 use crate::state::{Closed, Fed, State};
-use fs_attrs::{Terms, Update};
-use fs_base::{Config, Memory, Peer};
+use fs_attrs::Terms;
+use fs_base::{Config, Memory};
 use fs_message::write_open;
 use std::alloc::Global;
 use std::marker::Model;
@@ -14,23 +14,20 @@ use std::marker::Model;
 /// other's OPEN, and once Established an UPDATE for each rule.
 #[derive(Drop)]
 pub struct Announcer<'a> {
-    config: &'a Config,
-    peer: Peer,
+    intake: Intake<'a>,
     sending: Sending,
-    needs: Needs,
-    line: Line,
     started: bool,
     appended: usize,
 }
 
 impl<'a> Model for Announcer<'a> {
-    ghost use Rattle.fs_session.specs.Announcer.{Announcing, announcing, IsReady};
+    ghost use Rattle.fs_session.specs.Announcer.{Announcing, announcing_in, IsReady};
 
     ghost Value = { Announcing };
 
-    ghost view = { λ a. announcing a.config.now a.peer a.sending a.line a.started a.appended };
+    ghost view = { λ a. announcing_in a.intake a.sending a.started a.appended };
 
-    ghost invariant = { λ a. IsReady a.config.now a.peer a.sending a.needs };
+    ghost invariant = { λ a. IsReady a.intake.side a.sending };
 }
 
 impl<'a> Announcer<'a> {
@@ -48,13 +45,14 @@ impl<'a> Announcer<'a> {
         let Some(peer) = sender(config) else {
             unreachable!();
         };
-        let needs = sending.needs();
-        Ok(Announcer {
+        let side = Side {
             config,
             peer: *peer,
+            role: Role::Announcer(sending.needs()),
+        };
+        Ok(Announcer {
+            intake: Intake::new(alloc, side)?,
             sending,
-            needs,
-            line: Line::new(alloc)?,
             started: false,
             appended: 0,
         })
@@ -66,14 +64,15 @@ impl<'a> Announcer<'a> {
         ensures again { StaysEnded self.old self.new result out.old.items out.new.items }
         ensures exact { StartsOpen self.old self.new out.old.items out.new.items result }
     {
-        if let Some(why) = self.line.closed() {
+        if let Some(why) = self.intake.closed() {
             return Err(why);
         }
         if self.started {
             return Ok(());
         }
-        if write_open(self.peer.asn, self.config.hold_time, self.sending.id, out).is_err() {
-            self.line.give_up();
+        let side = self.intake.side();
+        if write_open(side.peer.asn, side.config.hold_time, self.sending.id, out).is_err() {
+            self.intake.close(Closed::Memory);
             return Err(Closed::Memory);
         }
         self.started = true;
@@ -92,7 +91,7 @@ impl<'a> Announcer<'a> {
         ensures exact { FeedsEnd self.old.line.times.greatest self.old self.new piece.now out.old.items out.new.items
             result }
     {
-        let moment = self.line.greatest();
+        let moment = self.intake.greatest();
         self.feed_at(moment, piece, out)
     }
 
@@ -105,11 +104,7 @@ impl<'a> Announcer<'a> {
         ensures some { IfOk result (λ count. (count ≤ length piece.now) × (0 < length piece.now → 0 < count)) }
         ensures exact { FeedsEnd moment self.old self.new piece.now out.old.items out.new.items result }
     {
-        let side = Side::Announcer {
-            config: self.config,
-            needs: self.needs,
-        };
-        count_of(self.line.feed_at(&side, moment, piece, out))
+        count_of(self.intake.feed_at(moment, piece, out))
     }
 
     /// The clock, at a moment in milliseconds, as of a [`Session`](crate::Session).
@@ -119,7 +114,7 @@ impl<'a> Announcer<'a> {
         ensures same { self.new ≡ with_line self.old self.new.line }
         ensures exact { TicksEnd moment self.old self.new out.old.items out.new.items result }
     {
-        self.line.tick(moment, out)
+        self.intake.tick(moment, out)
     }
 
     /// Appends the UPDATE of the next rule, once Established, and answers whether there was one: false while it
@@ -129,13 +124,13 @@ impl<'a> Announcer<'a> {
         ensures again { StaysEnded self.old self.new result out.old.items out.new.items }
         ensures exact { SaysOpen self.old self.new out.old.items out.new.items result }
     {
-        if let Some(why) = self.line.closed() {
+        if let Some(why) = self.intake.closed() {
             return Err(why);
         }
-        if self.line.state() != State::Established {
+        if self.intake.state() != State::Established {
             return Ok(false);
         }
-        let terms = terms(self.config, &self.peer, self.line.four());
+        let terms = self.intake.terms();
         match append_next(&terms, &self.sending, self.appended, out) {
             Ok(false) => Ok(false),
             Ok(true) => {
@@ -143,7 +138,7 @@ impl<'a> Announcer<'a> {
                 Ok(true)
             }
             Err(Memory) => {
-                self.line.give_up();
+                self.intake.close(Closed::Memory);
                 Err(Closed::Memory)
             }
         }
@@ -154,28 +149,28 @@ impl<'a> Announcer<'a> {
     pub fn terms(&self) -> Terms
         ensures { result ≡ terms_of self.now.config self.now.peer self.now.line.phase.four }
     {
-        terms(self.config, &self.peer, self.line.four())
+        self.intake.terms()
     }
 
     /// The families that the other's OPEN has to have.
     pub fn needs(&self) -> Needs
         ensures { result ≡ needs_of self.now.sending.rules }
     {
-        self.needs
+        self.sending.needs()
     }
 
     /// What has closed the end; None while it is open.
     pub fn closed(&self) -> Option<Closed>
         ensures { result ≡ self.now.line.closed }
     {
-        self.line.closed()
+        self.intake.closed()
     }
 
     /// The end's state.
     pub fn state(&self) -> State
         ensures { result ≡ state_in self.now.line }
     {
-        self.line.state()
+        self.intake.state()
     }
 }
 

@@ -2,8 +2,8 @@
 #![tactic(auto)]
 
 mod announcer;
+mod intake;
 mod laws;
-mod line;
 mod sending;
 mod session;
 mod side;

@@ -1,9 +1,9 @@
 //! The receiving end of a session.
 
-use crate::line::Line;
-use crate::side::Side;
+use crate::intake::Intake;
+use crate::side::{Role, Side, refuse};
 use crate::state::{Closed, Fed, State};
-use fs_base::{Config, Memory, Peer};
+use fs_base::{Config, Memory};
 use std::alloc::Global;
 use std::marker::Model;
 
@@ -11,17 +11,18 @@ use std::marker::Model;
 /// peer's UPDATEs and says what is to be replied.
 #[derive(Drop)]
 pub struct Session<'a> {
-    config: &'a Config,
-    peer: Peer,
-    line: Line,
+    intake: Intake<'a>,
 }
 
 impl<'a> Model for Session<'a> {
-    ghost use Rattle.fs_session.specs.Session.{Live, live};
+    ghost use Rattle.std.specs.Prelude.{◌≡◌};
+    ghost use Rattle.fs_session.specs.{Session.{Live, live_in}, declared.side.Role.TheVariants.{Receiver}};
 
     ghost Value = { Live };
 
-    ghost view = { λ s. live s.config.now s.peer s.line };
+    ghost view = { λ s. live_in s.intake };
+
+    ghost invariant = { λ s. s.intake.side.role ≡ Receiver };
 }
 
 impl<'a> Session<'a> {
@@ -37,10 +38,13 @@ impl<'a> Session<'a> {
         let Some(found) = config.peer(peer) else {
             unreachable!();
         };
-        Ok(Session {
+        let side = Side {
             config,
             peer: *found,
-            line: Line::new(alloc)?,
+            role: Role::Receiver,
+        };
+        Ok(Session {
+            intake: Intake::new(alloc, side)?,
         })
     }
 
@@ -56,7 +60,7 @@ impl<'a> Session<'a> {
         ensures some { IfOk result (λ fed. (fed.0 ≤ length piece.now) × (0 < length piece.now → 0 < fed.0)) }
         ensures exact { GoesOn self.old self.new piece.now replies.old.items replies.new.items result }
     {
-        let moment = self.line.greatest();
+        let moment = self.intake.greatest();
         self.feed_at(moment, piece, replies)
     }
 
@@ -69,11 +73,7 @@ impl<'a> Session<'a> {
         ensures some { IfOk result (λ fed. (fed.0 ≤ length piece.now) × (0 < length piece.now → 0 < fed.0)) }
         ensures exact { GoesOnAt moment self.old self.new piece.now replies.old.items replies.new.items result }
     {
-        let side = Side::Receiver {
-            config: self.config,
-            peer: self.peer,
-        };
-        self.line.feed_at(&side, moment, piece, replies)
+        self.intake.feed_at(moment, piece, replies)
     }
 
     /// The clock, at a moment in milliseconds. Where the agreed hold time has passed since the last message was
@@ -88,7 +88,7 @@ impl<'a> Session<'a> {
         ensures exact { TicksOpen moment (line_of self.old) (line_of self.new) replies.old.items replies.new.items
             result }
     {
-        self.line.tick(moment, replies)
+        self.intake.tick(moment, replies)
     }
 
     /// Closes the session with a NOTIFICATION Cease of this subcode (RFC 4486), which is appended. A session that
@@ -99,27 +99,38 @@ impl<'a> Session<'a> {
         ensures exact { CeasesOpen subcode (line_of self.old) self.new.closed replies.old.items replies.new.items
             result }
     {
-        self.line.cease(subcode, replies)
+        if let Some(why) = self.intake.closed() {
+            return Err(why);
+        }
+        let why = refuse(CEASE, subcode, replies);
+        self.intake.close(why);
+        match why {
+            Closed::Memory => Err(Closed::Memory),
+            _ => Ok(()),
+        }
     }
 
     /// How many routes the peer may hold at most, where that is bounded.
     pub fn max_routes(&self) -> Option<u32>
         ensures { result ≡ self.now.peer.max_routes }
     {
-        self.peer.max_routes
+        self.intake.side().peer.max_routes
     }
 
     /// What has closed the session; None while it is open.
     pub fn closed(&self) -> Option<Closed>
         ensures { result ≡ self.now.closed }
     {
-        self.line.closed()
+        self.intake.closed()
     }
 
     /// The session's state.
     pub fn state(&self) -> State
         ensures { result ≡ state_of self.now }
     {
-        self.line.state()
+        self.intake.state()
     }
 }
+
+/// The code of a NOTIFICATION Cease (RFC 4486).
+const CEASE: u8 = 6;

@@ -2,13 +2,13 @@
 
 ghost use Rattle.std.specs.Prelude.{◌≡◌};
 ghost use Rattle.fs_message.specs.Write.{AppendsWhole};
-ghost use Rattle.fs_session.specs.{Line.{Refuses}, Side.{reply_to, keepalive_to, reads_update, lacks_of, machine_of, Takes, ClosesAs}, Transition.{terms_of}};
+ghost use Rattle.fs_session.specs.{Line.{Refuses}, Side.{reply_to, lacks_of, machine_of, ClosesAs}, Transition.{terms_of}};
+ghost use Rattle.fs_session.specs.declared.state.State.TheVariants.{WaitOpen};
 
 use crate::state::{Closed, State};
-use fs_attrs::{Terms, Update, UpdateFault, read_update};
+use fs_attrs::Terms;
 use fs_base::{Config, Memory, Peer};
 use fs_message::{Open, write_keepalive, write_notice, write_open};
-use std::alloc::Global;
 
 /// The families of flow specification routes that are to be sent.
 #[derive(Clone, Copy, Debug, PartialEq, Eq, Drop)]
@@ -17,12 +17,19 @@ pub struct Needs {
     pub v6: bool,
 }
 
-/// Which end of a session it is: the receiving one with a peer, or the announcing one at a peer of the
-/// configuration, which needs these families.
+/// What an end of a session does: it takes the peer's routes, or it announces rules of these families.
 #[derive(Clone, Copy, Drop)]
-pub enum Side<'a> {
-    Receiver { config: &'a Config, peer: Peer },
-    Announcer { config: &'a Config, needs: Needs },
+pub enum Role {
+    Receiver,
+    Announcer(Needs),
+}
+
+/// One end of a session of a configuration: with a peer, or as that peer with us.
+#[derive(Clone, Copy, Drop)]
+pub struct Side<'a> {
+    pub config: &'a Config,
+    pub peer: Peer,
+    pub role: Role,
 }
 
 impl Side<'_> {
@@ -30,9 +37,9 @@ impl Side<'_> {
     pub fn expected(&self) -> u32
         ensures { result ≡ (machine_of self.now).expected }
     {
-        match self {
-            Side::Receiver { peer, .. } => peer.asn,
-            Side::Announcer { config, .. } => config.local_as,
+        match self.role {
+            Role::Receiver => self.peer.asn,
+            Role::Announcer(_) => self.config.local_as,
         }
     }
 
@@ -40,45 +47,37 @@ impl Side<'_> {
     pub fn offer(&self) -> u16
         ensures { result ≡ (machine_of self.now).offer }
     {
-        match self {
-            Side::Receiver { config, .. } => config.hold_time,
-            Side::Announcer { config, .. } => config.hold_time,
-        }
+        self.config.hold_time
     }
 
     /// Whether an OPEN lacks a family that this end needs.
     pub fn lacks(&self, found: &Open) -> bool
         ensures { result ≡ (machine_of self.now).lacks found.now }
     {
-        match self {
-            Side::Receiver { .. } => false,
-            Side::Announcer { needs, .. } => is_lacking(needs, found),
+        match &self.role {
+            Role::Receiver => false,
+            Role::Announcer(needs) => is_lacking(needs, found),
         }
     }
 
-    /// What is taken of an UPDATE: the receiving end reads it, the announcing end skips it.
-    pub fn update(
-        &self,
-        alloc: Global,
-        four: bool,
-        body: &[u8],
-    ) -> Result<Option<Update>, UpdateFault>
-        ensures { Takes result ((machine_of self.now).update four body.now) }
+    /// The terms on which UPDATEs between the two are read and written.
+    pub fn terms(&self, four: bool) -> Terms
+        ensures { result ≡ terms_of self.now.config.now self.now.peer four }
     {
-        match self {
-            Side::Receiver { config, peer } => read(alloc, config, peer, four, body),
-            Side::Announcer { .. } => Ok(None),
-        }
+        terms(self.config, &self.peer, four)
     }
 
-    /// Answers a message that was taken in this state: the receiving end an OPEN by its own and a KEEPALIVE, the
-    /// announcing end by a KEEPALIVE. After `Memory` `out` is as before.
+    /// Answers a message that was taken in this state: an OPEN by a KEEPALIVE, which at the receiving end stands
+    /// behind its own OPEN. After `Memory` `out` is as before.
     pub fn reply(&self, state: State, out: &mut Vec<u8>) -> Result<(), Memory>
         ensures { AppendsWhole result out.old.items out.new.items ((machine_of self.now).answer state) }
     {
-        match self {
-            Side::Receiver { config, .. } => open_back(config, state, out),
-            Side::Announcer { .. } => keep_alive(state, out),
+        if state != State::WaitOpen {
+            return Ok(());
+        }
+        match self.role {
+            Role::Receiver => open_back(self.config, out),
+            Role::Announcer(_) => write_keepalive(out),
         }
     }
 
@@ -86,8 +85,8 @@ impl Side<'_> {
     pub fn close(&self, why: Closed, out: &mut Vec<u8>) -> Closed
         ensures { ClosesAs (machine_of self.now) why out.old.items out.new.items result }
     {
-        match (self, why) {
-            (Side::Receiver { .. }, Closed::Fault { code, subcode }) => refuse(code, subcode, out),
+        match (self.role, why) {
+            (Role::Receiver, Closed::Fault { code, subcode }) => refuse(code, subcode, out),
             (_, other) => other,
         }
     }
@@ -97,21 +96,6 @@ fn is_lacking(needs: &Needs, found: &Open) -> bool
     ensures { result ≡ lacks_of needs.now found.now }
 {
     needs.v4 && !found.v4_flow || needs.v6 && !found.v6_flow
-}
-
-fn read(
-    alloc: Global,
-    config: &Config,
-    peer: &Peer,
-    four: bool,
-    body: &[u8],
-) -> Result<Option<Update>, UpdateFault>
-    ensures { Takes result (reads_update config.now peer.now four body.now) }
-{
-    match read_update(alloc, body, &terms(config, peer, four)) {
-        Ok(update) => Ok(Some(update)),
-        Err(fault) => Err(fault),
-    }
 }
 
 /// The terms on which a peer's UPDATEs are read and written.
@@ -125,13 +109,10 @@ pub(crate) fn terms(config: &Config, peer: &Peer, four: bool) -> Terms
     }
 }
 
-/// An OPEN is answered by our OPEN and a KEEPALIVE.
-fn open_back(config: &Config, state: State, out: &mut Vec<u8>) -> Result<(), Memory>
-    ensures { AppendsWhole result out.old.items out.new.items (reply_to config.now state) }
+/// Appends our OPEN and a KEEPALIVE.
+fn open_back(config: &Config, out: &mut Vec<u8>) -> Result<(), Memory>
+    ensures { AppendsWhole result out.old.items out.new.items (reply_to config.now WaitOpen) }
 {
-    if state != State::WaitOpen {
-        return Ok(());
-    }
     let start = out.len();
     write_open(config.local_as, config.hold_time, config.local_id, out)?;
     if write_keepalive(out).is_err() {
@@ -139,16 +120,6 @@ fn open_back(config: &Config, state: State, out: &mut Vec<u8>) -> Result<(), Mem
         return Err(Memory);
     }
     Ok(())
-}
-
-/// An OPEN is answered by a KEEPALIVE.
-fn keep_alive(state: State, out: &mut Vec<u8>) -> Result<(), Memory>
-    ensures { AppendsWhole result out.old.items out.new.items (keepalive_to state) }
-{
-    if state != State::WaitOpen {
-        return Ok(());
-    }
-    write_keepalive(out)
 }
 
 /// Answers with a NOTIFICATION.

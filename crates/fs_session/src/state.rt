@@ -1,7 +1,8 @@
 //! The states of a session, and how it closes.
 
-use fs_attrs::Update;
+use fs_attrs::{Update, UpdateFault};
 use fs_base::Memory;
+use fs_message::MessageFault;
 
 /// The state of a session (RFC 4271, section 8.2.2): OpenSent, OpenConfirm, Established, and closed.
 #[derive(Clone, Copy, Debug, PartialEq, Eq, Drop)]
@@ -51,5 +52,45 @@ impl From<Memory> for Closed {
 
     fn from(_error: fs_base::Memory) -> Closed {
         Closed::Memory
+    }
+}
+
+impl From<MessageFault> for Closed {
+    ghost use Rattle.std.specs.Prelude.{◌≡◌};
+    ghost use Rattle.fs_session.specs.Transition.{faulted};
+
+    ghost from_gives = { λ fault closed. closed ≡ faulted fault };
+
+    fn from(fault: MessageFault) -> Closed {
+        Closed::Fault {
+            code: fault.code,
+            subcode: fault.subcode,
+        }
+    }
+}
+
+/// The codes of an UPDATE's faults (RFC 4271, section 6.3).
+impl From<UpdateFault> for Closed {
+    ghost use Rattle.std.specs.Prelude.{◌≡◌};
+    ghost use Rattle.fs_session.specs.Transition.{closing_of};
+
+    ghost from_gives = { λ fault closed. closed ≡ closing_of fault };
+
+    fn from(fault: UpdateFault) -> Closed {
+        match fault {
+            UpdateFault::List => Closed::Fault {
+                code: 3,
+                subcode: 1,
+            },
+            UpdateFault::Network => Closed::Fault {
+                code: 3,
+                subcode: 10,
+            },
+            UpdateFault::Optional(_) => Closed::Fault {
+                code: 3,
+                subcode: 9,
+            },
+            UpdateFault::Memory => Closed::Memory,
+        }
     }
 }

@@ -3,11 +3,11 @@
 ghost use Rattle.std.specs.Prelude.{◌≡◌, ◌+◌, length, IsTrue};
 ghost use Rattle.fs_message.specs.{Header.{allows}, Deframer.{frame_of}, Notice.{notice_of}};
 ghost use Rattle.fs_session.specs.{declared.state.State.TheVariants.{Established}, Side.{machine_of}};
-ghost use Rattle.fs_session.specs.Transition.{transition_by, at_wait_open, at_wait_keep, at_established, opened, notified, closing_of, IsTransition};
+ghost use Rattle.fs_session.specs.Transition.{transition_by, at_wait_open, at_wait_keep, at_established, opened, notified, IsTransition};
 
-use crate::side::Side;
+use crate::side::{Role, Side};
 use crate::state::{Closed, State};
-use fs_attrs::{Update, UpdateFault};
+use fs_attrs::{Update, read_update};
 use fs_message::{
     Frame, KEEPALIVE, MessageFault, NOTIFICATION, Notice, OPEN, Open, ROUTE_REFRESH, UPDATE,
 };
@@ -89,10 +89,7 @@ fn at_open(
             },
             None,
         )),
-        Err(fault) => Err(Closed::Fault {
-            code: fault.code,
-            subcode: fault.subcode,
-        }),
+        Err(fault) => Err(Closed::from(fault)),
     }
 }
 
@@ -112,7 +109,8 @@ fn in_wait_keep(now: &Phase, frame: &Frame<'_>) -> Result<(Phase, Option<Update>
     ))
 }
 
-/// UPDATE, KEEPALIVE and ROUTE-REFRESH are taken, the last two without effect.
+/// UPDATE, KEEPALIVE and ROUTE-REFRESH are taken; the receiving end alone reads an UPDATE, and the others are without
+/// effect.
 fn in_established(
     alloc: Global,
     side: &Side<'_>,
@@ -123,33 +121,12 @@ fn in_established(
     ensures { IsTransition result
         (at_established (machine_of side.now) now.now.four now.now.hold (frame_of frame.now)) }
 {
-    match frame.kind {
-        UPDATE => match side.update(alloc, now.four, frame.body) {
-            Ok(update) => Ok((*now, update)),
-            Err(fault) => Err(fault_of_update(fault)),
-        },
-        KEEPALIVE | ROUTE_REFRESH => Ok((*now, None)),
+    match (frame.kind, side.role) {
+        (UPDATE, Role::Receiver) => {
+            let update = read_update(alloc, frame.body, &side.terms(now.four))?;
+            Ok((*now, Some(update)))
+        }
+        (UPDATE | KEEPALIVE | ROUTE_REFRESH, _) => Ok((*now, None)),
         _ => Err(NOT_TAKEN),
-    }
-}
-
-/// The codes of an UPDATE's faults (RFC 4271, section 6.3).
-fn fault_of_update(fault: UpdateFault) -> Closed
-    ensures { result ≡ closing_of fault }
-{
-    match fault {
-        UpdateFault::List => Closed::Fault {
-            code: 3,
-            subcode: 1,
-        },
-        UpdateFault::Network => Closed::Fault {
-            code: 3,
-            subcode: 10,
-        },
-        UpdateFault::Optional(_) => Closed::Fault {
-            code: 3,
-            subcode: 9,
-        },
-        UpdateFault::Memory => Closed::Memory,
     }
 }

@@ -1,5 +1,5 @@
 use Rattle.fs_session.proofs.{Words.{pending, frame_of, machine_of}, Closing.{StandsIn, closes}}
-use Rattle.fs_session.proofs.line.advance.Goals as goal
+use Rattle.fs_session.proofs.intake.advance.Goals as goal
 
 pub returns-in-Err-transition-clause-exact : goal.returns-in-Err-transition-clause-exact
 returns-in-Err-transition-clause-exact c =

@@ -1,44 +1,46 @@
-//! What either end of a session keeps of the other's octets.
+//! What either end of a session takes of the other's octets.
 
 use crate::side::{Side, refuse};
 use crate::state::{Closed, Fed, State};
 use crate::times::{Tick, Times};
 use crate::transition::{Phase, transition};
+use fs_attrs::Terms;
 use fs_base::Memory;
 use fs_message::{Deframer, write_keepalive};
 use std::alloc::Global;
 use std::marker::Model;
 
-/// The octets of the message begun, where the session stands, its moments, and how it closed.
+/// An end, the octets of the message begun, where the session stands, its moments, and how it closed.
 #[derive(Drop)]
-pub struct Line {
+pub(crate) struct Intake<'a> {
+    side: Side<'a>,
     deframer: Deframer,
     phase: Phase,
     times: Times,
     closed: Option<Closed>,
 }
 
-impl Model for Line {
-    ghost use Rattle.fs_session.specs.Line.{Lined, lined, IsLive};
+impl<'a> Model for Intake<'a> {
+    ghost use Rattle.fs_session.specs.Line.{Intake, intake, lined, IsLive};
 
-    ghost Value = { Lined };
+    ghost Value = { Intake };
 
-    ghost view = { λ l. lined l.deframer l.phase l.times l.closed };
+    ghost view = { λ i. intake i.side (lined i.deframer i.phase i.times i.closed) };
 
-    ghost invariant = { λ l. IsLive l.closed l.deframer };
+    ghost invariant = { λ i. IsLive i.closed i.deframer };
 }
 
-impl Line {
-    ghost use Rattle.std.specs.Prelude.{◌≡◌, ◌<◌, ◌≤◌, length, IfOk};
-    ghost use Rattle.fs_session.specs.Announcer.{out_of_memory};
-    ghost use Rattle.fs_session.specs.Line.{fresh, state_in, closed_after, StaysOver, FeedsOpen, TicksOpen, CeasesOpen};
-    ghost use Rattle.fs_session.specs.Side.{machine_of};
+impl<'a> Intake<'a> {
+    ghost use Rattle.std.specs.Prelude.{◌≡◌, ◌<◌, ◌≤◌, None, length, IfOk};
+    ghost use Rattle.fs_session.specs.Line.{intake, fresh, state_in, closed_as, closed_after, StaysOver, Advances, FeedsOpen, TicksOpen};
+    ghost use Rattle.fs_session.specs.{Side.{machine_of}, Transition.{terms_of}};
 
     /// Before the first octet.
-    pub fn new(alloc: Global) -> Result<Line, Memory>
-        ensures { IfOk result (λ made. made ≡ fresh) }
+    pub(crate) fn new(alloc: Global, side: Side<'a>) -> Result<Intake<'a>, Memory>
+        ensures { IfOk result (λ made. made ≡ intake side.entry fresh) }
     {
-        Ok(Line {
+        Ok(Intake {
+            side,
             deframer: Deframer::new(alloc)?,
             phase: Phase {
                 state: State::WaitOpen,
@@ -52,19 +54,20 @@ impl Line {
 
     /// Takes octets of the piece, up to and with the end of the first message that ends in it, else all of them.
     /// What this end answers is appended to `out`.
-    pub fn feed_at(&mut self, side: &Side<'_>, moment: u64, piece: &[u8], out: &mut Vec<u8>) -> Fed
-        ensures again { StaysOver self.old self.new result out.old.items out.new.items }
-        ensures closed { self.new.closed ≡ closed_after result }
+    pub(crate) fn feed_at(&mut self, moment: u64, piece: &[u8], out: &mut Vec<u8>) -> Fed
+        ensures side { self.new.side ≡ self.old.side }
+        ensures again { StaysOver self.old.line self.new.line result out.old.items out.new.items }
+        ensures closed { self.new.line.closed ≡ closed_after result }
         ensures some { IfOk result (λ fed. (fed.0 ≤ length piece.now) × (0 < length piece.now → 0 < fed.0)) }
-        ensures exact { FeedsOpen (machine_of side.now) moment self.old self.new piece.now out.old.items out.new.items
-            result }
+        ensures exact { FeedsOpen (machine_of self.old.side) moment self.old.line self.new.line piece.now
+            out.old.items out.new.items result }
     {
         if let Some(why) = self.closed {
             return Err(why);
         }
         self.times = self.times.at(moment);
         let fed = advance(
-            side,
+            &self.side,
             &mut self.deframer,
             &mut self.phase,
             &mut self.times,
@@ -76,10 +79,11 @@ impl Line {
     }
 
     /// The clock: the hold time may have expired, or a KEEPALIVE may be due.
-    pub fn tick(&mut self, moment: u64, out: &mut Vec<u8>) -> Result<(), Closed>
-        ensures again { StaysOver self.old self.new result out.old.items out.new.items }
-        ensures closed { self.new.closed ≡ closed_after result }
-        ensures exact { TicksOpen moment self.old self.new out.old.items out.new.items result }
+    pub(crate) fn tick(&mut self, moment: u64, out: &mut Vec<u8>) -> Result<(), Closed>
+        ensures side { self.new.side ≡ self.old.side }
+        ensures again { StaysOver self.old.line self.new.line result out.old.items out.new.items }
+        ensures closed { self.new.line.closed ≡ closed_after result }
+        ensures exact { TicksOpen moment self.old.line self.new.line out.old.items out.new.items result }
     {
         if let Some(why) = self.closed {
             return Err(why);
@@ -90,39 +94,37 @@ impl Line {
         ticked
     }
 
-    /// Closes with a NOTIFICATION Cease.
-    pub fn cease(&mut self, subcode: u8, out: &mut Vec<u8>) -> Result<(), Closed>
-        ensures again { StaysOver self.old self.new result out.old.items out.new.items }
-        ensures exact { CeasesOpen subcode self.old self.new.closed out.old.items out.new.items result }
+    /// Closes so.
+    pub(crate) fn close(&mut self, why: Closed)
+        ensures { self.new ≡ intake self.old.side (closed_as why self.old.line) }
     {
-        if let Some(why) = self.closed {
-            return Err(why);
-        }
-        let why = refuse(CEASE, subcode, out);
         self.closed = Some(why);
-        match why {
-            Closed::Memory => Err(Closed::Memory),
-            _ => Ok(()),
-        }
     }
 
-    /// Closes for want of memory.
-    pub fn give_up(&mut self)
-        ensures { self.new ≡ out_of_memory self.old }
+    /// Which end it is.
+    pub(crate) fn side(&self) -> &Side<'a>
+        ensures { result.now ≡ self.now.side }
     {
-        self.closed = Some(Closed::Memory);
+        &self.side
+    }
+
+    /// The terms of the UPDATEs, as the other's OPEN has them; before it AS numbers have two octets.
+    pub(crate) fn terms(&self) -> Terms
+        ensures { result ≡ terms_of self.now.side.config.now self.now.side.peer self.now.line.phase.four }
+    {
+        self.side.terms(self.phase.four)
     }
 
     /// What has closed this end, if anything has.
-    pub fn closed(&self) -> Option<Closed>
-        ensures { result ≡ self.now.closed }
+    pub(crate) fn closed(&self) -> Option<Closed>
+        ensures { result ≡ self.now.line.closed }
     {
         self.closed
     }
 
     /// The state that this end is in; `Closed` from its closing on.
-    pub fn state(&self) -> State
-        ensures { result ≡ state_in self.now }
+    pub(crate) fn state(&self) -> State
+        ensures { result ≡ state_in self.now.line }
     {
         match self.closed {
             Some(_) => State::Closed,
@@ -130,23 +132,13 @@ impl Line {
         }
     }
 
-    /// Whether AS numbers have four octets.
-    pub fn four(&self) -> bool
-        ensures { result ≡ self.now.phase.four }
-    {
-        self.phase.four
-    }
-
     /// The greatest moment so far.
-    pub fn greatest(&self) -> u64
-        ensures { result ≡ self.now.times.greatest }
+    pub(crate) fn greatest(&self) -> u64
+        ensures { result ≡ self.now.line.times.greatest }
     {
         self.times.greatest
     }
 }
-
-/// The code of a NOTIFICATION Cease (RFC 4486).
-const CEASE: u8 = 6;
 
 ghost use Rattle.std.specs.Prelude.{◌≡◌, ◌<◌, ◌≤◌, None, length, IfOk};
 ghost use Rattle.fs_session.specs.{Line.{lined, closed_after, Advances, TimesTick}, Side.{machine_of}};
@@ -178,13 +170,7 @@ fn advance(
 {
     let count = match deframer.feed(piece) {
         Ok((count, _)) => count,
-        Err(fault) => {
-            let why = Closed::Fault {
-                code: fault.code,
-                subcode: fault.subcode,
-            };
-            return Err(side.close(why, out));
-        }
+        Err(fault) => return Err(side.close(Closed::from(fault), out)),
     };
     let Some(frame) = deframer.message() else {
         return Ok((count, None));
