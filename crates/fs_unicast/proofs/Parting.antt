@@ -10,7 +10,7 @@ use Rattle.fs_unicast.proofs.PlaceOrder.{place_total, lt, le, lies_in, lies_abov
 use Rattle.fs_unicast.proofs.PlaceOrder.{equal_upto, equal_back}
 use Rattle.fs_unicast.proofs.Finding.{found_each, found_passes, none_found, find_none, find_narrower, after_found, last_each, last_passes, no_last}
 use Rattle.fs_unicast.proofs.Finding.{before_last}
-use Rattle.std.specs.BTreeSet.{insert_key}
+use Rattle.{std.specs.BTreeSet.{insert_key}, fs_unicast.specs.{declared.beside.Beside.{Beside}, Turns.{AreBeside, IsPartedAround}}}
 
 pub same_is : (a b : Option ℕ) → is_same a b ≡ true → a ≡ b
 same_is None None h = refl
@@ -119,6 +119,16 @@ module _ (turns : List Place) (held : List Route) (z : Place) (path : Path) wher
         at_new : (q : Place) → place_cmp z q ≡ Equal → IsPartedAfter turns came q asn
         at_new q same = each_put (IsPartedFrom turns q asn) z path (λ t _. alike q t) (alike q z) held
             (each_weaker (IsPartedFrom turns z asn) (IsPartedFrom turns q asn) (from_equal q same) held after)
+
+-- the same, of what a call says of the routes beside the place
+pub parted_beside : (turns : List Place) (held made : List Route) (z : Place) (path : Path) (asn : Option ℕ) (beside : Beside) → AreBeside held z beside
+    → asn ≡ neighbour path.segments → made ≡ insert_entry place_cmp held z path → IsParted turns beside.paths.now.entries
+    → IsPartedAround turns beside.paths.now.entries beside.place asn → IsParted turns made
+parted_beside turns held made z path asn beside are named is parted around =
+    subst (IsParted turns) (sym is) (rw (sym are.of_routes) (rw (sym are.at_place)
+    (parted_put turns beside.paths.now.entries beside.place path parted
+    (subst (IsPartedBefore turns beside.paths.now.entries beside.place) named around.before)
+    (subst (IsPartedAfter turns beside.paths.now.entries beside.place) named around.after))))
 
 -- what a route before some place needs of the last one there, to stay parted from those behind it
 abbrev pub Fore : List Place → Option Route → Route → Type 0

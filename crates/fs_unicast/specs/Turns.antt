@@ -1,10 +1,11 @@
 -- Turns: places that part the routes of other neighbouring ASes.
+use Rattle.std.specs.Prelude.{find, option_map}
 use Rattle.std.specs.Prelude.{ℕ, ◌≡◌, ◌==◌, Bool, not, ◌&&◌, ◌||◌, true, false, Option, Some, None, List, [], ◌∷◌, if◌then◌else◌}
 use Rattle.std.specs.{Borrow.{Bor}, BTreeMap.{is_at}}
 use Rattle.std.specs.List.{AllByRecursion, list_any, list_all, Sorted.{IsStrictlySortedBy}}
 use Rattle.std.specs.{Map.{keys_of}, Option.{option_eq}, Ordering.{is_eq, is_le, is_lt}, Set.{remove_key}}
 use Rattle.fs_base.specs.declared.path.Path.{Path}
-use Rattle.fs_unicast.specs.{declared.unicast.Place.{Place}, Neighbour.{neighbour}, Unicast.{Route, place_cmp}}
+use Rattle.fs_unicast.specs.{declared.unicast.Place.{Place}, declared.beside.Beside.{Beside}, Neighbour.{neighbour}, Unicast.{Route, place_cmp}}
 
 -- the neighbouring AS that a route's path names, or None where no segment counts
 abbrev pub neighbour_of : Route → Option ℕ
@@ -84,6 +85,11 @@ IsPartedAfter turns held x asn = AllByRecursion (IsPartedFrom turns x asn) held
 abbrev pub IsPartedBefore : List Place → List Route → Place → Option ℕ → Type 0
 IsPartedBefore turns held y asn = AllByRecursion (IsPartedTo turns y asn) held
 
+-- both, for a route of this neighbouring AS at the place
+pub record IsPartedAround (turns : List Place) (held : List Route) (z : Place) (asn : Option ℕ) : Type 0 where
+  pub before : IsPartedBefore turns held z asn
+  pub after : IsPartedAfter turns held z asn
+
 -- between two routes of other neighbouring AS lies a turn
 abbrev pub IsParted : List Place → List Route → Type 0
 IsParted turns held = AllByRecursion (λ r. IsPartedAfter turns held r.0 (neighbour_of r)) held
@@ -124,3 +130,12 @@ IsLastUpto turns z (Some t) =
 -- a route of the map, as it is lent
 abbrev pub entry_now : Bor Place × Bor Path → Route
 entry_now r = (r.0.now, r.1.now)
+
+-- the routes beside a place
+pub record AreBeside (held : List Route) (z : Place) (beside : Beside) : Type 0 where
+  pub of_routes : beside.paths.now.entries ≡ held
+  pub at_place : beside.place ≡ z
+  pub before : option_map entry_now beside.before ≡ find_last (is_before z) held
+  pub next : option_map entry_now beside.next ≡ find (is_at_or_after z) held
+  pub after : option_map entry_now beside.after ≡ find (is_after z) held
+  pub ordered : IsStrictlySortedBy place_cmp (keys_of held)

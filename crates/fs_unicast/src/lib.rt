@@ -1,6 +1,7 @@
 //! The unicast routes that peers gave, and which of them is best for a prefix or for what lies under it.
 #![tactic(auto)]
 
+mod beside;
 mod key;
 mod laws;
 mod neighbour;

@@ -23,7 +23,7 @@ pub fn neighbour_as(segments: &[Segment], local_as: u32) -> u32
 
 /// The neighbouring AS that a path names: its leftmost AS; 0 where a set comes first; None where only
 /// confederation segments stand in it.
-pub fn neighbour(segments: &[Segment]) -> Option<u32>
+pub(crate) fn neighbour(segments: &[Segment]) -> Option<u32>
     ensures { result ≡ neighbour segments.now }
 {
     let first = leading(segments)?;
@@ -31,7 +31,7 @@ pub fn neighbour(segments: &[Segment]) -> Option<u32>
 }
 
 /// Whether the path has another neighbouring AS than this; each path has, where there is none.
-pub fn is_other(path: &Path, local_as: u32, asn: Option<u32>) -> bool
+pub(crate) fn is_other(path: &Path, local_as: u32, asn: Option<u32>) -> bool
     ensures { result ≡ is_other local_as asn path.now }
 {
     match asn {

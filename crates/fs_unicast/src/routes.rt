@@ -4,23 +4,21 @@ ghost use Rattle.std.specs.Prelude.{◌≡◌, ◌↔◌, [], Some, None, IfOk, 
 ghost use Rattle.std.specs.{BTreeMap.{insert_entry, is_at}, List.{list_any, Sorted.{IsStrictlySortedBy}}, Map.{remove_entry, lookup, keys_of}};
 ghost use Rattle.fs_unicast.specs.{Search.{is_other}, Unicast.{IsSwap, place_cmp, swap_at}, Turns.{is_within, IsParted}};
 
+use crate::beside::{Beside, Paths, first_from, is_alike, stands_at};
 use crate::shared::{SharedPath, has_path, share_beside};
-use crate::turns;
+use crate::turns::Turns;
 use crate::unicast::Place;
 use fs_base::Memory;
 use std::alloc::Global;
-use std::collections::{BTreeMap, BTreeSet};
 use std::marker::Model;
 
-/// The routes by their places. Between two routes of other neighbouring AS lies a turn, so a search for another
-/// neighbouring AS goes from turn to turn and not from route to route. A turn may stay where no route is left,
-/// so to take a route away takes no memory; where a call leaves one beside its place that parts no two routes, it takes
-/// that away. Routes beside one another share an equal path.
+/// The routes by their places, and the turns that part those of other neighbouring ASes. Routes beside one another share
+/// an equal path.
 #[derive(Drop)]
-pub struct Routes {
+pub(crate) struct Routes {
     alloc: Global,
-    paths: BTreeMap<Place, SharedPath>,
-    turns: BTreeSet<Place>,
+    paths: Paths,
+    turns: Turns,
 }
 
 impl Model for Routes {
@@ -32,27 +30,27 @@ impl Model for Routes {
 
     ghost view = { λ a. a.paths.entries };
 
-    ghost invariant = { λ a. AreKept a.turns.keys a.paths.entries };
+    ghost invariant = { λ a. AreKept a.turns.places.keys a.paths.entries };
 }
 
 impl Routes {
     /// No routes. Takes no memory.
-    pub fn new(alloc: Global) -> Routes
+    pub(crate) fn new(alloc: Global) -> Routes
         ensures { result ≡ [] }
     {
         Routes {
             alloc,
-            paths: BTreeMap::new(alloc),
-            turns: BTreeSet::new(alloc),
+            paths: Paths::new(alloc),
+            turns: Turns::new(alloc),
         }
     }
 
-    pub fn allocator(&self) -> Global {
+    pub(crate) fn allocator(&self) -> Global {
         self.alloc
     }
 
     /// The routes alone, for look-ups.
-    pub fn paths(&self) -> &BTreeMap<Place, SharedPath>
+    pub(crate) fn paths(&self) -> &Paths
         ensures { result.now.entries ≡ self.now }
     {
         &self.paths
@@ -60,7 +58,7 @@ impl Routes {
 
     /// Keeps the path at the place, instead of one that is there, and tells what was there, if that changes anything: not
     /// where this very path is there. Where memory is refused nothing changes.
-    pub fn put(
+    pub(crate) fn put(
         &mut self,
         place: Place,
         path: SharedPath,
@@ -73,66 +71,72 @@ impl Routes {
         match keep(&mut self.paths, &mut self.turns, place, path) {
             Ok(told) => Ok(told),
             Err(refused) => {
-                turns::tidy(&self.paths, &mut self.turns, &place);
+                self.turns.tidy(&self.paths, &place);
                 Err(refused)
             }
         }
     }
 
     /// Takes the route at the place away, if there is one, and gives its path.
-    pub fn remove(&mut self, place: &Place) -> Option<SharedPath>
+    pub(crate) fn remove(&mut self, place: &Place) -> Option<SharedPath>
         ensures removed { self.new ≡ remove_entry (is_at (place_cmp place.now)) self.old }
         ensures held { result ≡ lookup (is_at (place_cmp place.now)) self.old }
         ensures swap { IfSome result (λ path. IsSwap (swap_at place.now (Some path)) self.old self.new) }
     {
         let gone = self.paths.remove(place)?;
-        turns::close_gap(&self.paths, &mut self.turns, place, &gone);
+        self.turns.close_gap(&self.paths, place, &gone);
         Some(gone)
     }
 
     /// Whether a route from `low` on and before `high` has another neighbouring AS than `asn`; of None, whether
     /// there is any route.
-    pub fn others_within(&self, low: Place, high: &Place, local_as: u32, asn: Option<u32>) -> bool
+    pub(crate) fn others_within(
+        &self,
+        low: Place,
+        high: &Place,
+        local_as: u32,
+        asn: Option<u32>,
+    ) -> bool
         ensures { result ≡ list_any (λ r. is_within low high.now r.0 && is_other local_as asn r.1) self.now }
     {
-        turns::others_within(&self.paths, &self.turns, low, high, local_as, asn)
+        self.turns
+            .others_within(&self.paths, low, high, local_as, asn)
     }
 }
 
 /// Keeps the path at the place, with turns beside it, and tells what was there, if that changes anything. Turns that were
 /// put before memory is refused stay.
 fn keep(
-    paths: &mut BTreeMap<Place, SharedPath>,
-    turns: &mut BTreeSet<Place>,
+    paths: &mut Paths,
+    turns: &mut Turns,
     place: Place,
     path: SharedPath,
 ) -> Result<Option<Option<SharedPath>>, Memory>
-    requires { IsParted turns.old.keys paths.old.entries }
+    requires { IsParted turns.old.places.keys paths.old.entries }
     ensures ok { OnOk result (paths.new.entries ≡ insert_entry place_cmp paths.old.entries place path) }
     ensures told { IfOk result (λ told. (told ≡ None) ↔ paths.new.entries ≡ paths.old.entries) }
     ensures swap { IfOk result
         (λ told. IfSome told (λ old. IsSwap (swap_at place old) paths.old.entries paths.new.entries)) }
     ensures err { OnErr result (paths.new.entries ≡ paths.old.entries) }
-    ensures parted { IsParted turns.new.keys paths.new.entries }
+    ensures parted { IsParted turns.new.places.keys paths.new.entries }
     ensures ordered { IsStrictlySortedBy place_cmp (keys_of paths.new.entries) }
 {
     let asn = path.neighbour();
-    let next = turns::first_from(paths, &place);
-    let taken = turns::stands_at(next, &place);
+    let next = first_from(paths, &place);
+    let taken = stands_at(next, &place);
     if taken && has_path(next, &path) {
         return Ok(None);
     }
-    if taken && turns::is_alike(next, asn) {
+    if taken && is_alike(next, asn) {
         let old = paths.insert(place, path)?;
         return Ok(Some(old));
     }
-    let after = turns::first_behind(paths, &place, next);
-    let before = turns::last_before(paths, &place);
-    let shared = share_beside(path, before, after)?;
-    let idle = turns::part(paths, turns, &place, before, next, after, asn)?;
+    let beside = Beside::of(paths, place, next);
+    let shared = share_beside(path, beside.before, beside.after)?;
+    let idle = turns.part(&beside, asn)?;
     let old = paths.insert(place, shared)?;
     if idle {
-        turns::tidy(paths, turns, &place);
+        turns.tidy(paths, &place);
     }
     Ok(Some(old))
 }

@@ -7,6 +7,7 @@ ghost use Rattle.fs_unicast.specs.Search.{best_match_of, neighbour_of, others_un
 ghost use Rattle.fs_unicast.specs.{Preference.{better, best_of, peer_path}, Unicast.{Route, IsSwap, place_cmp, path_at}};
 ghost use Rattle.fs_base.specs.Search.{IsFirstFrom};
 
+use crate::beside::Paths;
 use crate::key::PrefixKey;
 use crate::neighbour::{is_other, neighbour_as};
 use crate::preference::Held;
@@ -14,16 +15,11 @@ use crate::routes::Routes;
 use crate::shared::SharedPath;
 use crate::unicast::{Place, Swap};
 use fs_base::{Path, Prefix};
-use std::collections::BTreeMap;
 use std::collections::btree_map::Range;
 use std::ops::Bound;
 
 /// The path of the peer's route at the prefix, if it holds one.
-pub fn path_at<'a>(
-    routes: &'a BTreeMap<Place, SharedPath>,
-    peer: u16,
-    prefix: &Prefix,
-) -> Option<&'a Path>
+pub(crate) fn path_at<'a>(routes: &'a Paths, peer: u16, prefix: &Prefix) -> Option<&'a Path>
     ensures { option_copied result ≡ path_at peer prefix.now routes.now.entries }
 {
     let place = Place {
@@ -35,7 +31,7 @@ pub fn path_at<'a>(
 }
 
 /// The most preferred route at the prefix.
-pub fn best_at<'a>(routes: &'a BTreeMap<Place, SharedPath>, prefix: &Prefix) -> Option<Held<'a>>
+pub(crate) fn best_at<'a>(routes: &'a Paths, prefix: &Prefix) -> Option<Held<'a>>
     ensures { option_map peer_path result ≡ best_at routes.now.entries prefix.now }
 {
     let key = PrefixKey::of(prefix);
@@ -71,8 +67,8 @@ fn best_among<'a>(
 }
 
 /// The most preferred route at the swap's prefix before the swap, after which these are the routes, and now.
-pub fn best_before_and_now<'a>(
-    routes: &'a BTreeMap<Place, SharedPath>,
+pub(crate) fn best_before_and_now<'a>(
+    routes: &'a Paths,
     swap: &'a Swap,
 ) -> (Option<Held<'a>>, Option<Held<'a>>)
     ensures before { (earlier : List Route) → IsSwap swap.now earlier routes.now.entries
@@ -133,10 +129,7 @@ fn best_of_both<'a>(
 }
 
 /// The first prefix in order, from `low` on, that has a route, and the most preferred route there.
-fn best_from<'a>(
-    routes: &'a BTreeMap<Place, SharedPath>,
-    low: &Prefix,
-) -> Option<(Prefix, Option<Held<'a>>)>
+fn best_from<'a>(routes: &'a Paths, low: &Prefix) -> Option<(Prefix, Option<Held<'a>>)>
     ensures first { IsFirstFrom (λ r. r.0.prefix) routes.now.entries low.now (option_map (λ f. f.0) result) }
     ensures best { IfSome result (λ f. option_map peer_path f.1 ≡ best_at routes.now.entries f.0) }
 {
@@ -173,7 +166,7 @@ fn better<'a>(best: Option<Held<'a>>, route: Held<'a>) -> Held<'a>
 /// under this prefix has another neighbouring AS than that one; without it, whether there is any. Mostly nothing lies
 /// under the prefix, which the first route from there on tells: a cover, if it is one, and else a place to go on from.
 /// Where one lies under the prefix, it is asked first.
-pub fn best_and_others<'a>(
+pub(crate) fn best_and_others<'a>(
     routes: &'a Routes,
     prefix: &Prefix,
     local_as: u32,
@@ -212,7 +205,7 @@ fn neighbour_of(route: Option<Held<'_>>, local_as: u32) -> Option<u32>
 }
 
 /// The most preferred route at the longest prefix that covers this one and has a route.
-pub fn best_match<'a>(routes: &'a BTreeMap<Place, SharedPath>, prefix: &Prefix) -> Option<Held<'a>>
+pub(crate) fn best_match<'a>(routes: &'a Paths, prefix: &Prefix) -> Option<Held<'a>>
     ensures { option_map peer_path result ≡ best_match_of routes.now.entries prefix.now }
 {
     best_over(routes, prefix, prefix)
@@ -220,11 +213,7 @@ pub fn best_match<'a>(routes: &'a BTreeMap<Place, SharedPath>, prefix: &Prefix) 
 
 /// As `best_match`, where each prefix that covers this one and has a route covers `low` too. Where the first from there
 /// on doesn't cover this one, each that does covers what the two have in common: so the search goes on from there.
-fn best_over<'a>(
-    routes: &'a BTreeMap<Place, SharedPath>,
-    prefix: &Prefix,
-    low: &Prefix,
-) -> Option<Held<'a>>
+fn best_over<'a>(routes: &'a Paths, prefix: &Prefix, low: &Prefix) -> Option<Held<'a>>
     requires { AreCoversOver routes.now.entries prefix.now low.now }
     ensures { option_map peer_path result ≡ best_match_of routes.now.entries prefix.now }
 {
@@ -244,7 +233,12 @@ fn best_over<'a>(
 }
 
 /// Whether a route strictly under the prefix has another neighbouring AS.
-pub fn others_under(routes: &Routes, prefix: &Prefix, local_as: u32, asn: Option<u32>) -> bool
+pub(crate) fn others_under(
+    routes: &Routes,
+    prefix: &Prefix,
+    local_as: u32,
+    asn: Option<u32>,
+) -> bool
     ensures { result ≡ others_under routes.now prefix.now local_as asn }
 {
     let low = Place {
@@ -289,11 +283,7 @@ fn is_other_route(route: Option<Held<'_>>, local_as: u32, asn: Option<u32>) -> b
 }
 
 /// The first prefix in order, from `from` on or from the start, at which the peer holds a route.
-pub fn held_by(
-    routes: &BTreeMap<Place, SharedPath>,
-    peer: u16,
-    from: Option<&Prefix>,
-) -> Option<Prefix>
+pub(crate) fn held_by(routes: &Paths, peer: u16, from: Option<&Prefix>) -> Option<Prefix>
     ensures first { result ≡ held_by routes.now.entries peer (option_copied from.entry) }
     ensures ordered { IsStrictlySortedBy place_cmp (keys_of routes.now.entries) }
 {

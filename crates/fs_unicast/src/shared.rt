@@ -3,8 +3,8 @@
 ghost use Rattle.std.specs.Prelude.{◌≡◌, ◌↔◌, Some, IfOk, IfSome, IsTrue, option_map};
 ghost use Rattle.fs_unicast.specs.{Neighbour.{neighbour}, Turns.{entry_now}};
 
+use crate::beside::Lent;
 use crate::neighbour::neighbour;
-use crate::unicast::Place;
 use fs_base::{Memory, Path, Segment};
 use std::alloc::Global;
 use std::marker::Model;
@@ -64,10 +64,10 @@ impl SharedPath {
 }
 
 /// The path as one of the routes beside it has it, else as it is.
-pub fn share_beside(
+pub(crate) fn share_beside(
     path: SharedPath,
-    before: Option<(&Place, &SharedPath)>,
-    after: Option<(&Place, &SharedPath)>,
+    before: Option<Lent<'_>>,
+    after: Option<Lent<'_>>,
 ) -> Result<SharedPath, Memory>
     ensures { IfOk result (λ shared. shared ≡ path) }
 {
@@ -81,10 +81,7 @@ pub fn share_beside(
 }
 
 /// The route's path, if it is this one.
-fn same_path<'a>(
-    route: Option<(&'a Place, &'a SharedPath)>,
-    path: &SharedPath,
-) -> Option<&'a SharedPath>
+fn same_path<'a>(route: Option<Lent<'a>>, path: &SharedPath) -> Option<&'a SharedPath>
     ensures { IfSome result (λ held. held.now ≡ path.now) }
 {
     match route {
@@ -94,7 +91,7 @@ fn same_path<'a>(
 }
 
 /// Whether there is a route, and it has this path.
-pub fn has_path(route: Option<(&Place, &SharedPath)>, path: &SharedPath) -> bool
+pub(crate) fn has_path(route: Option<Lent<'_>>, path: &SharedPath) -> bool
     ensures { IsTrue result ↔ option_map (λ r. r.1) (option_map entry_now route.entry) ≡ Some path.now }
 {
     match route {

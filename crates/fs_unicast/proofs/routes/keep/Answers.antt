@@ -1,6 +1,5 @@
-use Rattle.fs_unicast.proofs.Words.{inl, inr, ◌∙◌, sym, ap, subst, true≢false, option_map, insert_entry, place_cmp, IsParted, IsPartedAfter}
-use Rattle.fs_unicast.proofs.Words.{IsPartedBefore, entry_now, is_alike}
-use Rattle.fs_unicast.proofs.{Parting.{put_again, put_changes, parted_put, parted_replaced}, Swaps.{swap_put}}
+use Rattle.fs_unicast.proofs.Words.{inl, inr, ◌∙◌, sym, ap, subst, true≢false, option_map, insert_entry, place_cmp, IsParted, entry_now, is_alike}
+use Rattle.fs_unicast.proofs.{Parting.{put_again, put_changes, parted_beside, parted_replaced}, Swaps.{swap_put}}
 use Rattle.fs_unicast.proofs.routes.keep.Goals.{else-taken-via-then-taken+else-has_path, else-taken-via-else-taken, then-idle, else-idle}
 use Rattle.fs_unicast.proofs.routes.keep.Goals as goal
 
@@ -13,8 +12,8 @@ returns-then-has_path-clause-ok c = let held = c.args.paths.now.entries in let n
 -- A path of the same neighbouring AS was there.
 pub returns-then-is_alike-clause-parted : goal.returns-then-is_alike-clause-parted
 returns-then-is_alike-clause-parted c = let held = c.args.paths.now.entries in let next = c.first_from-next.result in let z = c.args.place in
-    subst (IsParted c.args.turns.now.keys) (sym c.in_ok-old.ensures.entries)
-    (parted_replaced c.args.turns.now.keys held z c.args.path (option_map entry_now next) (sym c.first_from-next.ensures.found)
+    subst (IsParted c.args.turns.now.places.keys) (sym c.in_ok-old.ensures.entries)
+    (parted_replaced c.args.turns.now.places.keys held z c.args.path (option_map entry_now next) (sym c.first_from-next.ensures.found)
     (sym c.stands_at-taken.ensures ∙ c.if-taken-2.true)
     (ap (λ a. is_alike a (option_map entry_now next)) (sym c.neighbour-asn.ensures) ∙ sym c.is_alike.ensures ∙ c.if-is_alike.true) c.requires)
 
@@ -47,18 +46,16 @@ returns-clause-told c = let held = c.args.paths.now.entries in let next = c.firs
 
 -- Another path comes, with its turns.
 pub tidy-requires : goal.tidy-requires
-tidy-requires c = let held = c.args.paths.now.entries in let z = c.args.place in
-    subst (IsParted c.part.new.turns.keys) (sym (c.in_ok-old-2.ensures.entries ∙ ap (insert_entry place_cmp held z) c.in_ok-shared.ensures))
-    (parted_put c.part.new.turns.keys held z c.args.path c.in_ok-idle.ensures.parted
-    (subst (IsPartedBefore c.part.new.turns.keys held z) c.neighbour-asn.ensures c.in_ok-idle.ensures.before)
-    (subst (IsPartedAfter c.part.new.turns.keys held z) c.neighbour-asn.ensures c.in_ok-idle.ensures.after))
+tidy-requires c = parted_beside c.part.new.self.places.keys c.args.paths.now.entries c.insert-2.new.self.entries c.args.place c.args.path
+    c.neighbour-asn.result c.of-beside.result c.of-beside.ensures c.neighbour-asn.ensures
+    (c.in_ok-old-2.ensures.entries ∙ ap (insert_entry place_cmp c.args.paths.now.entries c.args.place) c.in_ok-shared.ensures)
+    c.in_ok-idle.ensures.parted c.in_ok-idle.ensures.around
 
 pub returns-clause-parted : goal.returns-clause-parted
-returns-clause-parted c = let held = c.args.paths.now.entries in let z = c.args.place in elim c.if-idle.branch [
+returns-clause-parted c = elim c.if-idle.branch [
   | then-idle w ↦ rw w.turns-is w.tidy.ensures
-  | else-idle w ↦ rw w.turns-is
-      (subst (IsParted c.part.new.turns.keys) (sym (c.in_ok-old-2.ensures.entries ∙ ap (insert_entry place_cmp held z) c.in_ok-shared.ensures))
-      (parted_put c.part.new.turns.keys held z c.args.path c.in_ok-idle.ensures.parted
-      (subst (IsPartedBefore c.part.new.turns.keys held z) c.neighbour-asn.ensures c.in_ok-idle.ensures.before)
-      (subst (IsPartedAfter c.part.new.turns.keys held z) c.neighbour-asn.ensures c.in_ok-idle.ensures.after)))
+  | else-idle w ↦ rw w.turns-is (parted_beside c.part.new.self.places.keys c.args.paths.now.entries c.insert-2.new.self.entries c.args.place c.args.path
+      c.neighbour-asn.result c.of-beside.result c.of-beside.ensures c.neighbour-asn.ensures
+      (c.in_ok-old-2.ensures.entries ∙ ap (insert_entry place_cmp c.args.paths.now.entries c.args.place) c.in_ok-shared.ensures)
+      c.in_ok-idle.ensures.parted c.in_ok-idle.ensures.around)
 ]

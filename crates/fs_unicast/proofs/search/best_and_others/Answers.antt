@@ -5,16 +5,15 @@ use Rattle.fs_unicast.specs.Search.{neighbour_of}
 use Rattle.fs_unicast.proofs.search.best_and_others.Goals as goal
 
 pub returns-in_default-clause-best : goal.returns-in_default-clause-best
-returns-in_default-clause-best c =
-    no_cover c.args.prefix.now c.first_under.result c.paths-held.result.now.entries c.first_under.ensures c.in_default.ensures.first
-    ∙ ap (λ rs. best_match_of rs c.args.prefix.now) c.paths-held.ensures
+returns-in_default-clause-best c = let held = c.paths-held.result.now.entries in let d = c.args.prefix.now in
+    rw (sym c.paths-held.ensures)
+    (no_cover d c.first_under.result held c.first_under.ensures c.in_default.ensures.first)
 
 pub returns-in_default-clause-others : goal.returns-in_default-clause-others
-returns-in_default-clause-others c =
-    none_left c.args.prefix.now c.first_under.result c.paths-held.result.now.entries c.first_under.ensures c.in_default.ensures.first
-    c.args.local_as (neighbour_of c.args.local_as (best_match_of c.args.routes.now c.args.prefix.now))
-    ∙ ap (λ rs. others_under rs c.args.prefix.now c.args.local_as (neighbour_of c.args.local_as (best_match_of c.args.routes.now c.args.prefix.now)))
-    c.paths-held.ensures
+returns-in_default-clause-others c = let held = c.paths-held.result.now.entries in let d = c.args.prefix.now in
+    rw (sym c.paths-held.ensures)
+    (none_left d c.first_under.result held c.first_under.ensures c.in_default.ensures.first
+    c.args.local_as (neighbour_of c.args.local_as (best_match_of held d)))
 
 pub returns-then-covers-clause-best : goal.returns-then-covers-clause-best
 returns-then-covers-clause-best c = c.in-Some.ensures.best
@@ -24,12 +23,10 @@ returns-then-covers-clause-best c = c.in-Some.ensures.best
     ∙ ap (λ rs. best_match_of rs c.args.prefix.now) c.paths-held.ensures
 
 pub returns-then-covers-clause-others : goal.returns-then-covers-clause-others
-returns-then-covers-clause-others c =
-    none_under c.args.prefix.now c.first_under.result c.paths-held.result.now.entries c.first_under.ensures c.in-Some.first c.in-Some.ensures.first
-    (covered_before c.in-Some.first c.args.prefix.now (sym c.covers.ensures ∙ c.if-covers.true))
-    c.args.local_as (neighbour_of c.args.local_as (best_match_of c.args.routes.now c.args.prefix.now))
-    ∙ ap (λ rs. others_under rs c.args.prefix.now c.args.local_as (neighbour_of c.args.local_as (best_match_of c.args.routes.now c.args.prefix.now)))
-    c.paths-held.ensures
+returns-then-covers-clause-others c = let held = c.paths-held.result.now.entries in let d = c.args.prefix.now in
+    rw (sym c.paths-held.ensures)
+    (none_under d c.first_under.result held c.first_under.ensures c.in-Some.first c.in-Some.ensures.first
+    (covered_before c.in-Some.first d (sym c.covers.ensures ∙ c.if-covers.true)) c.args.local_as (neighbour_of c.args.local_as (best_match_of held d)))
 
 pub returns-then-covers-2-clause-others : goal.returns-then-covers-2-clause-others
 returns-then-covers-2-clause-others c = c.others_from-others.ensures
@@ -43,28 +40,24 @@ best_over-requires c = goes_over c.args.prefix.now c.first_under.result c.paths-
     (sym c.covers-2.ensures ∙ c.if-covers-2.false) c.in-Some-common.both c.in-Some-common.ensures.over.0 c.in-Some-common.ensures.longest
 
 pub returns-in-Some-common-clause-others : goal.returns-in-Some-common-clause-others
-returns-in-Some-common-clause-others c =
-    none_under c.args.prefix.now c.first_under.result c.paths-held.result.now.entries c.first_under.ensures c.in-Some.first c.in-Some.ensures.first
-    (behind c.args.prefix.now c.first_under.result c.paths-held.result.now.entries c.first_under.ensures c.in-Some.first c.in-Some.ensures.first
-    (sym c.covers-2.ensures ∙ c.if-covers-2.false))
-    c.args.local_as (neighbour_of c.args.local_as (best_match_of c.args.routes.now c.args.prefix.now))
-    ∙ ap (λ rs. others_under rs c.args.prefix.now c.args.local_as (neighbour_of c.args.local_as (best_match_of c.args.routes.now c.args.prefix.now)))
-    c.paths-held.ensures
+returns-in-Some-common-clause-others c = let held = c.paths-held.result.now.entries in let d = c.args.prefix.now in
+    rw (sym c.paths-held.ensures)
+    (none_under d c.first_under.result held c.first_under.ensures c.in-Some.first c.in-Some.ensures.first
+    (behind d c.first_under.result held c.first_under.ensures c.in-Some.first c.in-Some.ensures.first
+    (sym c.covers-2.ensures ∙ c.if-covers-2.false)) c.args.local_as (neighbour_of c.args.local_as (best_match_of held d)))
 
 pub returns-in-None-clause-best : goal.returns-in-None-clause-best
-returns-in-None-clause-best c =
-    nothing_over c.args.prefix.now c.first_under.result c.paths-held.result.now.entries c.first_under.ensures c.in-Some.first c.in-Some.ensures.first
-    (sym c.covers-2.ensures ∙ c.if-covers-2.false) (c.common.ensures.none.0 c.in-None.is)
-    ∙ ap (λ rs. best_match_of rs c.args.prefix.now) c.paths-held.ensures
+returns-in-None-clause-best c = let held = c.paths-held.result.now.entries in let d = c.args.prefix.now in
+    rw (sym c.paths-held.ensures)
+    (nothing_over d c.first_under.result held c.first_under.ensures c.in-Some.first c.in-Some.ensures.first
+    (sym c.covers-2.ensures ∙ c.if-covers-2.false) (c.common.ensures.none.0 c.in-None.is))
 
 pub returns-in-None-clause-others : goal.returns-in-None-clause-others
-returns-in-None-clause-others c =
-    none_under c.args.prefix.now c.first_under.result c.paths-held.result.now.entries c.first_under.ensures c.in-Some.first c.in-Some.ensures.first
-    (behind c.args.prefix.now c.first_under.result c.paths-held.result.now.entries c.first_under.ensures c.in-Some.first c.in-Some.ensures.first
-    (sym c.covers-2.ensures ∙ c.if-covers-2.false))
-    c.args.local_as (neighbour_of c.args.local_as (best_match_of c.args.routes.now c.args.prefix.now))
-    ∙ ap (λ rs. others_under rs c.args.prefix.now c.args.local_as (neighbour_of c.args.local_as (best_match_of c.args.routes.now c.args.prefix.now)))
-    c.paths-held.ensures
+returns-in-None-clause-others c = let held = c.paths-held.result.now.entries in let d = c.args.prefix.now in
+    rw (sym c.paths-held.ensures)
+    (none_under d c.first_under.result held c.first_under.ensures c.in-Some.first c.in-Some.ensures.first
+    (behind d c.first_under.result held c.first_under.ensures c.in-Some.first c.in-Some.ensures.first
+    (sym c.covers-2.ensures ∙ c.if-covers-2.false)) c.args.local_as (neighbour_of c.args.local_as (best_match_of held d)))
 
 pub others_from-others-requires-clause-best : goal.others_from-others-requires-clause-best
 others_from-others-requires-clause-best c = c.in-Some.ensures.best ∙ ap (λ rs. best_at rs c.in-Some.first) c.paths-held.ensures

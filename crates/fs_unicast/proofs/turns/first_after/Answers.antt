@@ -1,7 +1,0 @@
-use Rattle.std.proofs.Common.{◌∙◌}
-use Rattle.fs_unicast.proofs.{Finding.{shows_first}, Beside.{first_behind}}
-use Rattle.fs_unicast.proofs.turns.first_after.Goals as goal
-
-pub returns-clause-found : goal.returns-clause-found
-returns-clause-found c = shows_first (λ r. (r.0.now, r.1.now)) c.range.result c.next.new.self c.next.result c.next.ensures.steps
-    ∙ first_behind (λ r. r.0) c.args.paths.now.entries c.args.place.now c.range.result (c.range.ensures.between tt)
