@@ -1,7 +1,7 @@
 -- Changes of the table one after the other, up to that of an update.
 use Rattle.fs_desk.proofs.Words.{◌≡◌, ◌==◌, ◌<◌, ◌+◌, ℕ, List, [], ◌∷◌, ◌++◌, Bool, true, false, ◌||◌, Option, Some, None, Result, Ok, Err, OnOk}
-use Rattle.fs_desk.proofs.Words.{if◌then◌else◌, option_map, length, take, map, get_or, refl, ap, sym, subst, ◌∙◌, append_assoc, append-nil, is_some}
-use Rattle.fs_desk.proofs.Words.{◌⊎◌, inl, inr, list_any, option_to_list, take_more, map-append, list_any-append, or_none, Path, Prefix, Ruled, shown}
+use Rattle.fs_desk.proofs.Words.{if◌then◌else◌, option_map, length, take, map, get_or, refl, ap, sym, ◌∙◌, append_assoc, append-nil, is_some}
+use Rattle.fs_desk.proofs.Words.{◌⊎◌, inl, inr, list_any, take_more, map-append, list_any-append, or_none, Path, Prefix, Ruled, shown}
 use Rattle.fs_desk.proofs.Words.{Held, Shown, Update, unicast_in, flows_in, given_prefixes, unicast_at, flow_at, last_such, Given, is_prefix, is_rule}
 use Rattle.fs_desk.proofs.Words.{given_with, Changes, same, taken_of, given_at, rules_taken, rules_given, given_or, told, told_of}
 use Rattle.fs_desk.proofs.{Life.{any-more}, Updates.{last-more, later_of}}
@@ -117,26 +117,6 @@ rules_given_more peer path actions rules rule old mid new t u =
     given_twice o (last_such (is_rule r) rules) (if is_rule r rule then Some rule else None) path actions
     ∙ ap (λ (a : Option Ruled). given_or o a path actions) (sym (last-more (is_rule r) rules rule)))
     (changes_then peer same same (rules_given rules path actions) (rules_given (rule ∷ []) path actions) old mid new t u)
-
--- the rules of a list whose last one was taken off, and then that one
-pub rules_given_at_last : (peer : ℕ) (path : Path) (actions : List (List ℕ)) (rules all front : List Ruled) (last : Option Ruled) (rule : Ruled)
-    (old mid new : Held)
-    → all ≡ rules → all ≡ front ++ option_to_list last → last ≡ Some rule
-    → Changes peer same (rules_given front path actions) old mid → Changes peer same (rules_given (rule ∷ []) path actions) mid new
-    → Changes peer same (rules_given rules path actions) old new
-rules_given_at_last peer path actions rules all front last rule old mid new is split at t u =
-    subst (λ (given : List Ruled). Changes peer same (rules_given given path actions) old new)
-    (sym (ap (λ (o : Option Ruled). front ++ option_to_list o) at) ∙ sym split ∙ is)
-    (rules_given_more peer path actions front rule old mid new t u)
-
--- none was taken off
-pub rules_given_before : (peer : ℕ) (path : Path) (actions : List (List ℕ)) (rules all front : List Ruled) (last : Option Ruled) (old new : Held)
-    → all ≡ rules → all ≡ front ++ option_to_list last → last ≡ None
-    → Changes peer same (rules_given front path actions) old new
-    → Changes peer same (rules_given rules path actions) old new
-rules_given_before peer path actions rules all front last old new is split at t =
-    subst (λ (given : List Ruled). Changes peer same (rules_given given path actions) old new)
-    (sym (append-nil front) ∙ sym (ap (λ (o : Option Ruled). front ++ option_to_list o) at) ∙ sym split ∙ is) t
 
 joined_choice : {A : Type 0} (a b : Bool) (value before : A) → (if b then value else (if a then value else before)) ≡ (if (a || b) then value else before)
 joined_choice true true value before = refl

@@ -10,7 +10,7 @@ pub use Rattle.std.proofs.lemmas.Map.Keys.{IsDistinct-from_sorted, sorted_head, 
 pub use Rattle.std.proofs.lemmas.Map.Made.{is_some-lookup, length-from_keys}
 pub use Rattle.std.specs.BTreeMap.{BTreeMap, insert_entry, is_at}
 pub use Rattle.std.specs.Cmp.{IsEquivalence, IsTotalOrder, alike_right, eq_by_cmp_equiv, nat_cmp_total, on_total, then_total, tied_then}
-pub use Rattle.std.specs.{List.{AllByRecursion, list_any}, Map.{keys_of, remove_entry, set_value}, Option.{option_or, option_to_list}}
+pub use Rattle.std.specs.{List.{AllByRecursion, list_any}, Map.{keys_of, remove_entry, set_value}, Option.{option_or}}
 pub use Rattle.std.specs.Ordering.{is_eq, match_ordering, nat_cmp, ordering_reverse}
 pub use Rattle.std.specs.declared.cmp.Ordering.{Ordering, TheVariants.{Equal, Greater, Less}}
 unfoldable pub use Rattle.std.specs.List.{IsDistinct, Sorted.{IsStrictlySortedBy}}

@@ -7,11 +7,10 @@ ghost use Rattle.fs_desk.specs.Apply.{Applies, Announces, Changes, Withdraws, sa
 ghost use Rattle.fs_desk.specs.{Idle.{IsIdle}, Watched.{Tells}};
 
 use crate::watched::WatchedTable;
-use fs_actions::Actions;
 use fs_attrs::{PrefixList, Routes, RuleList, Update};
 use fs_base::{Memory, Path, Prefix, Steps};
-use fs_nlri::Rule;
 use fs_order::Ranked;
+use fs_rules::Given;
 use fs_unicast::SharedPath;
 use std::sync::ledger::Ledger;
 
@@ -33,10 +32,7 @@ pub fn apply<L: Ledger>(
         withdraw(table, peer, update.classic_in, update.reach, steps);
         return Ok(());
     };
-    let given = Given {
-        path,
-        actions: update.actions,
-    };
+    let given = table.given(path, update.actions)?;
     give(table, peer, update.classic_in, update.reach, given, steps)
 }
 
@@ -82,13 +78,6 @@ fn withdraw_routes<L: Ledger>(
     }
 }
 
-/// What an update gives with its routes.
-#[derive(Drop)]
-struct Given {
-    path: Path,
-    actions: Actions,
-}
-
 /// Gives the peer these prefixes, and behind them the routes, if there are any.
 fn give<L: Ledger>(
     table: &mut WatchedTable<'_>,
@@ -104,13 +93,11 @@ fn give<L: Ledger>(
     ensures told { OnOk result (Tells table.old table.new) }
     ensures idle { prefixes ++ unicast_in routes ≡ [] → flows_in routes ≡ [] → OnOk result (table.new ≡ table.old) }
 {
-    let Some(routes) = routes else {
-        return give_prefixes(table, peer, &prefixes, given.path, steps);
-    };
-    give_copies_of_path(table, peer, &prefixes, &given.path, steps)?;
+    give_prefixes(table, peer, &prefixes, &given.path, steps)?;
     match routes {
-        Routes::Unicast(_, more) => give_prefixes(table, peer, &more, given.path, steps),
-        Routes::Flow(_, rules) => give_rules(table, peer, rules, given, steps),
+        Some(Routes::Unicast(_, more)) => give_prefixes(table, peer, &more, &given.path, steps),
+        Some(Routes::Flow(_, rules)) => give_rules(table, peer, rules, given, steps),
+        None => Ok(()),
     }
 }
 
@@ -148,35 +135,16 @@ fn give_prefixes<L: Ledger>(
     table: &mut WatchedTable<'_>,
     peer: u16,
     prefixes: &PrefixList,
-    path: Path,
+    path: &SharedPath,
     steps: &mut Steps<L>,
 ) -> Result<(), Memory>
-    ensures changes { OnOk result (Changes peer (given_at prefixes.now path) same table.old.held table.new.held) }
+    ensures changes { OnOk result
+        (Changes peer (given_at prefixes.now path.now) same table.old.held table.new.held) }
     ensures prefixes { OnOk result (AllByRecursion IsPrefix prefixes.now) }
     ensures told { OnOk result (Tells table.old table.new) }
     ensures idle { prefixes.now ≡ [] → OnOk result (table.new ≡ table.old) }
 {
-    let shared = table.share(path)?;
-    give_each(table, peer, prefixes.as_slice(), &shared, steps)
-}
-
-/// Gives the peer the prefixes, if there are any, with a copy of the path.
-fn give_copies_of_path<L: Ledger>(
-    table: &mut WatchedTable<'_>,
-    peer: u16,
-    prefixes: &PrefixList,
-    path: &Path,
-    steps: &mut Steps<L>,
-) -> Result<(), Memory>
-    ensures changes { OnOk result (Changes peer (given_at prefixes.now path.now) same table.old.held table.new.held) }
-    ensures prefixes { OnOk result (AllByRecursion IsPrefix prefixes.now) }
-    ensures told { OnOk result (Tells table.old table.new) }
-    ensures idle { prefixes.now ≡ [] → OnOk result (table.new ≡ table.old) }
-{
-    if prefixes.as_slice().is_empty() {
-        return Ok(());
-    }
-    give_prefixes(table, peer, prefixes, path.copy()?, steps)
+    give_each(table, peer, prefixes.as_slice(), path, steps)
 }
 
 fn give_each<L: Ledger>(
@@ -212,7 +180,7 @@ fn withdraw_rules<L: Ledger>(
     }
 }
 
-/// Gives the peer the rules. The last one takes the path and the actions themselves: for one rule nothing is copied.
+/// Gives the peer the rules, all with one shared path and shared actions.
 fn give_rules<L: Ledger>(
     table: &mut WatchedTable<'_>,
     peer: u16,
@@ -225,30 +193,9 @@ fn give_rules<L: Ledger>(
     ensures told { OnOk result (Tells table.old table.new) }
     ensures idle { rules ≡ [] → OnOk result (table.new ≡ table.old) }
 {
-    let mut front = rules.into_vec();
-    let last = front.pop();
-    give_copies(table, peer, front, &given, steps)?;
-    match last {
-        Some(rule) => table.put_flow(peer, rule, given.path, given.actions, steps),
-        None => Ok(()),
-    }
-}
-
-/// Gives the peer the rules, each with copies of the path and of the actions.
-fn give_copies<L: Ledger>(
-    table: &mut WatchedTable<'_>,
-    peer: u16,
-    rules: Vec<Rule>,
-    given: &Given,
-    steps: &mut Steps<L>,
-) -> Result<(), Memory>
-    ensures changes { OnOk result (Changes peer same (rules_given rules.items given.now.path given.now.actions)
-        table.old.held table.new.held) }
-    ensures told { OnOk result (Tells table.old table.new) }
-    ensures idle { rules.items ≡ [] → OnOk result (table.new ≡ table.old) }
-{
-    for rule in rules {
-        table.put_flow(peer, rule, given.path.copy()?, given.actions.copy()?, steps)?;
+    let given = table.share(given)?;
+    for rule in rules.into_vec() {
+        table.put_flow(peer, rule, &given, steps)?;
     }
     Ok(())
 }

@@ -4,7 +4,7 @@ use fs_actions::Actions;
 use fs_base::{Config, Memory, Path, Prefix, Steps};
 use fs_nlri::Rule;
 use fs_order::Ranked;
-use fs_rules::{Change, Changes, Table};
+use fs_rules::{Change, Changes, Given, Table};
 use fs_unicast::SharedPath;
 use std::alloc::Global;
 use std::marker::Model;
@@ -71,11 +71,19 @@ impl<'a> WatchedTable<'a> {
         self.table.held_by(peer)
     }
 
-    /// The path as many routes may share it.
-    pub(crate) fn share(&self, path: Path) -> Result<SharedPath, Memory>
-        ensures { IfOk result (λ shared. shared ≡ path) }
+    /// The path and the actions as the routes of one update share them.
+    pub(crate) fn given(&self, path: Path, actions: Actions) -> Result<Given, Memory>
+        ensures { IfOk result (λ given. given ≡ record { path = path; actions = actions }) }
     {
-        SharedPath::new(self.alloc, path)
+        Given::new(self.alloc, path, actions)
+    }
+
+    /// The path and the actions, each as the flow routes that came last share it where it is equal.
+    pub(crate) fn share(&mut self, given: Given) -> Result<Given, Memory>
+        ensures given { IfOk result (λ shared. shared ≡ given) }
+        ensures stays { self.new ≡ self.old }
+    {
+        self.table.share(given)
     }
 
     /// Keeps the path as the peer's unicast route at the prefix.
@@ -114,16 +122,16 @@ impl<'a> WatchedTable<'a> {
         &mut self,
         peer: u16,
         rule: Rule,
-        path: Path,
-        actions: Actions,
+        given: &Given,
         steps: &mut Steps<L>,
     ) -> Result<(), Memory>
-        ensures ok { OnOk result (self.new.held ≡ with_flow peer rule path actions self.old.held) }
+        ensures ok { OnOk result
+            (self.new.held ≡ with_flow peer rule given.now.path given.now.actions self.old.held) }
         ensures told { OnOk result (Tells self.old self.new) }
     {
         self.changes.make_room()?;
         self.changes.note(Change::of(&rule));
-        self.table.put_flow(peer, rule, path, actions, steps)
+        self.table.put_shared(peer, rule, given, steps)
     }
 
     /// Takes the peer's route of the rule away.

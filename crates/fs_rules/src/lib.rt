@@ -3,7 +3,7 @@
 
 mod blocks;
 mod counts;
-mod latest;
+mod given;
 mod lent;
 mod lists;
 mod reading;
@@ -11,5 +11,6 @@ mod rivals;
 mod table;
 
 pub use fs_flows::{Change, Changes, SharedActions, SharedFlow};
+pub use given::Given;
 pub use lent::{Admitted, HeldFlow, LentRule};
 pub use table::Table;

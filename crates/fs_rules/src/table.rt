@@ -12,7 +12,7 @@ ghost use Rattle.fs_rules.specs.Lent.{listed, shown_admitted, shown_held, shown_
 ghost use Rattle.fs_rules.specs.{Quiet.{StayThroughout, ValiditiesStay}, Reading.{AreTold}, Walk.{next_match}, Counts.{AreAmong}};
 
 use crate::counts::Counts;
-use crate::latest::Latest;
+use crate::given::Given;
 use crate::lent::{Admitted, HeldFlow, LentRule, OfKept};
 use crate::reading::{self, push_admitted, push_admitted_to, push_held};
 use fs_actions::Actions;
@@ -36,7 +36,7 @@ pub struct Table<'a> {
     unicast: Unicast,
     flows: Flows,
     counts: Counts,
-    latest: Latest,
+    latest: Option<Given>,
 }
 
 impl<'a> Model for Table<'a> {
@@ -60,7 +60,7 @@ impl<'a> Table<'a> {
             unicast: Unicast::new(alloc),
             flows: Flows::new(alloc),
             counts: Counts::new(alloc),
-            latest: Latest::new(),
+            latest: None,
         }
     }
 
@@ -82,12 +82,46 @@ impl<'a> Table<'a> {
         ensures steps { steps.new ≤ steps.old + 1 }
     {
         let alloc = self.flows.allocator();
-        let (path, actions) = self.latest.share(alloc, path, actions)?;
+        let given = self.share(Given::new(alloc, path, actions)?)?;
+        self.put_shared(peer, rule, &given, steps)
+    }
+
+    /// The path and the actions, each as the flow routes of the last call share it where it is equal.
+    ///
+    /// # Errors
+    ///
+    /// `Memory` where the count of those that share it has no room for one more.
+    pub fn share(&mut self, given: Given) -> Result<Given, Memory>
+        ensures given { IfOk result (λ shared. shared ≡ given) }
+        ensures stays { self.new ≡ self.old }
+    {
+        let given = given.beside(self.latest.as_ref())?;
+        self.latest = Some(given.share()?);
+        Ok(given)
+    }
+
+    /// As [`put_flow`](Table::put_flow), of a path and actions that many routes may share.
+    pub fn put_shared<L: Ledger>(
+        &mut self,
+        peer: u16,
+        rule: Rule,
+        given: &Given,
+        steps: &mut Steps<L>,
+    ) -> Result<(), Memory>
+        ensures ok { OnOk result
+            (self.new ≡ with_flow peer rule given.now.path given.now.actions self.old) }
+        ensures elsewhere { OnOk result
+            ((touched : Ruled → Bool) → touched rule ≡ true → AdmitsElsewhere touched self.old self.new) }
+        ensures err { OnErr result (self.new ≡ self.old) }
+        ensures later { steps.old ≤ steps.new }
+        ensures steps { steps.new ≤ steps.old + 1 }
+    {
+        let alloc = self.flows.allocator();
         let route = SharedRoute {
             peer,
             rule,
-            path,
-            actions,
+            path: given.path.share()?,
+            actions: given.actions.share()?,
         };
         let validity = validate(&self.unicast, self.config, &route, steps);
         let k = Kept::new(alloc, route, validity)?;

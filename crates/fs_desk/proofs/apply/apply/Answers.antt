@@ -13,7 +13,7 @@ returns-clause-applied g c =
     on_ok c.give.result
     (told_given c.args.peer c.args.update c.in-Some.path c.args.table.now.held c.withdraw.new.table.held c.give.new.table.held there.0 there.1
     c.withdraw.ensures.changes)
-    c.give.ensures.changes
+    (rw (c.in_ok-given.ensures) at c.give.ensures.changes)
 
 pub returns-in_default-clause-told : goal.returns-in_default-clause-told
 returns-in_default-clause-told g c =

@@ -1,22 +1,21 @@
-use Rattle.fs_desk.proofs.{Telling.{tells_then}, ChangesJoined.{on_ok, rules_given_at_last, rules_given_before}, TableChanges.{rule_given_to}}
+use Rattle.fs_desk.proofs.{Idle.{more_than_none}, Telling.{tells_none, tells_then}, ChangesJoined.{changes_none, rules_given_more}}
+use Rattle.fs_desk.proofs.TableChanges.{rule_given_to}
 use Rattle.fs_desk.proofs.apply.give_rules.Goals as goal
 
-pub returns-in-Some-clause-changes : goal.returns-in-Some-clause-changes
-returns-in-Some-clause-changes g c =
-    on_ok c.put_flow.result
-    (λ put. rules_given_at_last c.args.peer c.args.given.path c.args.given.actions _ _ c.pop-last.new.self.items _ c.in-Some.rule
-    c.args.table.now.held c.give_copies.new.table.held c.put_flow.new.self.held
-    c.into_vec-front.ensures c.pop-last.ensures.items c.in-Some.is c.in_ok-give_copies.ensures.changes
-    (rule_given_to (record { peer = c.args.peer; rule = c.in-Some.rule; path = c.args.given.path; actions = c.args.given.actions })
-    c.give_copies.new.table.held c.put_flow.new.self.held put))
-    c.put_flow.ensures.ok
+pub loop-rule-preserved : goal.loop-rule-preserved
+loop-rule-preserved g c = record {
+  changes =
+      rules_given_more c.args.peer c.in_ok-given.given.path c.in_ok-given.given.actions c.loop-rule.yielded c.in-Some.rule c.args.table.now.held
+      c.loop-rule.table.held c.put_flow.new.self.held c.loop-rule.invariant.changes
+      (rule_given_to (record { peer = c.args.peer; rule = c.in-Some.rule; path = c.in_ok-given.given.path; actions = c.in_ok-given.given.actions })
+      c.loop-rule.table.held c.put_flow.new.self.held c.in_ok-put_flow.ensures.ok);
+  told = tells_then c.args.table.now c.loop-rule.table c.put_flow.new.self c.loop-rule.invariant.told c.in_ok-put_flow.ensures.told;
+  idle = λ none. absurd (more_than_none c.loop-rule.yielded c.in-Some.rule none);
+}
 
-pub returns-in-Some-clause-told : goal.returns-in-Some-clause-told
-returns-in-Some-clause-told g c =
-    on_ok c.put_flow.result (λ told. tells_then c.args.table.now c.give_copies.new.table c.put_flow.new.self c.in_ok-give_copies.ensures.told told)
-    c.put_flow.ensures.told
-
-pub returns-in-None-clause-changes : goal.returns-in-None-clause-changes
-returns-in-None-clause-changes g c =
-    rules_given_before c.args.peer c.args.given.path c.args.given.actions _ _ c.pop-last.new.self.items _ c.args.table.now.held c.give_copies.new.table.held
-    c.into_vec-front.ensures c.pop-last.ensures.items c.in-None.is c.in_ok-give_copies.ensures.changes
+pub loop-rule-init : goal.loop-rule-init
+loop-rule-init g c = record {
+  changes = rw (c.in_ok-given.ensures.stays) (changes_none c.args.peer c.args.table.now.held);
+  told = rw (c.in_ok-given.ensures.stays) (tells_none c.args.table.now);
+  idle = λ none. c.in_ok-given.ensures.stays;
+}

@@ -2,10 +2,10 @@ use Rattle.fs_rules.proofs.Words.{ℕ, List, ◌≡◌, ap, ap₂, sym, subst, �
 use Rattle.fs_rules.proofs.Words.{has_key, keeps-put, routes-put, any-routes, IsRule}
 use Rattle.fs_rules.proofs.{Chosen.{flows_changed}, Counting.{counted_as, counted_put_flow}, Elsewhere.{put_elsewhere}}
 use Rattle.fs_rules.proofs.Prefixes.{held_still, kept_still}
-use Rattle.fs_rules.proofs.table.Table.put_flow.Goals as goal
+use Rattle.fs_rules.proofs.table.Table.put_shared.Goals as goal
 
-pub invariant_of-self-in_err-reserve : goal.invariant_of-self-in_err-reserve
-invariant_of-self-in_err-reserve g c =
+pub invariant_of-self : goal.invariant_of-self
+invariant_of-self g c =
     kept_still c.self.inside.config.now c.self.inside.unicast c.self.inside.flows c.self.inside.counts c.reserve.new.self c.reserve.ensures.same
     c.reserve.ensures.stays c.self.invariant
 
@@ -37,8 +37,8 @@ pub returns-clause-ok : goal.returns-clause-ok
 returns-clause-ok g c = flows_changed (put_route _) c.self.inside.config.now c.self.inside.unicast c.self.inside.flows c.put.new.self _ c.self.view_is
     (ap routes_of (subst (λ (k : Kept). c.put.new.self ≡ put_kept k c.self.inside.flows) c.in_ok-k.ensures c.in_ok-is_new.ensures.ok)
     ∙ routes-put _ c.self.inside.flows)
-    ∙ ap₂ (λ (path : Path) (actions : List (List ℕ)). with_flow c.args.peer c.args.rule path actions c.args.self.now) c.in_ok-path.ensures.path
-    c.in_ok-path.ensures.actions
+    ∙ ap₂ (λ (path : Path) (actions : List (List ℕ)). with_flow c.args.peer c.args.rule path actions c.args.self.now) c.in_ok-share.ensures
+    c.in_ok-share-2.ensures
 
 pub returns-clause-elsewhere : goal.returns-clause-elsewhere
 returns-clause-elsewhere g c =

@@ -1,5 +1,5 @@
 use Rattle.fs_desk.proofs.Words.{◌≡◌, [], Changes, same, rules_given, Tells}
-use Rattle.fs_desk.proofs.apply.give_copies.Given as goal
+use Rattle.fs_desk.proofs.apply.give_rules.Given as goal
 
 abbrev pub invariant-loop-rule : goal.invariant-loop-rule
 invariant-loop-rule g l = record {
