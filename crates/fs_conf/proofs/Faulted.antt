@@ -8,13 +8,13 @@ use Rattle.fs_conf.proofs.Words.{and_then_some, map_some, same_Some}
 use Rattle.fs_conf.proofs.Found.{cond_within}
 use Rattle.std.specs.{Option.{option_or}, Prelude.{◌↔◌}}
 use Rattle.toml.specs.Data.{member}
-use Rattle.fs_conf.specs.Config.{config_of}
+use Rattle.fs_conf.specs.{Config.{config_of}, Document.{each_item}}
 use Rattle.fs_conf.specs.declared.fault.ConfigFault.{ConfigFault, TheVariants.{Key, Memory as NoMemory, Text as NoDocument}}
 use Rattle.fs_conf.specs.declared.fault.KeyReason.TheVariants.{Unknown, Value}
 use Rattle.fs_conf.specs.declared.faults.Kind.{Kind, TheVariants.{Array, Boolean, Integer, Text}}
-use Rattle.fs_conf.specs.Fault.{Check, IsFirstFault, KeyFault, KeyUnfit, array_fault, array_in, config_fault, document_checks, each_peer, first_again}
-use Rattle.fs_conf.specs.Fault.{first_of, first_other, item_count, items_fault, judged, keys_of_peer, number_of_peer, numbers_of_peers, own_fault}
-use Rattle.fs_conf.specs.Fault.{peer_checks, peer_fault, peers_fault, reason_at, repeated, unfit, unknown}
+use Rattle.fs_conf.specs.Fault.{Check, IsFirstFault, KeyFault, KeyUnfit, array_fault, array_in, config_fault, document_checks, each_fault, first_again}
+use Rattle.fs_conf.specs.Fault.{first_of, first_other, item_count, item_fault, items_fault, judged, number_of_peer, numbers_of_peers, own_fault}
+use Rattle.fs_conf.specs.Fault.{peer_checks, peer_fault, peers_fault, reason_at, repeated, table_fault, unfit, unknown}
 use Rattle.fs_conf.specs.Laws.{NamesTheFault}
 
 -- nothing was found
@@ -93,22 +93,30 @@ peer_clear members =
     then_some _ (as_number (get_member (codes "as") members)) _ λ asn.
     then_some _ (limit_in (get_member (codes "max_routes") members)) true λ limit. refl))
 
+-- of the items of an array
+
+pub item_clear : {A : Type 0} (key : List ℕ) (check : Check) (read : Members → Option A)
+    → ((members : Members) → is_clear (check members) ≡ is_some (read members))
+    → (place : ℕ) (table : Option Members) → is_clear (table_fault key check place table) ≡ is_some (option_and_then read table)
+item_clear key check read h place None = refl
+item_clear key check read h place (Some members) =
+    clear_map (λ (found : KeyUnfit). item_fault key place (Some found.key) found.reason) (check members) ∙ h members
+
+pub each_clear : {A : Type 0} (judge : ℕ → Data → Option KeyFault) (read : Data → Option A)
+    → ((place : ℕ) (value : Data) → is_clear (judge place value) ≡ is_some (read value))
+    → (place : ℕ) (items : Items) → is_clear (each_fault judge place items) ≡ is_some (each_item read items)
+each_clear judge read h place no_items = refl
+each_clear {A} judge read h place (item value rest) =
+    clear_or (judge place value) (each_fault judge (suc place) rest)
+    ∙ rw (h place value, each_clear judge read h (suc place) rest) refl
+    ∙ sym (then_some (λ (found : A). option_map (λ more. found ∷ more) (each_item read rest)) (read value) (is_some (each_item read rest))
+    (λ found. some_map (λ (more : List A). found ∷ more) (each_item read rest)))
+
 -- of the peers
 
-keys_clear : (place : ℕ) (value : Data) → is_clear (keys_of_peer place (as_table value)) ≡ is_some (peer_of_data value)
-keys_clear place value = by (as_table value)
-  where
-    by : (table : Option Members) → is_clear (keys_of_peer place table) ≡ is_some (option_and_then peer_of_table table)
-    by None = refl
-    by (Some members) = clear_map (λ (found : KeyUnfit). peer_fault place (Some found.key) found.reason) (first_of peer_checks members) ∙ peer_clear members
-
-each_clear : (place : ℕ) (items : Items) → is_clear (each_peer place items) ≡ is_some (peers_of_items items)
-each_clear place no_items = refl
-each_clear place (item value rest) =
-    clear_or (keys_of_peer place (as_table value)) (each_peer (suc place) rest)
-    ∙ rw (keys_clear place value, each_clear (suc place) rest) refl
-    ∙ sym (then_some (λ (found : Peer). option_map (λ more. found ∷ more) (peers_of_items rest)) (peer_of_data value) (is_some (peers_of_items rest))
-    (λ found. some_map (λ (more : List Peer). found ∷ more) (peers_of_items rest)))
+each_peer_clear : (items : Items) → is_clear (each_fault peer_fault 1 items) ≡ is_some (peers_of_items items)
+each_peer_clear items =
+    each_clear peer_fault peer_of_data (λ place value. item_clear (codes "peer") (first_of peer_checks) peer_of_table peer_clear place (as_table value)) 1 items
 
 -- the peers that the items are, where each is one
 
@@ -202,15 +210,15 @@ items_by : (items : Items) (found : Option (List Peer)) → peers_of_items items
     → is_clear (items_fault items) ≡ is_some (option_and_then (kept_if are_peers) found)
 items_by items None e = by (nat_le 1 (item_count items) && nat_le (item_count items) 1024)
   where
-    by : (c : Bool) → is_clear (if c then option_or (each_peer 1 items) (repeated items) else Some (own_fault (unfit (codes "peer") Value))) ≡ false
-    by true = clear_or (each_peer 1 items) (repeated items) ∙ rw (each_clear 1 items, e) refl
+    by : (c : Bool) → is_clear (if c then option_or (each_fault peer_fault 1 items) (repeated items) else Some (own_fault (unfit (codes "peer") Value))) ≡ false
+    by true = clear_or (each_fault peer_fault 1 items) (repeated items) ∙ rw (each_peer_clear items, e) refl
     by false = refl
 items_by items (Some peers) e =
     by (nat_le 1 (item_count items) && nat_le (item_count items) 1024) ∙ rw ((peers_are items peers e).0) refl ∙ sym (some_kept (are_peers peers) peers)
   where
-    by : (c : Bool) → is_clear (if c then option_or (each_peer 1 items) (repeated items) else Some (own_fault (unfit (codes "peer") Value)))
+    by : (c : Bool) → is_clear (if c then option_or (each_fault peer_fault 1 items) (repeated items) else Some (own_fault (unfit (codes "peer") Value)))
         ≡ (c && are_distinct peers)
-    by true = clear_or (each_peer 1 items) (repeated items) ∙ rw (each_clear 1 items, e, repeated_clear items peers e) refl
+    by true = clear_or (each_fault peer_fault 1 items) (repeated items) ∙ rw (each_peer_clear items, e, repeated_clear items peers e) refl
     by false = refl
 
 peers_clear : (members : Members) → is_clear (peers_fault members) ≡ is_some (peers_in (get_member (codes "peer") members))

@@ -1,36 +1,38 @@
 -- Loops that look for the first fault.
 use Rattle.fs_conf.proofs.Words.{◌≡◌, ℕ, suc, ◌+◌, ◌<◌, ◌≤◌, ◌==◌, Bool, true, false, if◌then◌else◌, List, [], ◌∷◌, ◌++◌, length, take, drop, get_or}
 use Rattle.fs_conf.proofs.Words.{Option, Some, None, refl, sym, ap, ◌∙◌, arith, list_any, bytes_eq, map, not, ◌||◌, cond, option_map, string_bytes}
-use Rattle.fs_conf.proofs.Words.{String, Global, Bor, members_view, zero, nat_le, ◌&&◌, codes, is_some, Data, Members, get_member, item, as_table}
+use Rattle.fs_conf.proofs.Words.{String, Global, Bor, members_view, zero, nat_le, ◌&&◌, codes, is_some, Data, Members, get_member, item}
 use Rattle.fs_conf.proofs.Words.{Value, view, items_view, items_view-drop}
 use Rattle.std.specs.Option.{option_or}
 use Rattle.std.specs.{Map.{keys_of}, Prelude.{find}}
 use Rattle.fs_conf.specs.{Fields.{is_named}, declared.{fault.KeyReason.TheVariants.{Value as NoValue}, faults.Kind.{Kind}}}
-use Rattle.fs_conf.specs.Fault.{KeyFault, each_peer, first_again, first_other, item_count, items_fault, judged, keys_of_peer, number_of_peer}
+use Rattle.fs_conf.specs.Fault.{KeyFault, each_fault, first_again, first_other, item_count, items_fault, judged, number_of_peer, peer_fault}
 use Rattle.fs_conf.specs.Fault.{numbers_of_peers, own_fault, reason_at, repeated, unfit}
 
--- a peer without a fault, and one with a fault
+-- an item without a fault, and one with a fault
 
-peers_left : (items : List Value) (i : ℕ) (value : Value) → i < length items → value ≡ get_or items i value
-    → each_peer (suc i) (items_view (drop i items))
-    ≡ option_or (keys_of_peer (suc i) (as_table (view value))) (each_peer (suc (suc i)) (items_view (drop (i + 1) items)))
-peers_left items i value inside is =
-    ap (each_peer (suc i)) (items_view-drop items i value inside ∙ ap (λ v. item (view v) (items_view (drop (i + 1) items))) (sym is))
+faults_left : (judge : ℕ → Data → Option KeyFault) (items : List Value) (i : ℕ) (value : Value) → i < length items → value ≡ get_or items i value
+    → each_fault judge (suc i) (items_view (drop i items))
+    ≡ option_or (judge (suc i) (view value)) (each_fault judge (suc (suc i)) (items_view (drop (i + 1) items)))
+faults_left judge items i value inside is =
+    ap (each_fault judge (suc i)) (items_view-drop items i value inside ∙ ap (λ v. item (view v) (items_view (drop (i + 1) items))) (sym is))
 
-pub peer_next : (items : List Value) (i place : ℕ) (value : Value) → i < length items → value ≡ get_or items i value → place ≡ suc i
-    → None ≡ keys_of_peer place (as_table (view value))
-    → each_peer (suc i) (items_view (drop i items)) ≡ each_peer (suc place) (items_view (drop (i + 1) items))
-peer_next items i place value inside is same none =
-    let here : keys_of_peer (suc i) (as_table (view value)) ≡ None = ap (λ k. keys_of_peer k (as_table (view value))) (sym same) ∙ sym none in
-    peers_left items i value inside is
-    ∙ ap (λ (found : Option KeyFault). option_or found (each_peer (suc (suc i)) (items_view (drop (i + 1) items)))) here
-    ∙ ap (λ k. each_peer (suc k) (items_view (drop (i + 1) items))) (sym same)
+pub fault_next : (judge : ℕ → Data → Option KeyFault) (items : List Value) (i place : ℕ) (value : Value) → i < length items
+    → value ≡ get_or items i value → place ≡ suc i
+    → None ≡ judge place (view value) → each_fault judge (suc i) (items_view (drop i items)) ≡ each_fault judge (suc place) (items_view (drop (i + 1) items))
+fault_next judge items i place value inside is same none =
+    let here : judge (suc i) (view value) ≡ None = ap (λ k. judge k (view value)) (sym same) ∙ sym none in
+    faults_left judge items i value inside is
+    ∙ ap (λ (found : Option KeyFault). option_or found (each_fault judge (suc (suc i)) (items_view (drop (i + 1) items)))) here
+    ∙ ap (λ k. each_fault judge (suc k) (items_view (drop (i + 1) items))) (sym same)
 
-pub peer_found : (items : List Value) (i place : ℕ) (value : Value) (fault : KeyFault) → i < length items → value ≡ get_or items i value → place ≡ suc i
-    → Some fault ≡ keys_of_peer place (as_table (view value)) → each_peer (suc i) (items_view (drop i items)) ≡ Some fault
-peer_found items i place value fault inside is same some =
-    let here : keys_of_peer (suc i) (as_table (view value)) ≡ Some fault = ap (λ k. keys_of_peer k (as_table (view value))) (sym same) ∙ sym some in
-    peers_left items i value inside is ∙ ap (λ (found : Option KeyFault). option_or found (each_peer (suc (suc i)) (items_view (drop (i + 1) items)))) here
+pub fault_found : (judge : ℕ → Data → Option KeyFault) (items : List Value) (i place : ℕ) (value : Value) (fault : KeyFault) → i < length items
+    → value ≡ get_or items i value → place ≡ suc i
+    → Some fault ≡ judge place (view value) → each_fault judge (suc i) (items_view (drop i items)) ≡ Some fault
+fault_found judge items i place value fault inside is same some =
+    let here : judge (suc i) (view value) ≡ Some fault = ap (λ k. judge k (view value)) (sym same) ∙ sym some in
+    faults_left judge items i value inside is
+    ∙ ap (λ (found : Option KeyFault). option_or found (each_fault judge (suc (suc i)) (items_view (drop (i + 1) items)))) here
 
 -- the numbers of the peers
 
@@ -169,7 +171,7 @@ count_is [] = refl
 count_is (value ∷ items) = ap suc (count_is items)
 
 pub items_within : (items : List Value) → true ≡ (nat_le 1 (length items) && nat_le (length items) 1024)
-    → items_fault (items_view items) ≡ option_or (each_peer 1 (items_view items)) (repeated (items_view items))
+    → items_fault (items_view items) ≡ option_or (each_fault peer_fault 1 (items_view items)) (repeated (items_view items))
 items_within items e = rw (count_is items, ← e) refl
 
 pub items_without : (items : List Value) → false ≡ (nat_le 1 (length items) && nat_le (length items) 1024)

@@ -6,8 +6,8 @@ use Rattle.fs_conf.proofs.Words.{Config, Peer, Ruled, rule_cmp, Sent, kept_if, w
 use Rattle.fs_conf.proofs.Words.{file_keys, number_of, rules_in, sendable, sending_of_document, sending_of_members, actions_in, family_of, rule_keys}
 use Rattle.fs_conf.proofs.Words.{rule_written, sent_of_data, sent_of_members, sent_of_table, sent_of_text, text_keys}
 use Rattle.fs_conf.proofs.Announced.{found_numbers}
-use Rattle.fs_conf.proofs.Faulted.{clear_first, clear_judged, clear_map, clear_or, clear_reason, clear_unknown, if_keys, is_clear, no_value}
-use Rattle.fs_conf.proofs.Faulted.{none_clear, some_map, then_some}
+use Rattle.fs_conf.proofs.Faulted.{clear_first, clear_judged, clear_map, clear_or, clear_reason, clear_unknown, each_clear, if_keys, is_clear}
+use Rattle.fs_conf.proofs.Faulted.{item_clear, no_value, none_clear, then_some}
 use Rattle.fs_conf.proofs.Single.{are_fresh, fresh_more, fresh_none, not_fresh}
 use Rattle.std.specs.{Cmp.Lexicographic.{slice_cmp}, Option.{option_or}, Ordering.{match_ordering}}
 use Rattle.std.proofs.{Common.{Ordering, Less, Equal, Greater, nat_cmp}, lemmas.Map.Lookups.{exact_bytes}}
@@ -15,26 +15,16 @@ use Rattle.toml.specs.Data.{member}
 use Rattle.fs_base.specs.declared.prefix.Family.{Family}
 use Rattle.fs_speaker.specs.{declared.Sending.{Sending}, Sending.{is_sending, is_short, sender_of}, Transition.{terms_of}}
 use Rattle.fs_conf.specs.Document.{document_of}
-use Rattle.fs_conf.specs.Fault.{KeyFault, KeyUnfit, array_in, first_of, item_count, judged, own_fault, reason_at, unfit, unknown}
+use Rattle.fs_conf.specs.Fault.{KeyFault, array_in, each_fault, first_of, item_count, item_fault, judged, own_fault, reason_at, unfit, unknown}
 use Rattle.fs_conf.specs.{Laws.{NamesTheRulesFault}, Rules.{rules_of}, Worded.{sent}}
 use Rattle.fs_conf.specs.declared.fault.KeyReason.TheVariants.{Repeated, Value}
 use Rattle.fs_conf.specs.declared.fault.RulesFault.{RulesFault, TheVariants.{Key, Memory as NoMemory, Nlri, Text as NoDocument, TooLong, Word}}
 use Rattle.fs_conf.specs.declared.faults.Kind.TheVariants.{Array, Integer, Text}
-use Rattle.fs_conf.specs.RuleFault.{IsFirstRulesFault, IsOfDocument, each_fault, file_checks, first_but, first_same, item_fault, keys_of_rule}
+use Rattle.fs_conf.specs.RuleFault.{IsFirstRulesFault, IsOfDocument, file_checks, first_but, first_same}
 use Rattle.fs_conf.specs.RuleFault.{list_fault, listed, listed_fault, may_go, nlri_check, number_fault, numbers_fault, octet_checks, path_fault}
 use Rattle.fs_conf.specs.RuleFault.{rule_check, rule_fault, rule_in, rules_fault, sents_fault, text_checks, unsent}
 
 -- of each item
-
-each_clear : {A : Type 0} (judge : ℕ → Data → Option KeyFault) (read : Data → Option A)
-    → ((place : ℕ) (value : Data) → is_clear (judge place value) ≡ is_some (read value))
-    → (place : ℕ) (items : Items) → is_clear (each_fault judge place items) ≡ is_some (each_item read items)
-each_clear judge read h place no_items = refl
-each_clear {A} judge read h place (item value rest) =
-    clear_or (judge place value) (each_fault judge (suc place) rest)
-    ∙ rw (h place value, each_clear judge read h (suc place) rest) refl
-    ∙ sym (then_some (λ (found : A). option_map (λ more. found ∷ more) (each_item read rest)) (read value) (is_some (each_item read rest))
-    (λ found. some_map (λ (more : List A). found ∷ more) (each_item read rest)))
 
 counted : {A : Type 0} (read : Data → Option A) (items : Items) (all : List A) → each_item read items ≡ Some all → item_count items ≡ length all
 counted read no_items [] e = refl
@@ -169,12 +159,7 @@ table_clear members = by (get_member (codes "text") members) refl
     by None e = octets_clear members ∙ framed (keys_among rule_keys members) (keys_among text_keys members) (sent_of_members members) _ (octets_some members)
 
 rule_clear : (place : ℕ) (value : Data) → is_clear (rule_fault place value) ≡ is_some (sent_of_data value)
-rule_clear place value = by (as_table value)
-  where
-    by : (table : Option Members) → is_clear (keys_of_rule place table) ≡ is_some (option_and_then sent_of_table table)
-    by None = refl
-    by (Some members) = clear_map (λ (found : KeyUnfit). item_fault (codes "rule") place (Some found.key) found.reason) (rule_check members)
-        ∙ table_clear members
+rule_clear place value = item_clear (codes "rule") rule_check sent_of_table table_clear place (as_table value)
 
 -- of the rules
 

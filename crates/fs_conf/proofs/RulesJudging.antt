@@ -1,38 +1,13 @@
 -- Loops that look for the first fault of rules.
 use Rattle.fs_conf.proofs.Words.{◌≡◌, ℕ, suc, ◌+◌, ◌<◌, ◌≤◌, Bool, true, false, not, ◌||◌, if◌then◌else◌, List, [], ◌∷◌, length, drop, get_or, Option}
-use Rattle.fs_conf.proofs.Words.{Some, None, refl, sym, ap, ◌∙◌, arith, zero, drop_more, is_eq, rule_cmp, Ruled, Sent, Data, item, Value, view}
-use Rattle.fs_conf.proofs.Words.{items_view, items_view-drop, nat_le, codes, is_some, option_map, has_seen, Bor, nat_lt, ltb-true}
+use Rattle.fs_conf.proofs.Words.{Some, None, refl, sym, ap, ◌∙◌, arith, zero, drop_more, is_eq, rule_cmp, Ruled, Sent, Value, view}
+use Rattle.fs_conf.proofs.Words.{items_view, nat_le, codes, is_some, option_map, has_seen, Bor, nat_lt, ltb-true}
 use Rattle.fs_conf.proofs.Judging.{count_is}
 use Rattle.std.{specs.{BTreeSet.{BTreeSet}, Option.{option_or}, Prelude.{IfSome}}, proofs.Common.{ltb-false}}
 use Rattle.fs_order.specs.declared.ranked.Ranked.{Ranked}
-use Rattle.fs_conf.specs.Fault.{KeyFault, own_fault, unfit}
-use Rattle.fs_conf.specs.RuleFault.{each_fault, first_same, item_at, number_fault, numbers_fault}
+use Rattle.fs_conf.specs.Fault.{each_fault, own_fault, unfit}
+use Rattle.fs_conf.specs.RuleFault.{first_same, item_at, number_fault, numbers_fault}
 use Rattle.fs_conf.specs.declared.fault.KeyReason.TheVariants.{Value as NoValue}
-
--- an item without a fault, and one with a fault
-
-faults_left : (judge : ℕ → Data → Option KeyFault) (items : List Value) (i : ℕ) (value : Value) → i < length items → value ≡ get_or items i value
-    → each_fault judge (suc i) (items_view (drop i items))
-    ≡ option_or (judge (suc i) (view value)) (each_fault judge (suc (suc i)) (items_view (drop (i + 1) items)))
-faults_left judge items i value inside is =
-    ap (each_fault judge (suc i)) (items_view-drop items i value inside ∙ ap (λ v. item (view v) (items_view (drop (i + 1) items))) (sym is))
-
-pub fault_next : (judge : ℕ → Data → Option KeyFault) (items : List Value) (i place : ℕ) (value : Value) → i < length items
-    → value ≡ get_or items i value → place ≡ suc i
-    → None ≡ judge place (view value) → each_fault judge (suc i) (items_view (drop i items)) ≡ each_fault judge (suc place) (items_view (drop (i + 1) items))
-fault_next judge items i place value inside is same none =
-    let here : judge (suc i) (view value) ≡ None = ap (λ k. judge k (view value)) (sym same) ∙ sym none in
-    faults_left judge items i value inside is
-    ∙ ap (λ (found : Option KeyFault). option_or found (each_fault judge (suc (suc i)) (items_view (drop (i + 1) items)))) here
-    ∙ ap (λ k. each_fault judge (suc k) (items_view (drop (i + 1) items))) (sym same)
-
-pub fault_found : (judge : ℕ → Data → Option KeyFault) (items : List Value) (i place : ℕ) (value : Value) (fault : KeyFault) → i < length items
-    → value ≡ get_or items i value → place ≡ suc i
-    → Some fault ≡ judge place (view value) → each_fault judge (suc i) (items_view (drop i items)) ≡ Some fault
-fault_found judge items i place value fault inside is same some =
-    let here : judge (suc i) (view value) ≡ Some fault = ap (λ k. judge k (view value)) (sym same) ∙ sym some in
-    faults_left judge items i value inside is
-    ∙ ap (λ (found : Option KeyFault). option_or found (each_fault judge (suc (suc i)) (items_view (drop (i + 1) items)))) here
 
 -- an item by its place
 

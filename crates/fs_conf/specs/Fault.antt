@@ -124,19 +124,23 @@ pub record KeyFault : Type 0 where
 abbrev pub own_fault : KeyUnfit → KeyFault
 own_fault found = record { key = found.key; item = None; inner = None; reason = found.reason }
 
-abbrev pub peer_fault : (place : ℕ) → Option (List ℕ) → KeyReason → KeyFault
-peer_fault place inner reason = record { key = codes "peer"; item = Some place; inner = inner; reason = reason }
+-- a fault of the item at this place of the array at a key, or at a key of the item
+abbrev pub item_fault : List ℕ → (place : ℕ) → Option (List ℕ) → KeyReason → KeyFault
+item_fault key place inner reason = record { key = key; item = Some place; inner = inner; reason = reason }
 
--- a peer is a table, and its keys are right
-abbrev pub keys_of_peer : (place : ℕ) → Option Members → Option KeyFault
-keys_of_peer place None = Some (peer_fault place None OtherKind)
-keys_of_peer place (Some members) =
-    option_map (λ (found : KeyUnfit). peer_fault place (Some found.key) found.reason) (first_of peer_checks members)
+-- the item is a table, and its keys are right
+abbrev pub table_fault : (key : List ℕ) → Check → (place : ℕ) → Option Members → Option KeyFault
+table_fault key check place None = Some (item_fault key place None OtherKind)
+table_fault key check place (Some members) =
+    option_map (λ (found : KeyUnfit). item_fault key place (Some found.key) found.reason) (check members)
 
--- the first of the peers from this place on that has a fault
-abbrev pub each_peer : (place : ℕ) → Items → Option KeyFault
-each_peer place no_items = None
-each_peer place (item value rest) = option_or (keys_of_peer place (as_table value)) (each_peer (suc place) rest)
+-- the first of the items from this place on that has a fault
+abbrev pub each_fault : (ℕ → Data → Option KeyFault) → (place : ℕ) → Items → Option KeyFault
+each_fault judge place no_items = None
+each_fault judge place (item value rest) = option_or (judge place value) (each_fault judge (suc place) rest)
+
+abbrev pub peer_fault : (place : ℕ) → Data → Option KeyFault
+peer_fault place value = table_fault (codes "peer") (first_of peer_checks) place (as_table value)
 
 -- a peer's number, 0 where it has none
 abbrev pub some_number : Option ℕ → ℕ
@@ -160,7 +164,7 @@ first_again before (number ∷ numbers) =
 
 abbrev pub repeated : Items → Option KeyFault
 repeated items =
-    option_map (λ place. peer_fault place (Some (codes "number")) Repeated) (first_again [] (numbers_of_peers items))
+    option_map (λ place. item_fault (codes "peer") place (Some (codes "number")) Repeated) (first_again [] (numbers_of_peers items))
 
 abbrev pub item_count : Items → ℕ
 item_count no_items = 0
@@ -169,7 +173,7 @@ item_count (item value rest) = suc (item_count rest)
 abbrev pub items_fault : Items → Option KeyFault
 items_fault items =
     if nat_le 1 (item_count items) && nat_le (item_count items) 1024
-    then option_or (each_peer 1 items) (repeated items)
+    then option_or (each_fault peer_fault 1 items) (repeated items)
     else Some (own_fault (unfit (codes "peer") Value))
 
 -- what stands at `peer` is an array, of 1 to 1024 peers

@@ -12,11 +12,11 @@ use Rattle.fs_order.specs.Comparison.{rule_cmp}
 use Rattle.fs_speaker.specs.{Sending.{is_sending, sender_of}, declared.{Sending.{Sending}, Sent.{Sent}}}
 use Rattle.fs_text.specs.{Text.{IsTextFault}, declared.fault.TextFault.TheVariants.{Bad, TooLong as LongText}}
 use Rattle.fs_conf.specs.{Address.{ipv4_of}, Config.{kept_if, written}, Document.{document_of, each_item}}
-use Rattle.fs_conf.specs.Fault.{Check, IsNoDocument, KeyFault, KeyUnfit, array_in, first_of, item_count, judged, own_fault, place_text, reason_at}
-use Rattle.fs_conf.specs.Fault.{reason_name, unfit, unknown}
+use Rattle.fs_conf.specs.Fault.{Check, IsNoDocument, KeyFault, array_in, each_fault, first_of, item_count, item_fault, judged, own_fault, place_text}
+use Rattle.fs_conf.specs.Fault.{reason_at, reason_name, table_fault, unfit, unknown}
 use Rattle.fs_conf.specs.Rules.{as_path_in, file_keys, number_of}
 use Rattle.fs_conf.specs.Sent.{actions_in, family_of, octets_of, rule_keys, rule_written, sent_of_data, sent_of_text, text_keys}
-use Rattle.fs_conf.specs.declared.fault.KeyReason.{KeyReason, TheVariants.{Kind as OtherKind, Missing, Repeated, Value}}
+use Rattle.fs_conf.specs.declared.fault.KeyReason.{KeyReason, TheVariants.{Missing, Repeated, Value}}
 use Rattle.fs_conf.specs.declared.fault.RulesFault.{RulesFault, TheVariants.{Key, Memory, Nlri, Text as NoDocument, TooLong, Word}}
 use Rattle.fs_conf.specs.declared.fault.Unread.{Unread, TheVariants.{At, Memory as NoneLeft}}
 use Rattle.fs_conf.specs.declared.faults.Kind.TheVariants.{Array, Integer, Text}
@@ -24,15 +24,6 @@ use Rattle.fs_conf.specs.declared.faults.Kind.TheVariants.{Array, Integer, Text}
 infixl 10 ◌>>=◌
 abbrev ◌>>=◌ : {A B : Type 0} → Option A → (A → Option B) → Option B
 o >>= f = option_and_then f o
-
--- a fault of the item at this place of the array at a key, or at a key of the item
-abbrev pub item_fault : List ℕ → (place : ℕ) → Option (List ℕ) → KeyReason → KeyFault
-item_fault key place inner reason = record { key = key; item = Some place; inner = inner; reason = reason }
-
--- the first of the items from this place on that has a fault
-abbrev pub each_fault : (ℕ → Data → Option KeyFault) → (place : ℕ) → Items → Option KeyFault
-each_fault judge place no_items = None
-each_fault judge place (item value rest) = option_or (judge place value) (each_fault judge (suc place) rest)
 
 -- the keys of the document, but for the path and the rules
 abbrev pub file_checks : List Check
@@ -76,13 +67,8 @@ text_checks = unknown text_keys ∷ judged (codes "text") Text (written sent_of_
 abbrev pub rule_check : Check
 rule_check members = if is_some (get_member (codes "text") members) then first_of text_checks members else first_of octet_checks members
 
-abbrev pub keys_of_rule : (place : ℕ) → Option Members → Option KeyFault
-keys_of_rule place None = Some (item_fault (codes "rule") place None OtherKind)
-keys_of_rule place (Some members) =
-    option_map (λ (found : KeyUnfit). item_fault (codes "rule") place (Some found.key) found.reason) (rule_check members)
-
 abbrev pub rule_fault : (place : ℕ) → Data → Option KeyFault
-rule_fault place value = keys_of_rule place (as_table value)
+rule_fault place value = table_fault (codes "rule") rule_check place (as_table value)
 
 -- the place of the first rule that is one of those, or of those before it
 abbrev pub first_same : (Ruled → Bool) → (place : ℕ) → List Sent → Option ℕ

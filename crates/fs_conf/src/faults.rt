@@ -4,11 +4,11 @@ ghost use Rattle.std.specs.BTreeMap.{keys};
 ghost use Rattle.std.specs.Prelude.{◌≡◌, ◌==◌, ◌≤◌, ◌<◌, ◌^◌, [], codes, find, map, nat_le, not, ◌&&◌, option_map, string_bytes, is_some, take};
 ghost use Rattle.std.specs.Prelude.{length, Some, None, IfOk, IfErr};
 ghost use Rattle.std.specs.{List.{list_all, list_any}, Option.{option_copied}};
-ghost use Rattle.toml.specs.{Data.{as_table, get_member}, View.{items_view, table_view, view}};
+ghost use Rattle.toml.specs.{Data.{get_member}, View.{items_view, table_view, view}};
 ghost use Rattle.fs_conf.specs.{Address.{address_of}, Config.{config_of, config_of_document, written}, Document.{document_of}, Fields.{is_named}};
 ghost use Rattle.fs_conf.specs.declared.fault.{ConfigFault.TheVariants.{Memory as NoMemory}, Unread.TheVariants.{At}};
-ghost use Rattle.fs_conf.specs.Fault.{IsFirstFault, IsUnread, config_fault, document_checks, each_peer, first_again, advance, first_of, first_other};
-ghost use Rattle.fs_conf.specs.Fault.{is_bare, is_bare_octet, is_inner, is_kind, is_plain_octet, items_fault, key_text, keys_of_peer, number_of_peer};
+ghost use Rattle.fs_conf.specs.Fault.{IsFirstFault, IsUnread, config_fault, document_checks, each_fault, first_again, advance, first_of, first_other};
+ghost use Rattle.fs_conf.specs.Fault.{is_bare, is_bare_octet, is_inner, is_kind, is_plain_octet, item_fault, items_fault, key_text, number_of_peer};
 ghost use Rattle.fs_conf.specs.Fault.{numbers_of_peers, own_fault, peer_checks, peer_fault, peers_fault, place_text, position_of, reason_at};
 ghost use Rattle.fs_conf.specs.Fault.{repeated, spot_shown, unfit, unfit_shown, unknown};
 
@@ -238,37 +238,60 @@ pub(crate) fn own_fault(found: Unfit<'_>) -> Spot<'_>
     }
 }
 
-/// A fault of the peer at this place, or at a key of it.
-fn peer_fault(place: usize, inner: Option<&str>, reason: KeyReason) -> Spot<'_>
-    ensures { spot_shown result ≡ peer_fault place (option_map (λ key. key.now) inner.entry) reason }
+/// A fault at a key of the document, where there is one.
+pub(crate) fn own_found(found: Option<Unfit<'_>>) -> Option<Spot<'_>>
+    ensures { option_map spot_shown result ≡ option_map own_fault (option_map unfit_shown found.entry) }
+{
+    Some(own_fault(found?))
+}
+
+/// A fault of the item at this place of the array at a key, or at a key of the item.
+pub(crate) fn item_fault<'t>(
+    key: &'t str,
+    place: usize,
+    inner: Option<&'t str>,
+    reason: KeyReason,
+) -> Spot<'t>
+    ensures { spot_shown result ≡ item_fault key.entry.now place (option_map (λ key. key.now) inner.entry) reason }
 {
     Spot {
-        key: "peer",
+        key,
         item: Some(place),
         inner,
         reason,
     }
 }
 
+/// A fault of the item at this place, at the key of it where it is.
+pub(crate) fn item_found<'t>(
+    key: &'t str,
+    place: usize,
+    found: Option<Unfit<'t>>,
+) -> Option<Spot<'t>>
+    ensures { option_map spot_shown result
+        ≡ option_map (λ found. item_fault key.entry.now place (Some found.key) found.reason)
+        (option_map unfit_shown found.entry) }
+{
+    let found = found?;
+    Some(item_fault(key, place, Some(found.key), found.reason))
+}
+
 /// What is wrong with the peer at this place.
-fn keys_of_peer(place: usize, value: &Value) -> Option<Spot<'_>>
-    ensures { option_map spot_shown result ≡ keys_of_peer place (as_table (view value.now)) }
+fn peer_fault(place: usize, value: &Value) -> Option<Spot<'_>>
+    ensures { option_map spot_shown result ≡ peer_fault place (view value.now) }
 {
     match value.as_table() {
-        Some(table) => {
-            let found = peer_unfit(table)?;
-            Some(peer_fault(place, Some(found.key), found.reason))
-        }
-        None => Some(peer_fault(place, None, KeyReason::Kind)),
+        Some(table) => item_found("peer", place, peer_unfit(table)),
+        None => Some(item_fault("peer", place, None, KeyReason::Kind)),
     }
 }
 
 /// The first peer that has a fault.
 fn each_peer(items: &[Value]) -> Option<Spot<'_>>
-    ensures { option_map spot_shown result ≡ each_peer 1 (items_view items.now) }
+    ensures { option_map spot_shown result ≡ each_fault peer_fault 1 (items_view items.now) }
 {
     for (place, item) in items.iter().enumerate() {
-        match keys_of_peer(place + 1, item) {
+        match peer_fault(place + 1, item) {
             Some(spot) => return Some(spot),
             None => {}
         }
@@ -310,7 +333,7 @@ fn repeated(items: &[Value]) -> Option<Spot<'static>>
     ensures { option_map spot_shown result ≡ repeated (items_view items.now) }
 {
     let place = first_again(items)?;
-    Some(peer_fault(place, Some("number"), KeyReason::Repeated))
+    Some(item_fault("peer", place, Some("number"), KeyReason::Repeated))
 }
 
 /// Whether a configuration may have so many peers.
@@ -340,10 +363,7 @@ fn peers_fault(table: &Table) -> Option<Spot<'_>>
 {
     match array_at(table, "peer") {
         Some(items) => items_fault(items),
-        None => {
-            let found = judged(table, "peer", Kind::Array, false)?;
-            Some(own_fault(found))
-        }
+        None => own_found(judged(table, "peer", Kind::Array, false)),
     }
 }
 

@@ -7,11 +7,11 @@ ghost use Rattle.toml.specs.{Data.{as_str, get_member}, View.{items_view, table_
 ghost use Rattle.fs_speaker.specs.Sending.{sender_of};
 ghost use Rattle.fs_conf.specs.declared.faults.Kind.TheVariants.{Integer};
 ghost use Rattle.fs_conf.specs.{Config.{written}, Document.{each_item}};
-ghost use Rattle.fs_conf.specs.Fault.{first_of, own_fault, reason_at, spot_shown, unfit_shown};
+ghost use Rattle.fs_conf.specs.Fault.{each_fault, first_of, item_fault, own_fault, reason_at, spot_shown, unfit_shown};
 ghost use Rattle.fs_conf.specs.Rules.{as_path_in, number_of, rules_of, sending_of_document};
 ghost use Rattle.fs_conf.specs.Sent.{actions_in, family_of, octets_of, sent_of_data, sent_of_text};
-ghost use Rattle.fs_conf.specs.RuleFault.{IsFirstRulesFault, IsOfDocument, IsTold, SaysFrame, SaysOctet, SaysValue, SaysWord, bad_nlri, each_fault};
-ghost use Rattle.fs_conf.specs.RuleFault.{file_checks, first_but, first_same, is_at, is_value, item_fault, judged_rule, item_at, list_fault, listed};
+ghost use Rattle.fs_conf.specs.RuleFault.{IsFirstRulesFault, IsOfDocument, IsTold, SaysFrame, SaysOctet, SaysValue, SaysWord, bad_nlri};
+ghost use Rattle.fs_conf.specs.RuleFault.{file_checks, first_but, first_same, is_at, is_value, judged_rule, item_at, list_fault, listed};
 ghost use Rattle.fs_conf.specs.RuleFault.{listed_fault, may_go, nlri_at, number_fault, numbers_fault, octet_checks, path_fault, rule_at, rule_check};
 ghost use Rattle.fs_conf.specs.RuleFault.{rule_fault, rule_in, rules_fault, sents_fault, text_checks, unsent};
 
@@ -19,7 +19,8 @@ use crate::array::each_item;
 use crate::config::ConfFault;
 use crate::fault::{KeyReason, RulesFault};
 use crate::faults::{
-    Kind, Spot, Unfit, judged, own_fault, place_text, read_table, reason_at, unknown,
+    Kind, Spot, Unfit, item_fault, item_found, judged, own_fault, own_found, place_text,
+    read_table, reason_at, unknown,
 };
 use crate::fields::{array_at, text_at, value_at};
 use crate::laws::names_the_rules_fault;
@@ -33,18 +34,6 @@ use fs_text::TextFault;
 use std::alloc::Global;
 use std::collections::BTreeSet;
 use toml::{Table, Value};
-
-/// A fault of the item at this place of the array at a key, or at a key of the item.
-fn item_fault<'t>(key: &'t str, place: usize, inner: Option<&'t str>, reason: KeyReason) -> Spot<'t>
-    ensures { spot_shown result ≡ item_fault key.entry.now place (option_map (λ key. key.now) inner.entry) reason }
-{
-    Spot {
-        key,
-        item: Some(place),
-        inner,
-        reason,
-    }
-}
 
 /// What is wrong at the keys of the document, but for the path and the rules.
 fn file_unfit(table: &Table) -> Option<Unfit<'_>>
@@ -109,10 +98,7 @@ fn path_fault(table: &Table) -> Option<Spot<'static>>
 {
     match array_at(table, "as_path") {
         Some(items) => numbers_fault(items),
-        None => {
-            let found = judged(table, "as_path", Kind::Array, false)?;
-            Some(own_fault(found))
-        }
+        None => own_found(judged(table, "as_path", Kind::Array, false)),
     }
 }
 
@@ -173,7 +159,7 @@ fn octets_unfit(alloc: Global, table: &Table) -> Result<Option<Unfit<'_>>, Memor
     Ok(first_unfit(table, family.is_some(), rule, actions))
 }
 
-/// The first of these keys of a rule that isn't accepted, behind one that it doesn't have.
+/// The first of these keys of a rule that isn't accepted, after one that it doesn't have.
 fn first_unfit(table: &Table, family: bool, rule: bool, actions: bool) -> Option<Unfit<'_>>
     ensures { family ≡ is_some (written family_of (get_member (codes "family") (table_view table.now)))
         → rule ≡ is_some (rule_in (written family_of (get_member (codes "family") (table_view table.now)))
@@ -198,22 +184,12 @@ fn rule_unfit(alloc: Global, table: &Table) -> Result<Option<Unfit<'_>>, Memory>
     }
 }
 
-/// A fault of the rule at this place, at the key where it is.
-fn unfit_rule(place: usize, found: Option<Unfit<'_>>) -> Option<Spot<'_>>
-    ensures { option_map spot_shown result
-        ≡ option_map (λ found. item_fault (codes "rule") place (Some found.key) found.reason)
-        (option_map unfit_shown found.entry) }
-{
-    let found = found?;
-    Some(item_fault("rule", place, Some(found.key), found.reason))
-}
-
 /// What is wrong with the rule at this place.
 fn rule_fault(alloc: Global, place: usize, value: &Value) -> Result<Option<Spot<'_>>, Memory>
     ensures { IfOk result (λ found. option_map spot_shown found ≡ rule_fault place (view value.now)) }
 {
     match value.as_table() {
-        Some(table) => Ok(unfit_rule(place, rule_unfit(alloc, table)?)),
+        Some(table) => Ok(item_found("rule", place, rule_unfit(alloc, table)?)),
         None => Ok(Some(item_fault("rule", place, None, KeyReason::Kind))),
     }
 }
@@ -398,13 +374,6 @@ fn list_fault<'t>(
         Some(items) => listed_fault(alloc, config, table, items),
         None => Ok(own_found(judged(table, "rule", Kind::Array, false))),
     }
-}
-
-/// A fault at a key of the document, where there is one.
-fn own_found(found: Option<Unfit<'_>>) -> Option<Spot<'_>>
-    ensures { option_map spot_shown result ≡ option_map own_fault (option_map unfit_shown found.entry) }
-{
-    Some(own_fault(found?))
 }
 
 /// What is wrong in front of the rules.

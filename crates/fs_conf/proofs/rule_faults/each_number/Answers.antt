@@ -1,4 +1,4 @@
-use Rattle.fs_conf.proofs.{Words.{◌+◌, sym, ◌∙◌, arith}, RulesJudging.{fault_found, fault_next}}
+use Rattle.fs_conf.proofs.{Words.{◌+◌, sym, ◌∙◌, arith}, Judging.{fault_found, fault_next}}
 use Rattle.fs_conf.specs.{Fault.{spot_shown}, RuleFault.{number_fault}}
 use Rattle.fs_conf.proofs.rule_faults.each_number.Goals as goal
 

@@ -1,5 +1,5 @@
 use Rattle.fs_conf.proofs.Words.{◌≡◌, suc, drop, items_view}
-use Rattle.fs_conf.specs.RuleFault.{each_fault, rule_fault}
+use Rattle.fs_conf.specs.{Fault.{each_fault}, RuleFault.{rule_fault}}
 use Rattle.fs_conf.proofs.rule_faults.each_rule.Given as goal
 
 -- what is left answers for all
