@@ -3,11 +3,21 @@ use Rattle.fs_line.proofs.Words.{◌≡◌, inl, inr, ℕ, ◌+◌, ◌<◌, Lis
 use Rattle.fs_line.proofs.Words.{IsErrAnd, ◌≤◌, arith, sym, ◌∙◌, ap, subst, append_assoc, append-nil, common_steps, take_more, take-append-drop, Goes}
 use Rattle.fs_line.proofs.Words.{Partly, Stops, Sent}
 use Rattle.fs_base.{specs.{Outside.{HasCause}, Sink.{Grew, GrewPart}}, proofs.Grew.{Grew-refl, Grew-trans, part_more, part_then}}
+use Rattle.fs_base.specs.declared.Sink as sink
+
+-- how many faults there were, what the sink has taken, and what is pending
+pub record Moment : Type 0 where
+  pub faults : ℕ
+  pub written : Option (List ℕ)
+  pub pending : List ℕ
+
+abbrev pub moment : {S : Type 0} → sink.Ghosts S → S → List ℕ → Moment
+moment of_sink now pending = record { faults = of_sink.faults now; written = of_sink.written now; pending = pending }
 
 -- a text has gone on so far
-pub record SentSo (faults faults_now : ℕ) (before now : Option (List ℕ)) (pending pending_now text : List ℕ) : Type 0 where
-  pub later : faults ≤ faults_now
-  pub goes : Goes before now pending pending_now text
+pub record SentSo (before now : Moment) (text : List ℕ) : Type 0 where
+  pub later : before.faults ≤ now.faults
+  pub goes : Goes before.written now.written before.pending now.pending text
 
 -- no text
 pub goes_none : (a : Option (List ℕ)) (p : List ℕ) → Goes a a p p []
@@ -141,68 +151,70 @@ goes_as {a} {b} {p} {q} {xs} {ys} same goes = let P : List ℕ → Type 0 = λ t
 pub stops_as : {a b : Option (List ℕ)} {p q xs ys : List ℕ} → xs ≡ ys → Stops a b p q xs → Stops a b p q ys
 stops_as {a} {b} {p} {q} {xs} {ys} same stops = let P : List ℕ → Type 0 = λ text. Stops a b p q text in subst P same stops
 
--- a text that is written item by item
-pub text_more : {X : Type 0} (text : List X → List ℕ) → ((xs ys : List X) → text (xs ++ ys) ≡ text xs ++ text ys)
-    → (xs : List X) (i : ℕ) (d : X) → i < length xs → text (take i xs) ++ text (get_or xs i d ∷ []) ≡ text (take (i + 1) xs)
-text_more text adds xs i d below = sym (ap text (take_more xs i d below) ∙ adds (take i xs) (get_or xs i d ∷ []))
+-- an item of a list whose text is written item by item
+pub record Item (X : Type 0) : Type 0 where
+  pub text : List X → List ℕ
+  pub adds : (xs ys : List X) → text (xs ++ ys) ≡ text xs ++ text ys
+  pub all : List X
+  pub place : ℕ
+  pub other : X
+  pub below : place < length all
 
-pub text_whole : {X : Type 0} (text : List X → List ℕ) → ((xs ys : List X) → text (xs ++ ys) ≡ text xs ++ text ys)
-    → (xs : List X) (i : ℕ) (d : X) → i < length xs
-    → text (take i xs) ++ (text (get_or xs i d ∷ []) ++ text (drop (i + 1) xs)) ≡ text xs
-text_whole text adds xs i d below =
-    sym (append_assoc (text (take i xs)) (text (get_or xs i d ∷ [])) (text (drop (i + 1) xs)))
-    ∙ ap (λ front. front ++ text (drop (i + 1) xs)) (text_more text adds xs i d below)
-    ∙ sym (adds (take (i + 1) xs) (drop (i + 1) xs)) ∙ ap text (take-append-drop (i + 1) xs)
+abbrev pub item : {X : Type 0} (text : List X → List ℕ) → ((xs ys : List X) → text (xs ++ ys) ≡ text xs ++ text ys)
+    → (all : List X) (place : ℕ) (other : X) → place < length all → Item X
+item text adds all place other below = record { text = text; adds = adds; all = all; place = place; other = other; below = below }
+
+-- the text of those before it, its own, and that of those up to it
+abbrev pub front : {X : Type 0} → Item X → List ℕ
+front k = k.text (take k.place k.all)
+
+abbrev pub own : {X : Type 0} → Item X → List ℕ
+own k = k.text (get_or k.all k.place k.other ∷ [])
+
+abbrev pub up_to : {X : Type 0} → Item X → List ℕ
+up_to k = k.text (take (k.place + 1) k.all)
+
+abbrev rest : {X : Type 0} → Item X → List ℕ
+rest k = k.text (drop (k.place + 1) k.all)
+
+text_more : {X : Type 0} (k : Item X) → front k ++ own k ≡ up_to k
+text_more k = sym (ap k.text (take_more k.all k.place k.other k.below) ∙ k.adds (take k.place k.all) (get_or k.all k.place k.other ∷ []))
+
+text_whole : {X : Type 0} (k : Item X) → front k ++ (own k ++ rest k) ≡ k.text k.all
+text_whole k =
+    sym (append_assoc (front k) (own k) (rest k)) ∙ ap (λ front. front ++ rest k) (text_more k)
+    ∙ sym (k.adds (take (k.place + 1) k.all) (drop (k.place + 1) k.all)) ∙ ap k.text (take-append-drop (k.place + 1) k.all)
 
 -- one more item, behind those that were sent, of which none failed
-pub sends_more : {X T E : Type 0} {f g h : ℕ} {a b c : Option (List ℕ)} {p q r : List ℕ} {value : T} (text : List X → List ℕ)
-    → ((xs ys : List X) → text (xs ++ ys) ≡ text xs ++ text ys) → (xs : List X) (i : ℕ) (d : X) → i < length xs
-    → SentSo f g a b p q (text (take i xs)) → Sent {T = T} {E = E} g h b c q r (text (get_or xs i d ∷ [])) (Ok value)
-    → SentSo f h a c p r (text (take (i + 1) xs))
-sends_more text adds xs i d below first then = record {
-  later = omega (arith, first.later, then.later);
-  goes = goes_as (text_more text adds xs i d below) (goes_then first.goes then.ok);
-}
+pub sends_more : {X T E : Type 0} {before mid : Moment} {faults : ℕ} {written : Option (List ℕ)} {pending : List ℕ} {value : T} (k : Item X)
+    → SentSo before mid (front k) → Sent {T = T} {E = E} mid.faults faults mid.written written mid.pending pending (own k) (Ok value)
+    → SentSo before (record { faults = faults; written = written; pending = pending }) (up_to k)
+sends_more k first then = record { later = omega (arith, first.later, then.later); goes = goes_as (text_more k) (goes_then first.goes then.ok) }
 
 -- one more item, of which nothing is written
-pub sends_nothing : {X : Type 0} {f g : ℕ} {a b : Option (List ℕ)} {p q : List ℕ} (text : List X → List ℕ)
-    → ((xs ys : List X) → text (xs ++ ys) ≡ text xs ++ text ys) → (xs : List X) (i : ℕ) (d : X) → i < length xs
-    → [] ≡ text (get_or xs i d ∷ []) → SentSo f g a b p q (text (take i xs)) → SentSo f g a b p q (text (take (i + 1) xs))
-sends_nothing text adds xs i d below none first = record {
+pub sends_nothing : {X : Type 0} {before now : Moment} (k : Item X) → [] ≡ own k → SentSo before now (front k) → SentSo before now (up_to k)
+sends_nothing k none first = record {
   later = first.later;
-  goes = goes_as (sym (append-nil (text (take i xs))) ∙ ap (λ (more : List ℕ). text (take i xs) ++ more) none ∙ text_more text adds xs i d below) first.goes;
+  goes = goes_as (sym (append-nil (front k)) ∙ ap (λ (more : List ℕ). front k ++ more) none ∙ text_more k) first.goes;
 }
 
 -- the sink failed within one item, and the error is handed on
-pub sends_within : {X T U E F : Type 0} {f g h : ℕ} {a b c : Option (List ℕ)} {p q r : List ℕ} {error : E} (text : List X → List ℕ)
-    → ((xs ys : List X) → text (xs ++ ys) ≡ text xs ++ text ys) → (xs : List X) (i : ℕ) (d : X) → i < length xs
-    → (R : F → Type 0) (result : Result U F) → IsErrAnd result R
-    → SentSo f g a b p q (text (take i xs)) → Sent {T = T} {E = E} g h b c q r (text (get_or xs i d ∷ [])) (Err error)
-    → Sent f h a c p r (text xs) result
-sends_within text adds xs i d below R (Ok value) on first then = absurd on
-sends_within text adds xs i d below R (Err error) on first then = record {
+pub sends_within : {X T E : Type 0} {before mid : Moment} {faults : ℕ} {written : Option (List ℕ)} {pending : List ℕ} {error : E} (k : Item X)
+    → (R : E → Type 0) (result : Result T E) → IsErrAnd result R → SentSo before mid (front k)
+    → Sent {T = T} {E = E} mid.faults faults mid.written written mid.pending pending (own k) (Err error)
+    → Sent before.faults faults before.written written before.pending pending (k.text k.all) result
+sends_within k R (Ok value) on first then = absurd on
+sends_within k R (Err error) on first then = record {
   later = omega (arith, first.later, then.later);
   ok = tt;
-  err = (
-    stops_as (text_whole text adds xs i d below) (goes_stops first.goes (stops_more (text (drop (i + 1) xs)) then.err.0)),
-    omega (arith, first.later, then.err.1),
-  );
+  err = (stops_as (text_whole k) (goes_stops first.goes (stops_more (rest k) then.err.0)), omega (arith, first.later, then.err.1));
 }
 
--- a piece kept back behind another
-kept_then : (p xs ys : List ℕ) {q r : List ℕ} → q ≡ p ++ xs → r ≡ q ++ ys → r ≡ p ++ (xs ++ ys)
-kept_then p xs ys first then = then ∙ ap (λ (front : List ℕ). front ++ ys) first ∙ append_assoc p xs ys
-
 -- one more item kept back, behind those that were
-pub kept_more : {X : Type 0} (text : List X → List ℕ) → ((xs ys : List X) → text (xs ++ ys) ≡ text xs ++ text ys)
-    → (xs : List X) (i : ℕ) (d : X) → i < length xs → (p : List ℕ) {q r : List ℕ}
-    → q ≡ p ++ text (take i xs) → r ≡ q ++ text (get_or xs i d ∷ []) → r ≡ p ++ text (take (i + 1) xs)
-kept_more text adds xs i d below p first then =
-    kept_then p (text (take i xs)) (text (get_or xs i d ∷ [])) first then ∙ ap (λ (all : List ℕ). p ++ all) (text_more text adds xs i d below)
+pub kept_more : {X : Type 0} (k : Item X) (p : List ℕ) {q r : List ℕ} → q ≡ p ++ front k → r ≡ q ++ own k → r ≡ p ++ up_to k
+kept_more k p first then =
+    then ∙ ap (λ (all : List ℕ). all ++ own k) first ∙ append_assoc p (front k) (own k) ∙ ap (λ (all : List ℕ). p ++ all) (text_more k)
 
 -- one more item, of which nothing is kept back
-pub kept_nothing : {X : Type 0} (text : List X → List ℕ) → ((xs ys : List X) → text (xs ++ ys) ≡ text xs ++ text ys)
-    → (xs : List X) (i : ℕ) (d : X) → i < length xs → (p : List ℕ) {q : List ℕ}
-    → [] ≡ text (get_or xs i d ∷ []) → q ≡ p ++ text (take i xs) → q ≡ p ++ text (take (i + 1) xs)
-kept_nothing text adds xs i d below p {q} none first =
-    kept_more text adds xs i d below p first (sym (append-nil q) ∙ ap (λ (more : List ℕ). q ++ more) none)
+pub kept_nothing : {X : Type 0} (k : Item X) (p : List ℕ) {q : List ℕ} → [] ≡ own k → q ≡ p ++ front k → q ≡ p ++ up_to k
+kept_nothing k p {q} none first = kept_more k p first (sym (append-nil q) ∙ ap (λ (more : List ℕ). q ++ more) none)
