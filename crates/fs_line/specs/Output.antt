@@ -31,7 +31,7 @@ pub record Sent {T E : Type 0} (faults faults_now : ℕ) (before now : Option (L
   pub ok : OnOk result (Goes before now pending pending_now text)
   pub err : OnErr result (Stops before now pending pending_now text × Rose faults faults_now)
 
--- so of a sink before and behind a call; in a clause: `Sends S.Sink sink.old sink.new ..`
+-- so of a sink before and after a call; in a clause: `Sends S.Sink sink.old sink.new ..`
 abbrev pub Sends : {S T E : Type 0} → sink.Ghosts S → (old new : S) → (pending pending_now text : List ℕ) → Result T E → Type 0
 Sends of_sink old new pending pending_now text result =
     Sent (of_sink.faults old) (of_sink.faults new) (of_sink.written old) (of_sink.written new) pending pending_now text result

@@ -26,7 +26,7 @@ pub fn discards(walked: &[Walked<'_>]) -> bool
 }
 
 /// Whether some rule has the packet sampled.
-pub fn samples(walked: &[Walked<'_>]) -> bool
+pub(crate) fn samples(walked: &[Walked<'_>]) -> bool
     ensures { result ≡ list_any (has_flag 2) (actions_walked (entries walked.now)) }
 {
     for rule in walked {
@@ -39,7 +39,7 @@ pub fn samples(walked: &[Walked<'_>]) -> bool
 
 /// The first marking.
 #[tactic(auto, using(crate::proofs::Walks::said_there, crate::proofs::Walks::not_said_there))]
-pub fn first_mark(walked: &[Walked<'_>]) -> Option<u8>
+pub(crate) fn first_mark(walked: &[Walked<'_>]) -> Option<u8>
     ensures { result ≡ first_of mark_of (actions_walked (entries walked.now)) }
 {
     for rule in walked {
@@ -52,7 +52,7 @@ pub fn first_mark(walked: &[Walked<'_>]) -> Option<u8>
 
 /// The first redirect.
 #[tactic(auto, using(crate::proofs::Walks::said_there, crate::proofs::Walks::not_said_there))]
-pub fn first_redirect(walked: &[Walked<'_>]) -> Option<Redirect>
+pub(crate) fn first_redirect(walked: &[Walked<'_>]) -> Option<Redirect>
     ensures { result ≡ first_of redirect_of (actions_walked (entries walked.now)) }
 {
     for rule in walked {
