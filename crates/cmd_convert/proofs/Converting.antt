@@ -47,7 +47,7 @@ pub sends_from : {T E : Type 0} {f g : ℕ} {a b : Option (List ℕ)} {p p' q xs
 sends_from {f = f} {g = g} {a = a} {b = b} {q = q} {xs = xs} {result = result} same sent =
     subst (λ (pending : List ℕ). Sent f g a b pending q xs result) same sent
 
--- the lives behind a change of state
+-- the lives after a change of state
 pub change_lives : {T E : Type 0} (result : Result T E) (now lives : Lives) (config : Config) (peer old new : ℕ) (what : What) (into : List ℕ)
     (wide : Bool) (life : Life)
     → what ≡ Change old new
@@ -137,7 +137,7 @@ module _ (config : Config) (first lives : Lives) (all rest : List Spoken × End 
           ∙ tape_append (p.gone ++ timed_at heard.moment items) later
           ∙ ap (λ (text : List ℕ). text ++ flat_map (item_text Two) later) (tape_more p.gone heard.moment items)
 
--- what a reading gives, by the configuration that the tape is made for, and from the slot as it is behind it
+-- what a reading gives, by the configuration that the tape is made for, and from the slot as it is after it
 pub gives_as : (config current : Config) (dump dump' : DumpState) (left left' : ℕ → List ℕ) (heard : Spoken) → current ≡ config → dump'.slot ≡ dump.slot
     → coming current dump (left dump.slot) ≡ with_part heard (coming current dump' (left' dump.slot))
     → coming config dump (left dump.slot) ≡ with_part heard (coming config dump' (left' dump'.slot))

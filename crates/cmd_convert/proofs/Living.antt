@@ -8,7 +8,7 @@ use Rattle.std.{specs.{List.{list_any}, Option.{is_some}, Prelude.{◌||◌}}, p
 use Rattle.fs_desk.specs.Life.{begins_life, bounds_life, life, sent_by}
 use Rattle.cmd_stages.specs.Play.{untimed}
 
--- whether a peer is up behind these items, if so before them
+-- whether a peer is up after these items, if so before them
 abbrev is_up : ℕ → Bool → List Item → Bool
 is_up peer up [] = up
 is_up peer up (item ∷ items) = is_up peer (if bounds_life peer item then begins_life peer item else up) items
@@ -125,7 +125,7 @@ module _ (config : Config) (p q : ℕ) (wide : Bool) (up t : Bool) (is : (p == q
       (λ e. taken octets kept (has_width kept wide) refl same) (λ e. idle kept same)
   made_up (change old new) kept same = chosen (is_established old new) (ended p kept, None) ([], kept) (λ e. ends kept same) (λ e. idle kept same)
 
--- behind it the peer's life is the one that it left, and that of another peer is as it was
+-- after it the peer's life is the one that it left, and that of another peer is as it was
 left_as : (config : Config) (lives : Lives) (heard : Spoken) (peer : ℕ)
     → is_up peer (is_some (lives peer)) (made config heard (lives heard.peer)).0
     ≡ is_some (with_life heard.peer (made config heard (lives heard.peer)).1 lives peer)

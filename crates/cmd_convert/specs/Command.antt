@@ -20,7 +20,7 @@ status_at (bad reason place) = 10
 abbrev pub dump_stage : Names → List ℕ → Stage (List ℕ)
 dump_stage holds name = or_stop Outside (holds name)
 
--- of a dump of this content: the status at its end, and behind the records before it the tape that they make
+-- of a dump of this content: the status at its end, and after the records before it the tape that they make
 abbrev pub verdict_of : Config → ℕ → Stage (List ℕ) → Verdict
 verdict_of config limit (Found content) =
     verdict_with (status_at (remade config limit content).1) (tape_text Two (remade config limit content).0)
@@ -84,7 +84,7 @@ Yields before now into None = before ≡ ([], done)
 abbrev pub Ceases : List Spoken × End DumpReason → Type 0 → Refusal → Type 0
 Ceases before failed refusal = ((before.0 ≡ []) × (status_at before.1 ≡ status_of refusal)) ⊎ ((refusal ≡ Outside) × failed)
 
--- why converting ends early: the dump ends so, behind all that its records make, or a call on the outside failed
+-- why converting ends early: the dump ends so, after all that its records make, or a call on the outside failed
 abbrev pub Breaks : End DumpReason → (before now : Option (List ℕ)) (pending pending_now text : List ℕ) → Type 0 → Refusal → Type 0
 Breaks end before now pending pending_now text failed refusal =
     ((status_at end ≡ status_of refusal) × Goes before now pending pending_now text)

@@ -40,7 +40,7 @@ made_by config peer wide (message octets) life =
     else ([], life)
 made_by config peer wide (change old new) life = if is_established old new then (ended peer life, None) else ([], life)
 
--- what a record that is heard makes, where the peer has this life, and the peer's life behind it
+-- what a record that is heard makes, where the peer has this life, and the peer's life after it
 abbrev pub made : Config → Spoken → Life → List Item × Life
 made config heard life = made_by config heard.peer heard.wide heard.said life
 

@@ -114,7 +114,7 @@ abbrev pub all_noted : List NoteCount → List Note → List NoteCount
 all_noted counts [] = counts
 all_noted counts (note ∷ notes) = all_noted (with_note note counts) notes
 
--- The records to come were counted, up to the dump's end; or it has a fault, behind those before it; or a call on the
+-- The records to come were counted, up to the dump's end; or it has a fault, after those before it; or a call on the
 -- outside failed.
 abbrev pub Counts : (now now' : List NoteCount) → List Note × End DumpReason → Type 0 → Result Unit (Fault DumpReason) → Type 0
 Counts now now' coming failed (Ok _) = (coming.1 ≡ done) × (now' ≡ all_noted now coming.0)
@@ -130,7 +130,7 @@ abbrev pub IsUnsaid : Verdict → Type 0 → Refusal → Type 0
 IsUnsaid due failed refusal =
     (verdict_with (status_of refusal) [] ≡ due) ⊎ (refusal ≡ Memory) ⊎ ((refusal ≡ Outside) × failed)
 
--- what is said of a dump that ends so, behind these counts
+-- what is said of a dump that ends so, after these counts
 abbrev pub SaysEnd : List NoteCount → Result Unit (Fault DumpReason) → Result DumpSaid Refusal → Type 0
 SaysEnd counts (Ok _) result = MatchResult result (λ said. said_shown said ≡ verdict_with 0 (counts_text counts)) (λ refusal. refusal ≡ Memory)
 SaysEnd counts (Err Read) result = result ≡ Err Outside

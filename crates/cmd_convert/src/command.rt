@@ -28,7 +28,7 @@ pub struct DumpNames<'w> {
 /// # Errors
 ///
 /// The first of these, in this order of work: the configuration's, the dump's. `Dump` where the dump has a fault, and
-/// `Limit` where it has at least `limit` octets without one, both behind the items before; `Outside` where a file isn't
+/// `Limit` where it has at least `limit` octets without one, both after the items before; `Outside` where a file isn't
 /// there, or the files or the sink failed, and then a front of the tape is written; `Memory` where the machine refused
 /// memory, and then nothing is.
 pub fn convert<F: Files, S: Sink>(

@@ -8,7 +8,7 @@ pub fn reads_back_converted()
     ensures { ReadsBackConverted }
 {}
 
-/// The lives of the peers by which a dump's items are made stand, behind each front of the records, exactly where the
+/// The lives of the peers by which a dump's items are made stand, after each front of the records, exactly where the
 /// items so far leave a peer up: a life is ended where one stands, and begun where none does.
 pub fn keeps_lives()
     ensures { KeepsLives }

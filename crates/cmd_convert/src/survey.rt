@@ -23,7 +23,7 @@ pub struct DumpSaid {
     pub text: String,
 }
 
-/// Reads a dump, and says who speaks in it, and of which types its records are that aren't read; and, behind that, what
+/// Reads a dump, and says who speaks in it, and of which types its records are that aren't read; and, after that, what
 /// is wrong with it, and at which octet. A record is judged as `convert` judges it.
 ///
 /// # Errors
@@ -78,7 +78,7 @@ fn survey_file<F: Files>(
     say_end(alloc, counts.as_slice(), ended)
 }
 
-/// What is said of a dump that ends so, behind these counts.
+/// What is said of a dump that ends so, after these counts.
 fn say_end(
     alloc: Global,
     counts: &[NoteCount],

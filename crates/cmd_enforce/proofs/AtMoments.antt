@@ -265,7 +265,7 @@ never_due (Some item) at moment e h = absurd cc
 not_same : (one two : ℕ) → one ≡ 1 → two ≡ 2 → one ≢ two
 not_same one two e f g = let wrong : 1 ≡ 2 = sym e ∙ g ∙ f in absurd cc
 
--- behind a read of the capture the tape stands where it stood, also for a later moment
+-- after a read of the capture the tape stands where it stood, also for a later moment
 pub awaits : (items : List Timed) (player : PlayerState) (t t' slot tape : ℕ) (left left' : ℕ → List ℕ)
     → slot ≡ 2 → tape ≡ 1 → ((other : ℕ) → other ≢ slot → left' other ≡ left other) → t ≤ t'
     → Stands items t player (left 1) → Stands items t' player (left' tape)

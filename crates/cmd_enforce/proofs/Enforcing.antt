@@ -238,7 +238,7 @@ answers_so {tape_holds} {accepted} limit holds capture_holds config tape capture
       judged = subst (λ (names : Names). AnswersAt accepted w.items (capture_stage limit names capture) failed before now answer) (same' ∙ same) a;
     })
 
--- at want of memory behind configuration and tape
+-- at want of memory after configuration and tape
 pub unfinished_so : {tape_holds : Names} {accepted : Config} {whole : Option PlayerState}
     (limit : ℕ) (holds capture_holds : Names) (config tape capture left : List ℕ) (before now : Option (List ℕ)) (reader : CaptureState)
     → config_stage limit holds config ≡ Found accepted → tape_holds ≡ holds → capture_holds ≡ tape_holds

@@ -45,7 +45,7 @@ abbrev pub Enforces : ℕ → Names → (config tape capture : List ℕ) → Hap
 Enforces limit holds config tape capture call answer =
     EnforcesSo limit holds config tape capture (FilesFailed call ⊎ SinkFailed call) call.before.written call.now.written answer
 
--- What `enforce` opens: the configuration, the tape, the capture, and behind them the tape again, which one of the second
+-- What `enforce` opens: the configuration, the tape, the capture, and after them the tape again, which one of the second
 -- version is; at 0 the first three at least.
 abbrev pub openings_of : (config tape capture : List ℕ) → Openings
 openings_of config tape capture = record {
@@ -54,13 +54,13 @@ openings_of config tape capture = record {
   due = 3;
 }
 
--- the capture wasn't opened, nor what is opened behind it
+-- the capture wasn't opened, nor what is opened after it
 pub record Unopened (config tape capture : List ℕ) (before now : Option (List Opened)) : Type 0 where
   pub count : ℕ
   pub front : Grew before now (take count (openings_of config tape capture).files)
   pub few : count ≤ 2
 
--- At want of memory behind configuration and tape the lines of all packets that were judged were written, and the others
+-- At want of memory after configuration and tape the lines of all packets that were judged were written, and the others
 -- are left in the capture, but for at most one that was read; over a tape of the first version none was judged.
 pub record Unfinished (limit : ℕ) (holds : Names) (config tape capture left : List ℕ) (before now : Option (List ℕ)) : Type 0 where
   pub accepted : Config
@@ -70,7 +70,7 @@ pub record Unfinished (limit : ℕ) (holds : Names) (config tape capture left : 
   pub judged : WroteJudged accepted items (packets_of (capture_stage limit holds capture)) (coming reader left).0 before now
   pub none : (HasVersion limit holds tape Two → ⊥) → judged.came.judged ≡ []
 
--- What the files of a run showed before it and behind it: what was opened, and what is left in the capture's slot.
+-- What the files of a run showed before it and after it: what was opened, and what is left in the capture's slot.
 pub record Shown : Type 0 where
   pub opened_before : Option (List Opened)
   pub opened : Option (List Opened)

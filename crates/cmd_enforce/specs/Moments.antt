@@ -78,7 +78,7 @@ pub record Outcome : Type 0 where
 abbrev pub outcome : (left : List Captured) → (written : Option (List ℕ)) → (pending : List ℕ) → Outcome
 outcome left written pending = record { left = left; written = written; pending = pending }
 
--- Why judging ended early: the capture ends so, behind all its packets; or memory was wanting, behind the lines of all
+-- Why judging ended early: the capture ends so, after all its packets; or memory was wanting, after the lines of all
 -- packets that were judged, and the rest is what the capture is still to give, with the packet that was read last; or a
 -- call on the outside failed, and a front of these lines went on.
 abbrev pub BreaksBehind : (work : Judging) → Outcome → CameTo work.config work.items work.all.0 → Type 0 → Refusal → Type 0

@@ -64,7 +64,7 @@ abbrev pub first_time : List Stamp → Option ℕ
 first_time [] = None
 first_time (packet ∷ packets) = Some packet.time
 
--- the greatest time: the moment that `enforce` has behind the last packet
+-- the greatest time: the moment that `enforce` has after the last packet
 abbrev pub greatest_time : List Stamp → ℕ
 greatest_time [] = 0
 greatest_time (packet ∷ packets) = max packet.time (greatest_time packets)

@@ -26,7 +26,7 @@ pub struct InputNames<'w> {
 /// # Errors
 ///
 /// The first of these, in this order of work: the configuration's, the tape's, the capture's. What is written before
-/// the capture is read is nothing. Over a tape of the first version no memory is taken behind the first packet; over
+/// the capture is read is nothing. Over a tape of the first version no memory is taken after the first packet; over
 /// one of the second version, at want of memory the lines of the packets before are written.
 pub fn enforce<F: Files, S: Sink>(
     alloc: Global,

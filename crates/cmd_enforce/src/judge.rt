@@ -23,13 +23,13 @@ use std::alloc::Global;
 use std::mem::forget;
 
 /// Writes a line for each packet of the capture, by the rules that the tape admits at the packet's moment. All lines
-/// are handed to the sink before it returns. The table of the tape's routes isn't freed: the program ends behind it.
+/// are handed to the sink before it returns. The table of the tape's routes isn't freed: the program ends after it.
 ///
 /// # Errors
 ///
-/// `Outside` where the files or the sink failed; `Capture` where the capture has a fault, behind the lines of the
+/// `Outside` where the files or the sink failed; `Capture` where the capture has a fault, after the lines of the
 /// packets before it; `Limit` where it has too many octets; what ends the tape, and `Memory` where the machine refused
-/// memory, behind the lines of the packets that were judged before. Where nothing of the tape is ahead, memory is
+/// memory, after the lines of the packets that were judged before. Where nothing of the tape is ahead, memory is
 /// wanting before the first packet is read, or not at all.
 pub(crate) fn judge_capture<F: Files, S: Sink>(
     alloc: Global,

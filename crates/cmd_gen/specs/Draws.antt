@@ -14,15 +14,15 @@ drawn x = x / 2 ^ 32
 abbrev pub pair_of : ℕ → Pair
 pair_of x = record { first = drawn (next_state x); second = drawn (next_state (next_state x)) }
 
--- the state behind them
+-- the state after them
 abbrev pub behind_pair : ℕ → ℕ
 behind_pair x = next_state (next_state x)
 
--- the state behind so many pairs
+-- the state after so many pairs
 unfoldable pub behind_pairs : (seed count : ℕ) → ℕ
 behind_pairs seed zero = seed
 behind_pairs seed (suc count) = behind_pair (behind_pairs seed count)
 
--- the pair behind so many others
+-- the pair after so many others
 abbrev pub pair_behind : (seed count : ℕ) → Pair
 pair_behind seed count = pair_of (behind_pairs seed count)

@@ -40,7 +40,7 @@ pub fn generate<S: Sink>(alloc: Global, sink: &mut S, count: u32) -> Result<(), 
     write_made(gen_text(alloc, desk.table(), &mut draws, count), sink)
 }
 
-/// The desk behind the generator's tape.
+/// The desk after the generator's tape.
 fn play_generated<'a>(
     alloc: Global,
     config: &'a Config,

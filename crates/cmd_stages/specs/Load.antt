@@ -43,7 +43,7 @@ pub record Openings : Type 0 where
   pub judged : ℕ
   pub due : ℕ
 
--- What was opened is a front of these: the first at least, at 3 none behind those that can be refused, at 0 those due.
+-- What was opened is a front of these: the first at least, at 3 none after those that can be refused, at 0 those due.
 pub record OpensFront (openings : Openings) (before now : Option (List Opened)) (answer : ℕ) : Type 0 where
   pub count : ℕ
   pub front : Grew before now (take count openings.files)

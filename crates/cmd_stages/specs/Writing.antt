@@ -3,7 +3,7 @@ use Rattle.std.specs.{Prelude.{◌≡◌, ◌⊎◌, ℕ, List, [], Option, Resu
 use Rattle.fs_base.specs.Sink.{Grew, GrewPart}
 use Rattle.cmd_stages.specs.declared.refusal.Refusal.{Refusal, TheVariants.{Outside, Memory}}
 
--- why a text isn't written: memory was wanting, before any of it was; or the sink failed, behind a front of it
+-- why a text isn't written: memory was wanting, before any of it was; or the sink failed, after a front of it
 abbrev pub Fails : List ℕ → Type 0 → Option (List ℕ) → Option (List ℕ) → Refusal → Type 0
 Fails text failed before now refusal =
     ((refusal ≡ Memory) × Grew before now []) ⊎ ((refusal ≡ Outside) × failed × GrewPart before now text)

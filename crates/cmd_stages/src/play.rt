@@ -16,7 +16,7 @@ use fs_desk::Desk;
 use fs_tape::{LONGEST_PAYLOAD, Tape, TapeFault, TapeItem};
 use std::alloc::Global;
 
-/// Plays the whole tape, and hands out the desk behind it.
+/// Plays the whole tape, and hands out the desk after it.
 ///
 /// # Errors
 ///
@@ -78,7 +78,7 @@ pub fn open_tape<F: Files>(files: &mut F, name: &str, limit: u64) -> Result<Tape
     }
 }
 
-/// Plays what is left of a tape of which no item was read, and hands out the desk behind it.
+/// Plays what is left of a tape of which no item was read, and hands out the desk after it.
 pub(crate) fn play_rest<'a, F: Files>(
     alloc: Global,
     files: &mut F,

@@ -232,7 +232,7 @@ impl<'a> Player<'a> {
         self.desk.changes()
     }
 
-    /// The table of the routes that are held behind what was played.
+    /// The table of the routes that are held after what was played.
     pub fn table(&self) -> &Table<'a>
         ensures { result.now ≡ self.now.desk.held }
     {

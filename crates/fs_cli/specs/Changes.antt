@@ -41,7 +41,7 @@ text_to lines [] end = lines ++ end_text end
 text_to lines (item ∷ items) end = lines
 
 -- All items were come to, and what they change was written, and then what there is of the end. Or memory was wanting
--- behind the lines of some first items. Or a call on the outside failed, and a front of the text stands.
+-- after the lines of some first items. Or a call on the outside failed, and a front of the text stands.
 abbrev pub WritesTo : {config : Config} {items : List Timed} → CameTo config items → End TapeReason → Type 0
     → (before now : Option (List ℕ)) → ℕ → Type 0
 WritesTo came end failed before now answer =

@@ -39,7 +39,7 @@ abbrev pub limit_of : Staying → ℕ
 limit_of (RecordSo order) = order.limit
 limit_of (KeepSo order) = order.limit
 
--- The objects of a run, and a gate, before it and behind it.
+-- The objects of a run, and a gate, before it and after it.
 pub record LiveObjects (F S W C G : Type 0) : Type 1 where
   pub of_run : Objects F S W C
   pub of_gate : gate.Ghosts G
@@ -50,7 +50,7 @@ pub record LiveObjects (F S W C G : Type 0) : Type 1 where
 abbrev pub beside : {F S W C G : Type 0} → gate.Ghosts G → G → G → Objects F S W C → LiveObjects F S W C G
 beside of_gate gate gate_now of_run = record { of_run = of_run; of_gate = of_gate; gate_before = gate; gate_behind = gate_now }
 
--- what the gate told before the run and behind it
+-- what the gate told before the run and after it
 abbrev pub gate_in : {F S W C G : Type 0} → LiveObjects F S W C G → AtGate
 gate_in w = at_gate w.of_gate w.gate_before w.gate_behind
 

@@ -156,7 +156,7 @@ HasNoMoments tells limit holds form =
     (config tape capture : List ℕ) → form ≡ Enforce config tape capture
     → IsTrue tells × (HasVersion limit holds tape Two → ⊥)
 
--- The objects of a run: the files, the sink, the wire and the clock, before it and behind it.
+-- The objects of a run: the files, the sink, the wire and the clock, before it and after it.
 pub record Objects (F S W C : Type 0) : Type 1 where
   pub of_files : files.Ghosts F
   pub of_sink : sink.Ghosts S
@@ -201,7 +201,7 @@ happened_in w =
     with_wire w.of_wire w.wire_before w.wire_behind
     (happened w.of_files w.of_sink w.files_before w.files_behind w.sink_before w.sink_behind)
 
--- what wire and clock told before the run and behind it
+-- what wire and clock told before the run and after it
 abbrev pub talk_in : {F S W C : Type 0} → Objects F S W C → Conversation
 talk_in w = conversation w.of_wire w.of_clock w.wire_before w.wire_behind w.clock_before w.clock_behind
 

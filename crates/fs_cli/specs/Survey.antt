@@ -47,7 +47,7 @@ abbrev pub Lists : Text → ℕ → Names → (config tape : List ℕ) → Happe
 Lists survey limit holds config tape call answer =
     ListsSo survey limit holds config tape (FilesFailed call ⊎ SinkFailed call) call.before.written call.now.written answer
 
--- a refusal is handed on behind what is said of it; or that couldn't be written
+-- a refusal is handed on after what is said of it; or that couldn't be written
 abbrev pub SaysOf : {T : Type 0} → Refusal → Type 0 → (before now : Option (List ℕ)) → Result T Refusal → Type 0
 SaysOf refusal failed before now result =
     IsErrAnd result (λ other. ((other ≡ refusal) × Grew before now (stopped_text refusal)) ⊎ Fails (stopped_text refusal) failed before now other)

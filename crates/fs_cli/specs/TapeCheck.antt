@@ -26,7 +26,7 @@ tally_behind number tally [] = tally
 tally_behind number tally (item ∷ items) =
     tally_behind number (if peer_of_item item == number then tally_with item tally else tally) items
 
--- how many items are of the peer of this number, how many octets they say that it sent, and whether it is up behind them
+-- how many items are of the peer of this number, how many octets they say that it sent, and whether it is up after them
 abbrev pub no_tally : Tally
 no_tally = record { items = 0; octets = 0; up = false }
 

@@ -13,7 +13,7 @@ abbrev pub listing_of : Config → (ℕ → Standing) → Held → List ℕ
 listing_of config standing held =
     peers_text (numbers_of config.peers) standing ++ (family_text V4 held ++ family_text V6 held)
 
--- the listing behind these items, of the routes held
+-- the listing after these items, of the routes held
 abbrev pub listing : Config → List Item → Held → List ℕ
 listing config items held = listing_of config (standing_of config items) held
 

@@ -19,6 +19,6 @@ family_words family held = rule_lines (map listed (admitted family held))
 abbrev pub words_of_held : Held → List ℕ
 words_of_held held = family_words V4 held ++ family_words V6 held
 
--- the admitted rules of the routes held behind these items
+-- the admitted rules of the routes held after these items
 abbrev pub worded : Config → List Item → Held → List ℕ
 worded config items held = words_of_held held
