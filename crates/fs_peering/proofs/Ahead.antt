@@ -20,7 +20,7 @@ module _ {A : Type 0} (old new : Announcing) (out out' : List ℕ) (result : Res
     where
       by : (c : Option Closed) → old.line.closed ≡ c → old.line.closed ≡ None
       by None h = h
-      by (Some why) h = absurd (not_both a why e (stayed why h).0)
+      by (Some why) h = absurd (not_both _ _ e (stayed _ h).0)
 
 -- the next rule of a list
 pub next_of : (text : Sent → List ℕ) (n : ℕ) (rules : List Sent) (said : List ℕ) → first_text text (drop n rules) ≡ Some said
@@ -47,7 +47,7 @@ starts_ahead_at true old new out out' started s = subst (λ (n : Announcing). ah
     least : (n : ℕ) → n ≤ n
     least n = omega arith
 starts_ahead_at false old new out out' started s =
-    subst (λ (n : Announcing). ahead_of n started ≤ ahead_of old started) (sym s.0) (least (ahead_of old started))
+    subst (λ (n : Announcing). ahead_of n started ≤ ahead_of old started) (sym s.0) (least _)
   where
     least : (n : ℕ) → n ≤ n
     least n = omega arith
@@ -62,18 +62,18 @@ starts_ahead old new out out' result stays starts started = by old.line.closed r
     least n = omega arith
 
     same : new ≡ old → ahead_of new started ≤ ahead_of old started
-    same e = subst (λ (n : Announcing). ahead_of n started ≤ ahead_of old started) (sym e) (least (ahead_of old started))
+    same e = subst (λ (n : Announcing). ahead_of n started ≤ ahead_of old started) (sym e) (least _)
 
     none : (m : ℕ) → 0 ≤ m
     none m = omega arith
 
     on : (r : Result (Unit {0}) Closed) → Starts old new out out' r → ahead_of new started ≤ ahead_of old started
-    on (Ok u) s = starts_ahead_at old.started old new out out' started s
-    on (Err why) s = subst (λ (n : Announcing). ahead_of n started ≤ ahead_of old started) (sym s.1.1) (none (ahead_of old started))
+    on (Ok u) s = starts_ahead_at _ _ _ _ _ _ s
+    on (Err why) s = subst (λ (n : Announcing). ahead_of n started ≤ ahead_of old started) (sym s.1.1) (none _)
 
     by : (c : Option Closed) → old.line.closed ≡ c → ahead_of new started ≤ ahead_of old started
-    by None e = on result (starts e)
-    by (Some why) e = same (stayed old new out out' result stays why e).1
+    by None e = on _ (starts e)
+    by (Some why) e = same (stayed _ _ _ _ _ stays _ e).1
 
 -- none is left once an established end says nothing more
 pub says_all : (old new : Announcing) (started : Bool) (out out' : List ℕ) → old.line.closed ≡ None → is_established (state_in old.line) ≡ true
@@ -91,8 +91,7 @@ says_all old new started out out' alive up begun_is says =
         (subst (λ (b : Bool). (if b then 0 else 1) + (length old.sending.rules - old.appended) ≡ 0) (sym begun_is) (omega (arith, h)))
 
     at : (o : Option (List ℕ)) → texts ≡ o → SaysText o false old new out out' → ahead_of new started ≡ 0
-    at None e s = subst (λ (n : Announcing). ahead_of n started ≡ 0) (sym s.1)
-        (enough (none_left (text_sent old.config old.peer old.line.phase.four old.sending) old.appended old.sending.rules e))
+    at None e s = subst (λ (n : Announcing). ahead_of n started ≡ 0) (sym s.1) (enough (none_left _ _ _ e))
     at (Some text) e s = absurd (never s.0)
       where
         never : false ≡ true → ⊥
@@ -102,7 +101,7 @@ pub starts_ok : (old new : Announcing) (out out' : List ℕ) (result : Result (U
     → StartsOpen old new out out' result
     → (old.line.closed ≡ None) × StartsWith old.started old new out out'
 starts_ok old new out out' result e stays starts =
-    let alive : old.line.closed ≡ None = alive_on old new out out' result stays tt e in
+    let alive : old.line.closed ≡ None = alive_on _ _ _ _ _ stays _ e in
     (alive, subst (λ (r : Result (Unit {0}) Closed). Starts old new out out' r) e (starts alive))
 
 pub if_on : {E P : Type 0} (r : Result Bool E) (Q : Bool → Type 0) → IfOk r Q → ((had : Bool) → Q had → P) → OnOk r P

@@ -45,19 +45,19 @@ module _ (end : Announcing) (started : Bool) (count : ℕ) (heard : Pieces) (sai
       ∙ sym (append_assoc (open_sent end.config end.peer end.sending) (course machine heard).text rules)
 
   said_none : 0 < length heard → end.appended ≡ 0 → said ≡ answers_to end.config end.peer end.sending heard
-  said_none some none = said_so [] some (no_rules end none) ∙ append-nil (answers_to end.config end.peer end.sending heard)
+  said_none some none = said_so _ some (no_rules end none) ∙ append-nil (answers_to end.config end.peer end.sending heard)
 
   closed_so : (why : Closed) → 0 < length heard → end.line.closed ≡ Some why
       → ((course machine heard).point.closed ≡ Some why)
       × (ClosesSo machine (moments_in heard) (octets_in heard) why × (said ≡ answers_to end.config end.peer end.sending heard))
   closed_so why some shut =
-      let early : is_established (state_in end.line) ≡ false = state_shut end.line why shut in
+      let early : is_established (state_in end.line) ≡ false = state_shut end.line _ shut in
       (sym (h.at early).closed_is ∙ shut, (h.shut why shut, said_none some (h.none early)))
 
   module _ (alive : end.line.closed ≡ None) where
     opens : Opens false machine end.line count (octets_in heard)
     opens =
-        opens_so false machine end.line (course machine heard).point count (octets_in heard) alive
+        opens_so _ _ _ _ _ _ alive
         (λ down. let at = h.at (state_open end.line alive ∙ down) in at.open_is (sym at.closed_is ∙ alive)) k
 
     said_all : (limit : ℕ) → 0 < length heard → count < limit → is_established (state_in end.line) ≡ true → ahead_of end started ≡ 0
@@ -71,7 +71,7 @@ module _ (end : Announcing) (started : Bool) (count : ℕ) (heard : Pieces) (sai
           found = opens.found;
           up = opens.up ∙ sym (state_open end.line alive) ∙ up;
           within = omega (arith, c, within);
-          said_is = said_so (flat_map (text_sent end.config end.peer opens.phase.four end.sending) end.sending.rules) some
+          said_is = said_so _ some
               (all ∙ ap (λ (p : Phase). flat_map (text_sent end.config end.peer p.four end.sending) end.sending.rules) (opens.stays refl));
         }
       where
@@ -83,7 +83,7 @@ module _ (end : Announcing) (started : Bool) (count : ℕ) (heard : Pieces) (sai
 
         all : rules_of end ≡ flat_map (text_sent end.config end.peer end.line.phase.four end.sending) end.sending.rules
         all = ap (flat_map (text_sent end.config end.peer end.line.phase.four end.sending))
-            (take_all end.appended end.sending.rules (sub_none (if started then 0 else 1) (length end.sending.rules) end.appended left))
+            (take_all end.appended end.sending.rules (sub_none _ _ _ left))
 
 -- what an end said, and then this
 abbrev pub Leaves : Stance → List ℕ → Stance
@@ -93,7 +93,7 @@ leaving : (stance : Stance) (text : List ℕ) (b c : WireEnds) → TakesIn 1 tex
 leaving stance text b c took = record {
   out = text;
   part = record {
-    stands = λ earlier spoken s. (spoken, (refl, same_stance stance _ _ spoken spoken (sym (append-nil earlier)) refl s));
+    stands = λ earlier spoken s. (spoken, (refl, same_stance stance _ _ spoken _ (sym (append-nil earlier)) refl s));
     read = sym (ap (λ (e : WireEnd). e.left) took.wrote);
     wrote = ap (λ (e : WireEnd). e.written) took.wrote;
     tied = ap (λ (e : WireEnd). e.joined) took.wrote;
@@ -129,7 +129,7 @@ said_last : (s0 s1 s2 : Stance) (limit : ℕ) (given : List ℕ) (a b c : WireEn
 said_last s0 s1 s2 limit given a b c w last = record {
   heard = w.heard ++ [];
   said = w.said ++ last.out;
-  part = part_then s0 s1 s2 1 w.heard [] w.said last.out a b c w.part last.part;
+  part = part_then _ _ _ _ _ _ _ _ _ _ _ w.part last.part;
   asked = ap moments_in (append-nil w.heard) ∙ w.asked;
   some = subst (λ (z : Pieces). 0 < length z) (sym (append-nil w.heard)) w.some;
   within = subst (λ (z : Pieces). length (octets_in z) ≤ limit) (sym (append-nil w.heard)) w.within;
@@ -186,9 +186,8 @@ own_of t = record { announcer = before_all t.announcer; hears_on = t.hears_on; s
 
 -- what an end is that hears more, and how it then stands
 module _ (config : Config) (peer : Peer) (sending : Sending) (limit : ℕ) (first spoke now : Teller) (t0 t1 t2 : Option WireEnds)
-    (answers answers' : Option (List ℕ))
-    (own_spoke : own_of spoke ≡ own_of first) (own_now : own_of now ≡ own_of spoke) (early : first.hears_on ≡ false)
-    (e : first.announcer ≡ begins_with config peer sending)
+    (answers answers' : Option (List ℕ)) (own_spoke : own_of spoke ≡ own_of first) (own_now : own_of now ≡ own_of spoke)
+    (early : first.hears_on ≡ false) (e : first.announcer ≡ begins_with config peer sending)
     (unstarted : first.started ≡ false) (fresh : first.count ≡ 0)
     (told : Told (Spoken (SaysUpTo first.hears_on first.announcer first.started first.count)
     (SaysUpTo spoke.hears_on spoke.announcer spoke.started spoke.count) 1) t0 t1)
@@ -212,7 +211,7 @@ module _ (config : Config) (peer : Peer) (sending : Sending) (limit : ℕ) (firs
   off = ap (λ (t : Teller). t.hears_on) own_now ∙ off_spoke
 
   start : s0 [] []
-  start = says_start first.hears_on first.announcer first.started first.count config peer sending e unstarted fresh
+  start = says_start _ _ _ _ _ _ _ e unstarted fresh
 
   -- no rule was said before the end heard
   unsent : (a b : WireEnds) → Spoken s0 s1 1 a b → spoke.announcer.appended ≡ 0
@@ -229,13 +228,10 @@ module _ (config : Config) (peer : Peer) (sending : Sending) (limit : ℕ) (firs
   at_end ending heard over begun so_far hears same ends = record {
     given = hears.given;
     grew = hears.grew;
-    told = told_and (Spoken s0 s1 1) (HeardOut heard s1 s2 over begun so_far 1 limit hears.given) (Tells ending config peer sending limit hears.given)
-        (λ a b c f l.
-        told_so ending config peer sending limit now.hears_on end now.started now.count off
-        (is_of end first.announcer config peer sending (ap (λ (t : Teller). t.announcer) (own_now ∙ own_spoke)) e) hears.given s0 a c start
-        (λ pieces said some h. ends pieces said c.second.left (same ∙ unsent a b f) l.ends some h)
-        (first_heard heard s0 s1 s2 over begun so_far limit hears.given a b c f l))
-        t0 t1 t2 told hears.told;
+    told = told_and _ _ _ (λ a b c f l. told_so _ _ _ _ _ _ _ _ _ off
+        (is_of _ _ _ _ _ (ap (λ (t : Teller). t.announcer) (own_now ∙ own_spoke)) e) _ _ _ _ start
+        (λ pieces said some h. ends pieces said c.second.left (same ∙ unsent _ _ f) l.ends some h)
+        (first_heard _ _ _ _ _ _ _ _ _ _ _ _ f l)) _ _ _ told hears.told;
   }
 
   pub over_so : (why : Closed) (over : Bool) (begun so_far : ℕ) → HearsOut Over s1 s2 over begun so_far 1 limit t1 t2 answers answers'
@@ -244,27 +240,19 @@ module _ (config : Config) (peer : Peer) (sending : Sending) (limit : ℕ) (firs
   over_so why over begun so_far hears shut t3 leaves = record {
     given = hears.given;
     grew = hears.grew;
-    told = told_and (Whole s0 s2 limit hears.given) (TakesIn 1 (farewell_to why)) (Tells (HasClosed why) config peer sending limit hears.given)
-        (λ a b c w l.
-        told_leaving (HasClosed why) config peer sending limit now.hears_on end now.started now.count off
-        (is_of end first.announcer config peer sending (ap (λ (t : Teller). t.announcer) (own_now ∙ own_spoke)) e)
-        (farewell_to why) hears.given s0 a c start
-        (λ pieces said some h. let c = closed_so end now.started now.count pieces said h.0 h.1 why some shut in
-        (c.0, (c.1.0, ap (λ (z : List ℕ). z ++ farewell_to why) c.1.1)))
-        (said_last s0 s2 (Leaves s2 (farewell_to why)) limit hears.given a b c w (leaving s2 (farewell_to why) b c l)))
-        t0 t2 t3
-        (told_and (Spoken s0 s1 1) (HeardOut Over s1 s2 over begun so_far 1 limit hears.given) (Whole s0 s2 limit hears.given)
-        (λ a b c f l. first_heard Over s0 s1 s2 over begun so_far limit hears.given a b c f l)
-        t0 t1 t2 told hears.told)
-        leaves;
+    told = told_and _ _ _ (λ a b c w l. told_leaving _ _ _ _ _ _ _ _ _ off
+        (is_of _ _ _ _ _ (ap (λ (t : Teller). t.announcer) (own_now ∙ own_spoke)) e) _ _ _ _ _ start
+        (λ pieces said some h. let c = closed_so _ _ _ _ _ h.0 h.1 _ some shut in
+        (c.0, (c.1.0, ap (λ (z : List ℕ). z ++ farewell_to why) c.1.1))) (said_last _ _ _ _ _ _ _ _ w (leaving _ _ _ _ l))) _ _ _
+        (told_and _ _ _ (λ a b c f l. first_heard _ _ _ _ _ _ _ _ _ _ _ _ f l) _ _ _ told hears.told) leaves;
   }
 
   limit_end : (alive : end.line.closed ≡ None) → limit ≤ now.count → (pieces : Pieces) (said left : List ℕ) → end.appended ≡ 0 → 0 < length pieces
       → SaysUpTo false end now.started now.count pieces said
       → TellsSo AtLimit end.config end.peer end.sending limit pieces said left
   limit_end alive met pieces said left none some h = (
-    met_by (opens end now.started now.count pieces said h.0 h.1 alive) limit met,
-    (said_none end now.started now.count pieces said h.0 h.1 some none, h.0.alive alive),
+    met_by (opens _ _ _ _ _ h.0 h.1 alive) _ met,
+    (said_none _ _ _ _ _ h.0 h.1 some none, h.0.alive alive),
   )
 
   pub over_limit : (over : Bool) (begun so_far : ℕ) → HearsOut Over s1 s2 over begun so_far 1 limit t1 t2 answers answers'
@@ -277,19 +265,18 @@ module _ (config : Config) (peer : Peer) (sending : Sending) (limit : ℕ) (firs
       → end.appended ≡ spoke.announcer.appended
       → over ≡ is_settled end.line → so_far ≡ now.count → TellsOver AtLimit config peer sending limit t0 t2 answers answers'
   limit_so over begun so_far hears same o k =
-      at_end AtLimit MetIt over begun so_far hears same
+      at_end _ MetIt over begun so_far hears same
       (λ pieces said left none e some h. limit_end (unsettled end.line (sym o ∙ e.0)).0 (subst (λ (n : ℕ). limit ≤ n) k e.1) pieces said left none some h)
 
   pub ended_so : (over : Bool) (begun so_far : ℕ) → HearsOut All s1 s2 over begun so_far 1 limit t1 t2 answers answers'
       → end.appended ≡ spoke.announcer.appended
       → over ≡ is_settled end.line → so_far ≡ now.count → TellsOver Ended config peer sending limit t0 t2 answers answers'
   ended_so over begun so_far hears same o k =
-      at_end Ended All over begun so_far hears same
-      (λ pieces said left none e some h.
+      at_end _ All over begun so_far hears same (λ pieces said left none e some h.
       let alive = unsettled end.line (sym o ∙ e.0) in (
-        ends_by (opens end now.started now.count pieces said h.0 h.1 alive.0) limit left (sym (state_open end.line alive.0)
+        ends_by (opens _ _ _ _ _ h.0 h.1 alive.0) _ _ (sym (state_open end.line alive.0)
             ∙ alive.1) (subst (λ (n : ℕ). n < limit) k e.1.0) e.1.1,
-        (said_none end now.started now.count pieces said h.0 h.1 some none, h.0.alive alive.0),
+        (said_none _ _ _ _ _ h.0 h.1 some none, h.0.alive alive.0),
       ))
 
 -- and when its rules were said
@@ -310,12 +297,10 @@ done_so config peer sending limit s0 s1 s2 heard on end started count t0 t1 t2 t
           told_so Done config peer sending limit on end started count off of hears.given s0 a c start
           (λ pieces said some h. said_all end started count pieces said h.0 h.1 open_end limit some within
           (settled_up end.line open_end (ready ∙ w.1)) (ahead w.1))
-          (said_last s0 s2 (SaysUpTo on end started count) limit hears.given a b c w.0 l))
-          t0 t2 t3
+          (said_last s0 s2 (SaysUpTo on end started count) limit hears.given a b c w.0 l)) t0 t2 t3
           (told_and (Spoken s0 s1 1) (HeardOut Over s1 s2 over begun_at so_far 1 limit hears.given) Before
-          (λ a b c f l. (first_heard Over s0 s1 s2 over begun_at so_far limit hears.given a b c f l, sym o ∙ l.ends))
-          t0 t1 t2 first hears.told)
-          last;
+          (λ a b c f l. (first_heard Over s0 s1 s2 over begun_at so_far limit hears.given a b c f l, sym o ∙ l.ends)) t0 t1 t2
+          first hears.told) last;
     }
   where
     Before : WireEnds → WireEnds → Type 0

@@ -1,6 +1,6 @@
 -- What the machine of an announcing end answers to the OPEN: a KEEPALIVE.
 use Rattle.fs_peering.proofs.Words.{Closed, Config, Handed, Machine, Message, MessageFault, Needs, NoFamily, Open, Phase, State, Times, Update}
-use Rattle.fs_peering.proofs.Words.{WaitKeep, WaitOpen, announcer, faulted, first_message, keepalive_to, lacks_of, message_text, not_taken, notice_of}
+use Rattle.fs_peering.proofs.Words.{WaitKeep, WaitOpen, announcer, first_message, keepalive_to, message_text, not_taken, notice_of}
 use Rattle.fs_peering.proofs.Words.{notified, open_of, opened, phase, rest_step, runs_by, step_at, step_by, stops, taken, taken_in, takes}
 use Rattle.fs_peering.proofs.Words.{transition_at, transition_by, wrong_at, ◌≡◌, ◌==◌, ◌⊎◌, inl, inr, ℕ, List, [], ◌++◌, Bool, true, false}
 use Rattle.fs_peering.proofs.Words.{if◌then◌else◌, min, Option, Some, None, Result, Ok, Err, refl, ap, sym, ◌∙◌, subst, append-nil, arith, nat_tests}
@@ -52,16 +52,16 @@ module _ (config : Config) (needs : Needs) where
       found_open : (b : Bool) (found : Open) → (message.kind == 1) ≡ true → open_of config.local_as message.body ≡ Ok found
           → OpenOf now message (if b then Err NoFamily else taken (phase WaitKeep found.four (min config.hold_time found.hold_time)) None)
       found_open true found k r = tt
-      found_open false found k r = (one message.kind k, (found, (r, (refl, refl))))
+      found_open false found k r = (one _ k, (found, (r, (refl, refl))))
 
       read : (r : Result Open MessageFault) → (message.kind == 1) ≡ true → open_of config.local_as message.body ≡ r → OpenOf now message (opened machine r)
-      read (Ok found) k e = found_open (lacks_of needs found) found k e
+      read (Ok found) k e = found_open _ _ k e
       read (Err fault) k e = tt
 
       at : (a b : Bool) → (message.kind == 1) ≡ b → (r : Result Open MessageFault) → open_of config.local_as message.body ≡ r
           → OpenOf now message (if a then Err (notified (notice_of message.body)) else if b then opened machine r else not_taken)
       at true b k r h = tt
-      at false true k r h = read r k h
+      at false true k r h = read _ k h
       at false false k r h = tt
 
   pub opens_by : (now : Phase) (times : Times) (octets : List ℕ) → now.state ≡ WaitOpen → Opens octets now (runs_by machine now times octets)
@@ -73,23 +73,22 @@ module _ (config : Config) (needs : Needs) where
       shut : (why : Closed) → step_by machine now octets ≡ stops why → Opens octets now (runs_by machine now times octets)
       shut why h =
           subst (Opens octets now) (sym (ap (runs_by machine now times) (sym whole) ∙ runs_stops machine now times why octets [] h))
-          (inr (inr (record { text_is = silent why; why = why; closed_is = refl })))
+          (inr (inr (record { text_is = silent _; why = why; closed_is = refl })))
 
       none : first_message octets ≡ None → (wrong : Option MessageFault) → wrong_at octets ≡ wrong → Opens octets now (runs_by machine now times octets)
       none f None w =
           subst (Opens octets now) (sym (runs_waits machine now times octets (ap (λ (o : Option (Message × List ℕ)). elim o [
             | Some found ↦ step_at (transition_by machine now found.0) found.1
             | None ↦ rest_step (wrong_at octets)
-          ]) f ∙ ap rest_step w)))
-          (inl (record { text_is = refl; waiting_is = refl; phase_is = refl }))
-      none f (Some fault) w = shut (faulted fault) (ap (λ (o : Option (Message × List ℕ)). elim o [
+          ]) f ∙ ap rest_step w))) (inl (record { text_is = refl; waiting_is = refl; phase_is = refl }))
+      none f (Some fault) w = shut _ (ap (λ (o : Option (Message × List ℕ)). elim o [
         | Some found ↦ step_at (transition_by machine now found.0) found.1
         | None ↦ rest_step (wrong_at octets)
       ]) f ∙ ap rest_step w)
 
       took : (found : Message × List ℕ) → first_message octets ≡ Some found → (made : Made) → transition_by machine now found.0 ≡ made → OpenOf now found.0 made
           → Opens octets now (runs_by machine now times octets)
-      took found f (Err why) t o = shut why (ap (λ (x : Option (Message × List ℕ)). elim x [
+      took found f (Err why) t o = shut _ (ap (λ (x : Option (Message × List ℕ)). elim x [
         | Some found ↦ step_at (transition_by machine now found.0) found.1
         | None ↦ rest_step (wrong_at octets)
       ]) f ∙ ap (λ (m : Made). step_at m found.1) t)
@@ -100,7 +99,7 @@ module _ (config : Config) (needs : Needs) where
             | None ↦ rest_step (wrong_at octets)
           ]) f ∙ ap (λ (m : Made). step_at m found.1) t in
           let later : Handed = runs_by machine next.0 (taken_in now.state times) (found.1 ++ []) in
-          let quiet : Quiet config needs next.0 later = quiet_by config needs next.0 (taken_in now.state times) (found.1 ++ []) o.1.1.1.1 in
+          let quiet : Quiet config needs next.0 later = quiet_by config needs _ _ _ o.1.1.1.1 in
           subst (Opens octets now) (sym (ap (runs_by machine now times) (sym whole) ∙ runs_takes machine now next.0 times next.1 octets found.1 [] step))
           (inr (inl (record {
             text_is = ap (λ (s : State). keepalive_to s ++ later.text) e ∙ ap (λ (z : List ℕ). message_text 4 [] ++ z) quiet.text_is
@@ -118,5 +117,5 @@ module _ (config : Config) (needs : Needs) where
           })))
 
       by : (x : Option (Message × List ℕ)) → first_message octets ≡ x → Opens octets now (runs_by machine now times octets)
-      by None f = none f (wrong_at octets) refl
-      by (Some found) f = took found f (transition_by machine now found.0) refl (is_open now found.0 e)
+      by None f = none f _ refl
+      by (Some found) f = took _ f _ refl (is_open _ found.0 e)

@@ -17,7 +17,7 @@ reaches_front least (x ∷ xs) ys (inr r) = inr (reaches_front least xs ys r)
 
 pub apart_front : (least : ℕ) (xs ys : List ℕ) → LieApart least xs → LieApart least (xs ++ ys)
 apart_front least [] ys a = absurd a
-apart_front least (x ∷ xs) ys (inl r) = inl (reaches_front (x + least) xs ys r)
+apart_front least (x ∷ xs) ys (inl r) = inl (reaches_front _ _ _ r)
 apart_front least (x ∷ xs) ys (inr a) = inr (apart_front least xs ys a)
 
 -- the greatest of them is one
@@ -64,7 +64,7 @@ module _ (which : Bool) where
     where
       by : (LieApart least (moments_in (of_one events)) → LieApart least (moments_of events)) → (b : Bool)
           → LieApart least (moments_in ((if b then (event.moment, event.piece) ∷ [] else []) ++ of_one events)) → LieApart least (moments_of (event ∷ events))
-      by rest true (inl r) = inl (reaches_one (event.moment + least) events r)
+      by rest true (inl r) = inl (reaches_one _ events r)
       by rest true (inr k) = inr (rest k)
       by rest false k = inr (rest k)
 
@@ -78,11 +78,10 @@ module _ (machine : Machine) (heard earlier later : Pieces) (event : ℕ × List
   far : LieApart (1000 * hold) (moments_in heard)
   far =
       let late = expires_late machine earlier event.0 lived due in
-      subst (LieApart (1000 * hold))
-      (append_assoc (moments_in earlier) (event.0 ∷ []) (moments_in later)
+      subst (LieApart (1000 * hold)) (append_assoc (moments_in earlier) (event.0 ∷ []) (moments_in later)
       ∙ sym (ap moments_in split ∙ map-append (λ (e : ℕ × List ℕ). e.0) earlier (event ∷ later)))
       (apart_front (1000 * hold) (moments_in earlier ++ event.0 ∷ []) (moments_in later)
-      (apart_spans (1000 * hold) (moments_in earlier ++ event.0 ∷ []) (positive hold late.0) late.1))
+      (apart_spans _ _ (positive _ late.0) late.1))
 
   runs_late : (given : List ℕ) → ((least : ℕ) → LieApart least (moments_in heard) → LieApart least given) → RunsLate machine heard given
   runs_late given lift = record {
@@ -90,7 +89,7 @@ module _ (machine : Machine) (heard earlier later : Pieces) (event : ℕ × List
     untaken = octets_in (event ∷ later);
     split = ap octets_in split ∙ flat_map-append (λ (e : ℕ × List ℕ). e.1) earlier (event ∷ later);
     phase = (course machine earlier).point.phase;
-    found = (stands machine earlier lived).found;
+    found = (stands _ earlier lived).found;
     timed = (expires_late machine earlier event.0 lived due).0;
     apart = lift (1000 * hold) far;
   }
@@ -102,13 +101,12 @@ late_first config peer whose events replied c = by c.closes
   where
     by : ExpiresAt config whose c.earlier c.moment replied (Fault 4 0) ⊎ ClosesIn config peer whose c.earlier c.moment c.piece replied (Fault 4 0)
         → RunsLate (receiver config whose) (of_first events) (moments_of events)
-    by (inl x) = runs_late (receiver config whose) (of_first events) c.earlier [] (c.moment, c.piece) c.split c.lived x.due (moments_of events)
-        (λ least a. apart_one true least events a)
-    by (inr y) = absurd (bounded_late config whose ((octets_in c.earlier ++ c.piece) ++ []) (ap (λ (z : List Update × Last). z.1) (y.over.stays [])))
+    by (inl x) = runs_late _ _ _ _ _ c.split c.lived x.due _ (λ least a. apart_one true _ _ a)
+    by (inr y) = absurd (bounded_late config whose _ (ap (λ (z : List Update × Last). z.1) (y.over.stays [])))
 
 pub late_second : (config : Config) (sending : Sending) (events : List Heard) → (told_by config sending (of_second events)).point.closed ≡ Some (Fault 4 0)
     → RunsLate (announcer config (needs_of sending.rules)) (of_second events) (moments_of events)
 late_second config sending events c =
     let machine : Machine = announcer config (needs_of sending.rules) in
-    let x : Expired machine (of_second events) = closed_late machine (of_second events) c in
-    runs_late machine (of_second events) x.earlier x.later x.event x.split x.lived x.due (moments_of events) (λ least a. apart_one false least events a)
+    let x : Expired machine (of_second events) = closed_late _ _ c in
+    runs_late _ _ _ _ _ x.split x.lived x.due _ (λ least a. apart_one false _ _ a)

@@ -9,7 +9,7 @@ pub listens_none : (stance : Stance) (place begun : ℕ) (told : Option WireEnds
 listens_none stance place begun told answers = record {
   given = [];
   grew = Grew-refl answers;
-  told = told_same (ListenedTo stance stance place begun begun [])
+  told = told_same _
       (λ ends. (record { heard = []; said = []; part = part_none stance place ends; asked = refl }, omega arith)) told;
 }
 
@@ -18,7 +18,7 @@ abbrev listened_more : (s0 s1 s2 : Stance) (place : ℕ) (given : List ℕ) (mom
 listened_more s0 s1 s2 place given moment count said a b c l round = record {
   heard = l.heard ++ (moment, round.got) ∷ [];
   said = l.said ++ round.out;
-  part = part_then s0 s1 s2 place l.heard ((moment, round.got) ∷ []) l.said round.out a b c l.part round.part;
+  part = part_then _ _ _ _ _ _ _ _ _ _ _ l.part round.part;
   asked = map-append (λ piece. piece.0) l.heard ((moment, round.got) ∷ []) ∙ ap (λ (moments : List ℕ). moments ++ moment ∷ []) l.asked;
 }
 

@@ -78,7 +78,7 @@ module _ (config : Config) (peer : Peer) (sending : Sending) where
       ap (λ (r : Result Open MessageFault). opened (receiver config peer) r)
       (open_read peer.asn config.hold_time sending.id can.asn.small can.own.hold_time.small can.id.small can.asn.some can.own.hold_time.not_one
       can.own.hold_time.not_two can.id.some)
-      ∙ ap (λ (n : ℕ). Ok (phase WaitKeep true n, None)) (least config.hold_time)
+      ∙ ap (λ (n : ℕ). Ok (phase WaitKeep true n, None)) (least _)
 
   -- it is the first message
   pub open_first : (rest : List ℕ) → first_message (open_sent config peer sending ++ rest) ≡ Some (own_message, rest)
@@ -98,12 +98,12 @@ module _ (config : Config) (peer : Peer) (sending : Sending) where
       let fits = open_fits (length body) refl in
       one_message machine at_start (phase WaitKeep true hold) None 1 body (message_text 4 [] ++ rest) (omega arith) (omega arith) fits.0 fits.1 (peer_opens can)
       ∙ one_message machine (phase WaitKeep true hold) (established hold) None 4 [] rest (omega arith) (omega arith) refl (omega arith) refl
-      ∙ parts_taken hold parts read
+      ∙ parts_taken _ _ read
 
   -- and of all rules
   pub all_arrive : (parts : List (Option Sent)) → CanArrive config peer sending → rules_in parts ≡ sending.rules
       → session_from config peer at_start (open_sent config peer sending ++ woven (text_sent config peer true sending) (None ∷ parts))
       ≡ (map (update_sent config peer sending) sending.rules, still (established config.hold_time))
   all_arrive parts can e =
-      parts_arrive parts can (subst (AllByRecursion (ComesBack config peer sending)) (sym e) can.read)
+      parts_arrive _ can (subst (AllByRecursion (ComesBack config peer sending)) (sym e) can.read)
       ∙ ap (λ (r : List Sent). (map (update_sent config peer sending) r, still (established config.hold_time))) e

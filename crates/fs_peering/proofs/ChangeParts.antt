@@ -78,8 +78,7 @@ same_other_way a b = rule_equivalence.symm a b
 
 pub unkept_gone : (kept : BTreeSet Ranked) (old new : List Sent) → Keeps kept new → unkept kept old ≡ gone old new
 unkept_gone kept old new h =
-    filtered_so (λ sent. not (has_rule kept sent.rule)) (λ sent. not (list_any (λ other. is_eq (rule_cmp sent.rule other.rule)) new))
-    (λ sent. ap not (h sent.rule)) old
+    filtered_so _ _ (λ sent. ap not (h sent.rule)) _
 
 -- The rules of a family.
 
@@ -93,8 +92,7 @@ of_both (sent ∷ rules) = at sent.rule.family (of_both rules)
         (filter (λ (one : Sent). afi_of one.rule.family == afi_of V4) rules)))
         + length (map (λ (one : Sent). one.rule)
         (cond (afi_of family == afi_of V6) (sent ∷ filter (λ (one : Sent). afi_of one.rule.family == afi_of V6) rules)
-        (filter (λ (one : Sent). afi_of one.rule.family == afi_of V6) rules)))
-        ≡ length (sent ∷ rules)
+        (filter (λ (one : Sent). afi_of one.rule.family == afi_of V6) rules))) ≡ length (sent ∷ rules)
     at V4 rest = omega (arith, rest)
     at V6 rest = omega (arith, rest)
 
@@ -128,7 +126,7 @@ pub both_withdrawn : (terms : Terms) (kept : BTreeSet Ranked) (lent_old old lent
     → lent_new ≡ new → lent_old ≡ old → one ≡ out ++ withdrawals terms V4 (unkept kept lent_old) → both ≡ one ++ withdrawals terms V6 (unkept kept lent_old)
     → both ≡ out ++ (withdrawals terms V4 (gone old new) ++ withdrawals terms V6 (gone old new))
 both_withdrawn terms kept lent_old old lent_new new out one both keeps n o first second =
-    let same : unkept kept lent_old ≡ gone old new = unkept_gone kept lent_old lent_new keeps ∙ ap (λ l. gone l lent_new) o ∙ ap (gone old) n in
+    let same : unkept kept lent_old ≡ gone old new = unkept_gone _ _ _ keeps ∙ ap (λ l. gone l lent_new) o ∙ ap (gone old) n in
     second
     ∙ ap (λ l. l ++ withdrawals terms V6 (unkept kept lent_old)) first
     ∙ append_assoc out (withdrawals terms V4 (unkept kept lent_old)) (withdrawals terms V6 (unkept kept lent_old))
@@ -137,7 +135,7 @@ both_withdrawn terms kept lent_old old lent_new new out one both keeps n o first
 pub both_counted : (kept : BTreeSet Ranked) (lent_old old lent_new new : List Sent) (one other : ℕ) → Keeps kept lent_new → lent_new ≡ new → lent_old ≡ old
     → one ≡ length (of_family V4 (unkept kept lent_old)) → other ≡ length (of_family V6 (unkept kept lent_old)) → one + other ≡ length (gone old new)
 both_counted kept lent_old old lent_new new one other keeps n o first second =
-    let same : unkept kept lent_old ≡ gone old new = unkept_gone kept lent_old lent_new keeps ∙ ap (λ l. gone l lent_new) o ∙ ap (gone old) n in
+    let same : unkept kept lent_old ≡ gone old new = unkept_gone _ _ _ keeps ∙ ap (λ l. gone l lent_new) o ∙ ap (gone old) n in
     let whole : one + other ≡ length (unkept kept lent_old) = omega (arith, first, second, of_both (unkept kept lent_old)) in
     whole ∙ ap length same
 
@@ -175,13 +173,11 @@ inserted text (x ∷ xs) key = at (slice_cmp nat_cmp key.items x.items) refl (in
         ap (λ b. b || (is_eq (slice_cmp nat_cmp text x.items) || list_any (λ (other : Vec ℕ). is_eq (slice_cmp nat_cmp text other.items)) xs))
         (is_eq-slice_cmp text key.items)
     at Equal h rest =
-        let same : x.items ≡ key.items = bytes_other_way key.items x.items (sym (is_eq-slice_cmp key.items x.items) ∙ ap is_eq h) in
-        twice (is_eq (slice_cmp nat_cmp text x.items)) (list_any (λ (other : Vec ℕ). is_eq (slice_cmp nat_cmp text other.items)) xs)
-        (bytes_eq text key.items) (is_eq-slice_cmp text x.items ∙ ap (bytes_eq text) same)
+        let same : x.items ≡ key.items = bytes_other_way _ _ (sym (is_eq-slice_cmp key.items x.items) ∙ ap is_eq h) in
+        twice _ _ _ (is_eq-slice_cmp text x.items ∙ ap (bytes_eq text) same)
     at Greater h rest =
         ap (λ b. is_eq (slice_cmp nat_cmp text x.items) || b) rest
-        ∙ swapped (is_eq (slice_cmp nat_cmp text x.items)) (bytes_eq text key.items)
-        (list_any (λ (other : Vec ℕ). is_eq (slice_cmp nat_cmp text other.items)) xs)
+        ∙ swapped (is_eq (slice_cmp nat_cmp text x.items)) (bytes_eq text key.items) _
 
 pub added_text : (text : List ℕ) (old new : List (Vec ℕ)) (key : Vec ℕ) → new ≡ insert_key text_cmp old key
     → list_any (λ (other : Vec ℕ). is_eq (slice_cmp nat_cmp text other.items)) new
@@ -189,12 +185,12 @@ pub added_text : (text : List ℕ) (old new : List (Vec ℕ)) (key : Vec ℕ) �
 added_text text old new key e = ap (list_any (λ (other : Vec ℕ). is_eq (slice_cmp nat_cmp text other.items))) e ∙ inserted text old key
 
 unsaid_fresh : (said : BTreeSet (Vec ℕ)) (old new : List (List ℕ)) → AreSaid said old → unsaid said new ≡ fresh old new
-unsaid_fresh said old new h = filtered_so (λ text. not (has_text said text)) (λ text. not (list_any (bytes_eq text) old)) (λ text. ap not (h text)) new
+unsaid_fresh said old new h = filtered_so _ _ (λ text. ap not (h text)) _
 
 pub fresh_texts : (said : BTreeSet (Vec ℕ)) (text other : Sent → List ℕ) (lent_old old lent_new new : List Sent) → lent_old ≡ old → lent_new ≡ new
     → AreSaid said (map text lent_old) → unsaid said (map other lent_new) ≡ fresh (map text old) (map other new)
 fresh_texts said text other lent_old old lent_new new o n h =
-    unsaid_fresh said (map text lent_old) (map other lent_new) h ∙ ap (λ l. fresh (map text l) (map other lent_new)) o
+    unsaid_fresh _ _ _ h ∙ ap (λ l. fresh (map text l) (map other lent_new)) o
     ∙ ap (λ l. fresh (map text old) (map other l)) n
 
 -- the first message, where it wasn't said, and the others
@@ -217,7 +213,7 @@ unsaid_behind said text_of rest first others text out now all e t h k =
     ap (λ l. l ++ joined (unsaid said (map text_of others))) h
     ∙ append_assoc out (joined (unsaid said (text ∷ []))) (joined (unsaid said (map text_of others)))
     ∙ ap (λ l. out ++ l) (sym (flat_map-append (λ (one : List ℕ). one) (unsaid said (text ∷ [])) (unsaid said (map text_of others))))
-    ∙ ap (λ l. out ++ joined l) (sym (unsaid_split said text_of rest first others text e t))
+    ∙ ap (λ l. out ++ joined l) (sym (unsaid_split _ _ _ _ _ _ e t))
     ∙ k
 
 pub counted_behind : {A : Type 0} (said : BTreeSet (Vec ℕ)) (text_of : A → List ℕ) (rest : List A) (first : A) (others : List A) (text : List ℕ)
@@ -226,11 +222,11 @@ pub counted_behind : {A : Type 0} (said : BTreeSet (Vec ℕ)) (text_of : A → L
     → count + length (unsaid said (map text_of rest)) ≡ all → (count + more) + length (unsaid said (map text_of others)) ≡ all
 counted_behind said text_of rest first others text count more all e t h k =
     let whole : length (unsaid said (map text_of rest)) ≡ length (unsaid said (text ∷ []) ++ unsaid said (map text_of others)) =
-    ap length (unsaid_split said text_of rest first others text e t) in
+    ap length (unsaid_split _ _ _ _ _ _ e t) in
     omega (arith, whole, length-append (unsaid said (text ∷ [])) (unsaid said (map text_of others)), h, k)
 
 at_most_one : (said : BTreeSet (Vec ℕ)) (text : List ℕ) → length (unsaid said (text ∷ [])) ≤ 1
-at_most_one said text = at (not (has_text said text))
+at_most_one said text = at _
   where
     at : (b : Bool) → length (cond b (text ∷ []) []) ≤ 1
     at true = omega arith
@@ -252,16 +248,16 @@ pack_room : (rule : Ruled) (rules : List Ruled) → fits_alone rule ≡ true →
 pack_room rule rules h =
     let room : ℕ = room_for_rules - length (canonical_frame rule) in
     let others : List Ruled = take (fitting room rules) rules in
-    let rest : length (rules_text others) ≤ room = fitting_small room rules in
+    let rest : length (rules_text others) ≤ room = fitting_small _ _ in
     let fits : length (canonical_frame rule) ≤ room_for_rules = leb-true (length (canonical_frame rule)) room_for_rules h in
-    rw (take_one (fitting room rules) rule rules) (omega (arith, rest, fits, length-append (canonical_frame rule) (rules_text others)))
+    rw (take_one _ _ _) (omega (arith, rest, fits, length-append (canonical_frame rule) (rules_text others)))
 
 pub pack_fits : (rest : List Ruled) (first : Ruled) (others pack : List Ruled) (count : ℕ) → rest ≡ first ∷ others → count ≡ pack_size first others
     → pack ≡ take count rest → list_all fits_alone rest ≡ true → length (rules_text pack) ≤ room_for_rules
 pack_fits rest first others pack count e n p h =
     let alone : fits_alone first ≡ true = and_first (fits_alone first) (list_all fits_alone others) (subst (λ l. list_all fits_alone l ≡ true) e h) in
     subst (λ (l : List Ruled). length (rules_text l) ≤ room_for_rules)
-    (sym (p ∙ ap (λ m. take m rest) n ∙ ap (take (pack_size first others)) e)) (pack_room first others alone)
+    (sym (p ∙ ap (λ m. take m rest) n ∙ ap (take (pack_size first others)) e)) (pack_room _ _ alone)
 
 pack_shrinks : ShrinksBy length first_pack
 pack_shrinks [] found h = absurd (none-some found h)
@@ -274,7 +270,7 @@ packs_more : (rule : Ruled) (rules : List Ruled)
     → packs (rule ∷ rules) ≡ take (pack_size rule rules) (rule ∷ rules) ∷ packs (drop (pack_size rule rules) (rule ∷ rules))
 packs_more rule rules =
     let n : ℕ = fitting (room_for_rules - length (canonical_frame rule)) rules in
-    rw (take_one n rule rules, drop_one n rule rules)
+    rw (take_one _ _ _, drop_one _ _ _)
     (ap (λ (parts : List (List Ruled) × List Ruled). parts.0) (all_step length first_pack pack_shrinks (rule ∷ rules) (rule ∷ take n rules, drop n rules) refl))
 
 pub packs_behind : (text : List Ruled → List ℕ) (rest : List Ruled) (first : Ruled) (others pack behind : List Ruled) (count : ℕ) (out now all : List ℕ)
@@ -285,8 +281,8 @@ packs_behind text rest first others pack behind count out now all e n p b h k =
     let one : pack ≡ take size (first ∷ others) = p ∙ ap (λ m. take m rest) n ∙ ap (take size) e in
     let left : behind ≡ drop size (first ∷ others) = b ∙ ap (λ m. drop m rest) n ∙ ap (drop size) e in
     let split : packs rest ≡ pack ∷ packs behind =
-    ap packs e ∙ packs_more first others ∙ ap (λ l. l ∷ packs (drop size (first ∷ others))) (sym one) ∙ ap (λ l. pack ∷ packs l) (sym left) in
-    said_behind text (packs rest) pack (packs behind) out now all split h k
+    ap packs e ∙ packs_more _ _ ∙ ap (λ l. l ∷ packs (drop size (first ∷ others))) (sym one) ∙ ap (λ l. pack ∷ packs l) (sym left) in
+    said_behind _ _ _ _ _ _ _ split h k
 
 packs_none : packs [] ≡ []
 packs_none = ap (λ (parts : List (List Ruled) × List Ruled). parts.0) (all_end length first_pack [] refl)
@@ -303,5 +299,5 @@ pub all_fit : (terms : Terms) (numbers : List ℕ) (rules : List Sent) → list_
 all_fit terms numbers [] h = refl
 all_fit terms numbers (sent ∷ rules) h =
     let short : is_short terms numbers sent ≡ true = and_first (is_short terms numbers sent) (list_all (is_short terms numbers) rules) h in
-    let first : fits_alone sent.rule ≡ true = le-leb (length (canonical_frame sent.rule)) room_for_rules (frame_small terms numbers sent short) in
+    let first : fits_alone sent.rule ≡ true = le-leb (length (canonical_frame sent.rule)) room_for_rules (frame_small _ _ _ short) in
     rw first (all_fit terms numbers rules (and_second (is_short terms numbers sent) (list_all (is_short terms numbers) rules) h))

@@ -63,7 +63,7 @@ told_before : (P : Sent → Type 0) (rule : Ruled) (said : List ℕ) (text : Sen
     → are_single rules ≡ true → AllByRecursion P rules → list_any (bytes_eq said) (map text rules) ≡ true → Told P rule said text rules
 told_before P rule said text same [] e all h = absurd (true≢false (sym h))
 told_before P rule said text same (other ∷ rules) e all h =
-    by (told_before P rule said text same rules (single_first other rules e).1 all.1) (bytes_eq said (text other)) refl h
+    by (told_before _ _ _ _ same _ (single_first other rules e).1 all.1) _ refl h
   where
     later : (b : Bool) → fits rule other ≡ b → (t : Told P rule said text rules) → find (fits rule) (other ∷ rules) ≡ Some t.sent
     later true f t = absurd (none_some t.sent (sym (nowhere (fits rule) rules (alone rule other rules e f)) ∙ t.found))
@@ -79,7 +79,7 @@ told_before P rule said text same (other ∷ rules) e all h =
         record { sent = other; found = ap (λ (b : Bool). cond b (Some other) (find (fits rule) rules)) (same other all.0 is); same = is; holds = all.0 }
     by rest false f g =
         let t = rest g in
-        record { sent = t.sent; found = later (fits rule other) refl t; same = t.same; holds = t.holds }
+        record { sent = t.sent; found = later _ refl t; same = t.same; holds = t.holds }
 
 fresh_texts : (text : Sent → List ℕ) (old : List (List ℕ)) (rules : List Sent)
     → flat_map (λ (t : List ℕ). t) (fresh old (map text rules)) ≡ flat_map text (filter (λ (sent : Sent). not (list_any (bytes_eq (text sent)) old)) rules)
@@ -126,9 +126,9 @@ module _ (config : Config) (peer : Peer) where
   same_updates : (old new : Sending) (a b : Sent) → ComesBack config peer new a → ComesBack config peer old b → text_of new a ≡ text_of old b
       → update_by_it new a ≡ update_by_it old b
   same_updates old new a b c d e =
-      let ra = is_read new a c in
-      let rb = is_read old b d in
-      let bodies : body_of new a ≡ body_of old b = same_bodies (body_of new a) (body_of old b) ra.long ra.short rb.long rb.short e in
+      let ra = is_read _ _ c in
+      let rb = is_read _ _ d in
+      let bodies : body_of new a ≡ body_of old b = same_bodies _ _ ra.long ra.short rb.long rb.short e in
       sym (ap (update_in (update_by_it new a)) ra.read) ∙ ap (λ (z : List ℕ). update_in (update_by_it new a) (update_of (terms_of config peer true) z)) bodies
       ∙ ap (update_in (update_by_it new a)) rb.read
 
@@ -143,23 +143,22 @@ module _ (config : Config) (peer : Peer) where
       ∙ sym (ap (option_map (gives rule terms new.as_path)) f)
     where
       back : ComesBack config peer new sent
-      back = found_each (ComesBack config peer new) (fits rule) new.rules sent n.read f
+      back = found_each _ _ _ _ n.read f
 
       one_rule : (other : Sent) → ComesBack config peer old other → text_of new sent ≡ text_of old other → other.rule ≡ sent.rule
-      one_rule other c t = sym (ap (rule_in sent.rule) (same_updates old new sent other back c t))
+      one_rule other c t = sym (ap (rule_in sent.rule) (same_updates _ _ _ _ back c t))
 
       told : Told (ComesBack config peer old) rule (text_of new sent) (text_of old) old.rules
       told =
-          told_before (ComesBack config peer old) rule (text_of new sent) (text_of old)
-          (λ other c t. subst (λ (r : Ruled). is_rule rule r ≡ true) (sym (one_rule other c t)) (found_passes (fits rule) new.rules sent f)) old.rules
-          o.single o.read
+          told_before _ _ _ _ (λ other c t. subst (λ (r : Ruled). is_rule rule r ≡ true) (sym (one_rule _ c t))
+          (found_passes (fits rule) _ _ f)) _ o.single o.read
           (true_of_not (list_any (bytes_eq (text_of new sent)) (map (text_of old) old.rules)) e)
 
       both : update_by_it new sent ≡ update_by_it old told.sent
-      both = same_updates old new sent told.sent back told.holds told.same
+      both = same_updates _ _ _ _ back told.holds told.same
 
       rule_is : told.sent.rule ≡ sent.rule
-      rule_is = one_rule told.sent told.holds told.same
+      rule_is = one_rule _ told.holds told.same
 
       path_is : path_by terms old.as_path ≡ path_by terms new.as_path
       path_is = sym (ap (path_in (path_by terms new.as_path)) both)
@@ -178,37 +177,32 @@ module _ (config : Config) (peer : Peer) where
   room_of : (sending : Sending) → IsFit sending → AllByRecursion (λ (sent : Sent). IsRule sent.rule × (length (canonical_frame sent.rule) ≤ 4066)) sending.rules
   room_of sending is =
       each_both IsSent (ComesBack config peer sending) (λ (sent : Sent). IsRule sent.rule × (length (canonical_frame sent.rule) ≤ 4066))
-      (λ sent s c. has_room terms sending.as_path sent s.rule c.short) sending.rules is.rules is.read
+      (λ sent s c. has_room _ _ _ s.rule c.short) sending.rules is.rules is.read
 
   packs_fit : (family : Family) (old new : Sending) → IsFit old
       → AllByRecursion (IsPack family) (packs_of family old new)
       × (flat_map (λ (pack : List Ruled). pack) (packs_of family old new) ≡ of_family family (left old new))
   packs_fit family old new is =
-      packs_are family (left old new)
-      (each_filtered (λ (sent : Sent). IsRule sent.rule × (length (canonical_frame sent.rule) ≤ 4066))
-      (λ (sent : Sent). not (list_any (is_same sent) new.rules)) old.rules (room_of old is))
+      packs_are _ _ (each_filtered (λ (sent : Sent). IsRule sent.rule × (length (canonical_frame sent.rule) ≤ 4066))
+      (λ (sent : Sent). not (list_any (is_same sent) new.rules)) old.rules (room_of _ is))
 
   withdrawals_lead : (family : Family) (old new : Sending) → IsFit old
       → Leads (receiver config peer) (up config peer) (withdrawals (terms_of config peer true) family (left old new))
       (map (withdrawal family) (packs_of family old new)) (up config peer)
   withdrawals_lead family old new is =
-      leads_each config peer (λ (pack : List Ruled). update_text (terms_of config peer true) (withdrawal family pack)) (withdrawal family)
-      (packs_of family old new)
-      (each_weaker (IsPack family) (λ (pack : List Ruled).
+      leads_each config peer _ _ _ (each_weaker (IsPack family) (λ (pack : List Ruled).
       IsRead (terms_of config peer true) (update_text (terms_of config peer true) (withdrawal family pack)) (withdrawal family pack))
       (λ pack p. record {
         long = withdrawal_long terms family pack;
         short = withdrawal_short terms family pack p.small;
         read =
-            withdrawal_read terms family pack refl p;
-      })
-      (packs_of family old new) (packs_fit family old new is).0)
+            withdrawal_read terms _ _ refl p;
+      }) (packs_of family old new) (packs_fit _ _ new is).0)
 
   rules_lead : (sending : Sending) (rules : List Sent) → AllByRecursion (ComesBack config peer sending) rules
       → Leads (receiver config peer) (up config peer) (flat_map (text_of sending) rules) (map (update_by_it sending) rules) (up config peer)
   rules_lead sending rules all =
-      leads_each config peer (body_of sending) (update_by_it sending) rules
-      (each_weaker (ComesBack config peer sending)
+      leads_each config peer _ _ _ (each_weaker (ComesBack config peer sending)
       (λ (sent : Sent). IsRead (terms_of config peer true) (body_of sending sent) (update_by_it sending sent)) (is_read sending) rules all)
 
   -- what a peer holds of a rule that was told these, or nothing yet
@@ -226,13 +220,11 @@ module _ (config : Config) (peer : Peer) where
   first_told octets new is h = record {
     updates = h.updates ++ map (update_by_it new) new.rules;
     leads =
-        leads_then (receiver config peer) at_start (up config peer) (up config peer) octets (change_text (terms_of config peer true) None new)
-        h.updates (map (update_by_it new) new.rules) h.leads
+        leads_then _ _ _ _ _ _ _ _ h.leads
         (subst (λ (z : List ℕ). Leads (receiver config peer) (up config peer) z (map (update_by_it new) new.rules) (up config peer))
-        (sym (all_texts (text_of new) new.rules)) (rules_lead new new.rules is.read));
-    leaves = λ rule.
-        announced_left rule terms new.as_path h.updates new.rules is.single
-        ∙ ap (λ (o : Option Given). given_last rule terms new.as_path o (find (fits rule) new.rules)) (h.leaves rule) ∙ by rule (find (fits rule) new.rules);
+        (sym (all_texts (text_of new) new.rules)) (rules_lead _ _ is.read));
+    leaves = λ rule. announced_left rule terms new.as_path h.updates new.rules is.single
+        ∙ ap (λ (o : Option Given). given_last rule terms new.as_path o (find (fits rule) new.rules)) (h.leaves rule) ∙ by rule _;
   }
     where
       by : (rule : Ruled) (o : Option Sent) → given_last rule terms new.as_path None o ≡ option_map (gives rule terms new.as_path) o

@@ -17,7 +17,7 @@ part_none stance place ends = record {
   read = refl;
   wrote = sym (append-nil (end_at place ends).written);
   tied = refl;
-  other = sym (heard_none (other_than place ends));
+  other = sym (heard_none _);
 }
 
 pub part_then : (s0 s1 s2 : Stance) (place : ℕ) (heard heard' : Pieces) (said said' : List ℕ) (a b c : WireEnds)

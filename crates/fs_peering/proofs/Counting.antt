@@ -12,8 +12,7 @@ use Rattle.std.proofs.lemmas.Bool.{true≢false as never}
 pub counts_start : (on : Bool) (machine : Machine) (line : Lined) (piece : List ℕ) → CountsOn on machine line line piece piece 0
 counts_start on machine line piece e = (
   e,
-  λ f.
-      subst (λ (b : Bool). CountsBy on b machine line.phase (pending line.framing) piece line piece 0) (sym f)
+  λ f. subst (λ (b : Bool). CountsBy on b machine line.phase (pending line.framing) piece line piece 0) (sym f)
       (λ more. refl, omega arith),
 )
 
@@ -29,8 +28,7 @@ pub counts_cut : (on : Bool) (machine : Machine) (old line : Lined) (piece rest 
 counts_cut on machine old line piece rest count up counts e =
     let o = counts e in (
       o.0,
-      λ f.
-          subst (λ (b : Bool). CountsBy on b machine old.phase (pending old.framing) piece line [] count) (sym up)
+      λ f. subst (λ (b : Bool). CountsBy on b machine old.phase (pending old.framing) piece line [] count) (sym up)
           (subst (λ (b : Bool). CountsBy on b machine old.phase (pending old.framing) piece line rest count) up (o.1 f)),
     )
 
@@ -61,9 +59,8 @@ module _ (on : Bool) (machine : Machine) (old line new : Lined) (moment : ℕ) (
     by_step waits s did =
         let gone : left ≡ [] = drop_all count rest (omega (arith, did.0)) in
         subst Answer (sym (ap (λ (p : Phase). is_established p.state) did.2 ∙ down)) (
-          λ more.
-              opens more
-              ∙ joins more
+          λ more. opens more
+              ∙ joins _
               ∙ ap (λ (z : List ℕ). opened_by machine line.phase (z ++ more)) (sym did.1)
               ∙ ap (λ (z : List ℕ). opened_by machine line.phase (pending new.framing ++ (z ++ more))) (sym gone)
               ∙ ap (λ (p : Phase). opened_by machine p (pending new.framing ++ (left ++ more))) (sym did.2),
@@ -74,7 +71,7 @@ module _ (on : Bool) (machine : Machine) (old line new : Lined) (moment : ℕ) (
         took : (b : Bool) → is_established next.state ≡ b → (more : List ℕ) → opened_by machine old.phase (pending old.framing ++ (piece ++ more))
             ≡ (if b then (still next, behind ++ more) else opened_by machine next (behind ++ more))
         took b e more =
-            opens more ∙ joins more ∙ opened_takes machine line.phase next update (hand ++ rest) behind more s
+            opens more ∙ joins _ ∙ opened_takes _ _ _ _ _ _ _ s
             ∙ ap (λ (x : Bool). if x then (still next, behind ++ more) else opened_by machine next (behind ++ more)) e
 
         all : needed' + length left ≡ length piece
@@ -85,15 +82,14 @@ module _ (on : Bool) (machine : Machine) (old line new : Lined) (moment : ℕ) (
             subst Answer (sym (ap (λ (p : Phase). is_established p.state) did.3 ∙ e)) (record {
               phase = next;
               behind = behind;
-              opens = λ more. took true e more;
+              opens = λ more. took _ e _;
               up = e;
               stays = λ off. did.3;
               counted = ap (λ (z : List ℕ). needed' + length z) did.1 ∙ all;
             })
         by false e =
             subst Answer (sym (ap (λ (p : Phase). is_established p.state) did.3 ∙ e)) (
-              λ more.
-                  took false e more
+              λ more. took _ e _
                   ∙ ap (λ (z : List ℕ). opened_by machine next (z ++ more)) did.1
                   ∙ ap (λ (p : Phase). opened_by machine p (left ++ more)) (sym did.3)
                   ∙ ap (λ (z : List ℕ). opened_by machine new.phase (z ++ (left ++ more))) (sym did.2),
@@ -124,7 +120,7 @@ module _ (on : Bool) (machine : Machine) (old line new : Lined) (moment : ℕ) (
             counted =
                 ap (λ (n : ℕ). n + length k.behind) (kept h) ∙ k.counted;
           })
-      by f false h k = by_step k.0 k.1 (added h) h (step_by machine line.phase (hand ++ rest)) refl did
+      by f false h k = by_step k.0 k.1 (added h) h _ refl did
 
 -- one call more
 pub counts_fed : (on : Bool) (a b c : Announcing) (moment : ℕ) (piece rest o1 o2 : List ℕ) (result : Result ℕ Closed) (was : Bool)
@@ -134,15 +130,14 @@ pub counts_fed : (on : Bool) (a b c : Announcing) (moment : ℕ) (piece rest o1 
     → (on ≡ false → is_established a.line.phase.state ≡ false → is_established b.line.phase.state ≡ false)
     → CountsOn on (machine_in a) a.line b.line piece rest needed → CountsOn on (machine_in a) a.line c.line piece (drop count rest) needed'
 counts_fed on a b c moment piece rest o1 o2 result was needed needed' count same e stays feeds settles shut w added kept off counts =
-    let alive : b.line.closed ≡ None = alive_on b c o1 o2 result stays count e in
+    let alive : b.line.closed ≡ None = alive_on _ _ _ _ _ stays _ e in
     let open_c : c.line.closed ≡ None = shut ∙ ap closed_after e in
     let up : is_settled b.line ≡ is_established b.line.phase.state = open_settled b.line alive in
     let fed = rw e at feeds alive in
-    counts_step on (machine_in a) a.line b.line c.line moment piece rest needed needed' count counts alive
-    (subst (λ (m : Machine). Advanced (step_by m b.line.phase (pending b.line.framing ++ rest)) (moved moment b.line) c.line rest count None)
-    (ap machine_in same.0) fed.0)
-    (λ h. sym (open_settled c.line open_c) ∙ settles.1 (up ∙ h))
-    (λ h. added (w ∙ up ∙ h)) (λ h. kept (w ∙ up ∙ h)) off
+    counts_step _ _ a.line b.line c.line moment piece rest _ _ _ counts alive
+    (subst (λ (m : Machine). Advanced (step_by m b.line.phase (pending b.line.framing ++ rest))
+    (moved moment b.line) c.line rest count None) (ap machine_in same.0) fed.0) (λ h. sym (open_settled c.line open_c)
+    ∙ settles.1 (up ∙ h)) (λ h. added (w ∙ up ∙ h)) (λ h. kept (w ∙ up ∙ h)) off
 
 -- a call that closes an end which isn't established
 pub shuts_fed : (on : Bool) (a b c : Announcing) (moment : ℕ) (piece rest o1 o2 : List ℕ) (result : Result ℕ Closed) (why : Closed) (needed : ℕ)
@@ -160,7 +155,7 @@ shuts_fed on a b c moment piece rest o1 o2 result why needed same e other feeds 
     let opens = subst (λ (x : Bool). CountsBy on x (machine_in a) a.line.phase (pending a.line.framing) piece b.line rest needed) (early off down)
     ((counts open_b).1 down) in
     opens.0 more ∙ ap (opened_by (machine_in a) b.line.phase) (sym (append_assoc (pending b.line.framing) rest more))
-    ∙ opened_stops (machine_in a) b.line.phase why (pending b.line.framing ++ rest) more step
+    ∙ opened_stops _ _ _ (pending b.line.framing ++ rest) more step
     ∙ ap (λ (w : Closed). (closed w, [])) (same_Some why what (sym (shut ∙ ap closed_after e) ∙ how))
 
 pub still_open : (line : Lined) (result : Result ℕ Closed) (count : ℕ) → result ≡ Ok count → line.closed ≡ closed_after result → line.closed ≡ None
@@ -169,7 +164,7 @@ still_open line result count e shut = shut ∙ ap closed_after e
 pub shuts_open : (machine : Machine) (old line : Lined) (piece : List ℕ) (result : Result ℕ Closed) (count : ℕ) → result ≡ Ok count
     → line.closed ≡ closed_after result
     → ShutsBy machine old line piece
-shuts_open machine old line piece result count e shut why how = absurd (none-some why (sym (still_open line result count e shut) ∙ how))
+shuts_open machine old line piece result count e shut why how = absurd (none-some why (sym (still_open line _ _ e shut) ∙ how))
 
 -- The clock, and then a piece.
 module _ (on : Bool) (machine : Machine) (a w c : Lined) (octets piece : List ℕ) (needed count count' : ℕ) (hand : KeepsHand a w)
@@ -200,8 +195,7 @@ module _ (on : Bool) (machine : Machine) (a w c : Lined) (octets piece : List �
         subst To (sym (stays e (ap (λ (p : Phase). is_established p.state) same.1.0 ∙ u))) (record {
           phase = k.phase;
           behind = k.behind ++ piece;
-          opens = λ more.
-              ap (opened_by machine at_start) (append_assoc octets piece more) ∙ k.opens (piece ++ more)
+          opens = λ more. ap (opened_by machine at_start) (append_assoc octets piece more) ∙ k.opens (piece ++ more)
               ∙ ap (λ (z : List ℕ). (still k.phase, z)) (sym (append_assoc k.behind piece more));
           up = k.up;
           stays = λ cut. absurd (never (sym u ∙ off cut));
@@ -225,7 +219,7 @@ module _ (on : Bool) (machine : Machine) (a w c : Lined) (octets piece : List �
           record {
             phase = k.phase;
             behind = k.behind;
-            opens = λ more. goes more ∙ k.opens more;
+            opens = λ more. goes _ ∙ k.opens more;
             up = k.up;
             stays = k.stays;
             counted =
@@ -235,7 +229,7 @@ module _ (on : Bool) (machine : Machine) (a w c : Lined) (octets piece : List �
           let n : count' ≡ count + needed = added d in
           let m = k.1 in
           let l = both in
-          (λ more. goes more ∙ k.0 more, omega (arith, n, m, l, all))
+          (λ more. goes _ ∙ k.0 more, omega (arith, n, m, l, all))
 
   pub counts_more : CountsTo on machine c count' (octets ++ piece)
   counts_more e = by (is_established a.phase.state) refl (before (same e).0)
@@ -243,7 +237,7 @@ module _ (on : Bool) (machine : Machine) (a w c : Lined) (octets piece : List �
       by : (b : Bool) → is_established a.phase.state ≡ b → CountsBy on b machine at_start [] octets a [] count → To (is_established c.phase.state)
       by true u k = settled e u k
       by false u k =
-          opening e u k.0 k.1 (is_established c.phase.state) refl ((woke e).1 (ap (λ (p : Phase). is_established p.state) (same e).1.0 ∙ u))
+          opening e u k.0 k.1 _ refl ((woke e).1 (ap (λ (p : Phase). is_established p.state) (same e).1.0 ∙ u))
 
 -- so of a whole call: the clock is heard, and the piece
 pub counts_piece : (on : Bool) (b w c : Announcing) (was : Bool) (piece : List ℕ) (needed count count' : ℕ) → KeepsSettled b w → KeepsSettled w c
@@ -257,8 +251,7 @@ counts_piece on b w c was piece needed count count' woke took hand counts is add
     let open_b : b.line.closed ≡ None = (hand open_w).0 in
     let up : is_settled b.line ≡ is_established b.line.phase.state = open_settled b.line open_b in
     subst (λ (m : Machine). CountsBy on (is_established c.line.phase.state) m at_start [] (octets ++ piece) c.line [] count')
-    (sym (ap machine_in took.0 ∙ ap machine_in woke.0))
-    (counts_more on (machine_in b) b.line w.line c.line octets piece needed count count' hand counts_b
+    (sym (ap machine_in took.0 ∙ ap machine_in woke.0)) (counts_more _ _ _ w.line _ _ _ _ _ _ hand counts_b
     (λ f h. sym (open_settled c.line f) ∙ took.1 (open_settled w.line open_w ∙ h))
     (λ h. added (is ∙ up ∙ h)) (λ h. kept (is ∙ up ∙ h)) (λ cut. sym up ∙ off cut) before e)
 
@@ -270,7 +263,7 @@ woke_hand old new moment out out' result stays shut ticks_so e = by result refl
     by : (r : Result (Unit {0}) Closed) → result ≡ r → (old.line.closed ≡ None) × ((new.line.phase ≡ old.line.phase) × (new.line.framing ≡ old.line.framing))
     by (Err why) k = absurd (none-some why (sym e ∙ shut ∙ ap closed_after k))
     by (Ok u) k =
-        let alive : old.line.closed ≡ None = alive_on old new out out' result stays u k in
+        let alive : old.line.closed ≡ None = alive_on _ _ _ _ _ stays _ k in
         (alive, ((ticks_so alive).1.1, (ticks_so alive).1.0))
 
 -- what is said unasked changes nothing of it
@@ -298,7 +291,7 @@ pub record Opens (on : Bool) (machine : Machine) (line : Lined) (count : ℕ) (o
 
 pub opens_so : (on : Bool) (machine : Machine) (line : Lined) (now : Point) (count : ℕ) (octets : List ℕ) → line.closed ≡ None
     → (is_established line.phase.state ≡ false → IsAt machine line now) → CountsTo on machine line count octets → Opens on machine line count octets
-opens_so on machine line now count octets e at k = by (is_established line.phase.state) refl (k e)
+opens_so on machine line now count octets e at k = by _ refl (k e)
   where
     whole : octets ++ [] ≡ octets
     whole = append-nil octets
@@ -321,7 +314,7 @@ opens_so on machine line now count octets e at k = by (is_established line.phase
           phase = line.phase;
           behind = [];
           found = sym (ap (opened_by machine at_start) whole) ∙ c.0 [] ∙ ap (opened_by machine line.phase) (append-nil (pending line.framing))
-              ∙ opened_waits machine line.phase (pending line.framing) waits_here;
+              ∙ opened_waits _ _ _ waits_here;
           counted = c.1;
           up = refl;
           none = λ d. refl;

@@ -1,6 +1,6 @@
 -- One piece more.
 use Rattle.fs_peering.proofs.Words.{Closed, Expires, Fault, Handed, Keeps, Machine, Point, Quiet, Tick, Times, at_moment, first_point, hand, handed}
-use Rattle.fs_peering.proofs.Words.{message_text, point, runs_by, tick_at, ticked, ticks, written_now, ◌≡◌, ◌⊎◌, inl, inr, ℕ, suc, zero, ◌+◌, List}
+use Rattle.fs_peering.proofs.Words.{message_text, point, runs_by, tick_at, ticked, ticks, ◌≡◌, ◌⊎◌, inl, inr, ℕ, suc, zero, ◌+◌, List}
 use Rattle.fs_peering.proofs.Words.{[], ◌∷◌, ◌++◌, length, drop, take, Option, Some, None, refl, ap, sym, ◌∙◌, subst, arith, append_assoc, append-nil}
 use Rattle.fs_peering.proofs.Words.{length-append, flat_map-append, map-append, none-some, closed_hand, ticked_by, Pieces, moments_in, octets_in}
 use Rattle.fs_peering.proofs.Words.{after, hears, course, course_from}
@@ -51,10 +51,10 @@ module _ (P : Pieces → Type 0) (step : (heard : Pieces) (event : ℕ × List �
   behind : (earlier later : Pieces) → P earlier → P (earlier ++ later)
   behind earlier [] p = subst P (sym (append-nil earlier)) p
   behind earlier (event ∷ later) p =
-      subst P (append_assoc earlier (event ∷ []) later) (behind (earlier ++ event ∷ []) later (step earlier event p))
+      subst P (append_assoc earlier (event ∷ []) later) (behind _ _ (step earlier event p))
 
   pub by_pieces : P [] → (heard : Pieces) → P heard
-  by_pieces none heard = behind [] heard none
+  by_pieces none heard = behind _ _ none
 
 -- What an open end makes of a piece where its hold time hasn't expired: the clock says KEEPALIVEs, and none without a hold
 -- time; then the octets in hand are run.
@@ -97,8 +97,8 @@ module _ (machine : Machine) (event : ℕ × List ℕ) (now : Point) where
   steps e = by (tick_at now.phase.hold then_at) refl
     where
       by : (tick : Tick) → tick_at now.phase.hold then_at ≡ tick → Steps machine event now ⊎ (tick_at now.phase.hold then_at ≡ Expires)
-      by Quiet k = inl (stepped then_at 0 refl refl (woke_is Quiet e k) (λ z. refl))
-      by Keeps k = inl (stepped (written_now then_at) 1 refl refl (woke_is Keeps e k) (timed k))
+      by Quiet k = inl (stepped _ _ refl refl (woke_is _ e k) (λ z. refl))
+      by Keeps k = inl (stepped _ _ refl refl (woke_is _ e k) (timed k))
       by Expires k = inr k
 
   shut : (why : Closed) → (ticked event.0 now).point.closed ≡ Some why → (hears machine event now).point.closed ≡ Some why
@@ -106,17 +106,17 @@ module _ (machine : Machine) (event : ℕ × List ℕ) (now : Point) where
 
   -- a closed end stays as it is
   pub stays_shut : (why : Closed) → now.closed ≡ Some why → (hears machine event now).point.closed ≡ Some why
-  stays_shut why e = shut why (ap (λ (m : Handed). m.point.closed) (ap (ticked_by event.0 now) e) ∙ e)
+  stays_shut why e = shut _ (ap (λ (m : Handed). m.point.closed) (ap (ticked_by event.0 now) e) ∙ e)
 
   -- an end that is open behind it was so before, and its hold time didn't expire
   pub lived : (hears machine event now).point.closed ≡ None → (now.closed ≡ None) × Steps machine event now
-  lived end = by now.closed refl
+  lived end = by _ refl
     where
       at : now.closed ≡ None → Steps machine event now ⊎ (tick_at now.phase.hold (at_moment event.0 now.times) ≡ Expires)
           → (now.closed ≡ None) × Steps machine event now
       at e (inl s) = (e, s)
-      at e (inr k) = absurd (none-some (Fault 4 0) (sym end ∙ shut (Fault 4 0) (ap (λ (m : Handed). m.point.closed) (woke_is Expires e k))))
+      at e (inr k) = absurd (none-some (Fault 4 0) (sym end ∙ shut _ (ap (λ (m : Handed). m.point.closed) (woke_is _ e k))))
 
       by : (c : Option Closed) → now.closed ≡ c → (now.closed ≡ None) × Steps machine event now
       by None e = at e (steps e)
-      by (Some why) e = absurd (none-some why (sym end ∙ stays_shut why e))
+      by (Some why) e = absurd (none-some why (sym end ∙ stays_shut _ e))

@@ -63,7 +63,7 @@ pub record Exchanging (r r' a a' : Stance) (given : List ℕ) (flow : InFlight) 
   pub other : Counted a a' (of_second events) announced replied before.second now.second flow.to_second flow.second_read
 
 counted_none : (stance : Stance) (end : WireEnd) → end.joined ≡ true → end.left ≡ [] → Counted stance stance [] [] [] end end 0 0
-counted_none stance end tied empty = record { side = side_none stance end tied empty; unread_is = sym (ap length empty); read_is = refl }
+counted_none stance end tied empty = record { side = side_none _ _ tied empty; unread_is = sym (ap length empty); read_is = refl }
 
 exchanging_none : (r a : Stance) (ends : WireEnds) → AreJoined ends → Exchanging r r a a [] no_flow ends ends
 exchanging_none r a ends j = record {
@@ -71,8 +71,8 @@ exchanging_none r a ends j = record {
   replied = [];
   announced = [];
   asked = refl;
-  one = counted_none r ends.first j.0 j.2;
-  other = counted_none a ends.second j.1 j.3;
+  one = counted_none _ _ j.0 j.2;
+  other = counted_none _ _ j.1 j.3;
 }
 
 abbrev event : Bool → ℕ → List ℕ → Heard
@@ -132,18 +132,17 @@ counted_more : (s0 s1 s2 : Stance) (place : ℕ) (heard heard' : Pieces) (moment
     → Part s1 s2 place ((moment, got) ∷ []) out m n
     → Counted s0 s2 heard' (said ++ out) others b (end_at place n) (unread - count) (read + count)
 counted_more s0 s1 s2 place heard heard' moment got said out others b m n unread read count e k c part = record {
-  side = side_same s0 s2 _ _ _ _ _ _ b (end_at place n) (sym e) refl refl
-      (side_more s0 s1 s2 place heard ((moment, got) ∷ []) said out others b m n c.side part);
-  unread_is = left_less (end_at place m).left (end_at place n).left got unread count part.read c.unread_is k;
-  read_is = read_more heard heard' moment got read count e c.read_is k;
+  side = side_same _ _ _ _ _ _ _ _ _ _ (sym e) refl refl (side_more _ _ _ _ _ _ _ _ _ _ _ _ c.side part);
+  unread_is = left_less _ _ _ _ _ part.read c.unread_is k;
+  read_is = read_more _ _ _ _ _ _ e c.read_is k;
 }
 
 -- the other end did
 counted_told : (s0 s1 : Stance) (heard heard' : Pieces) (said others out : List ℕ) (b m n : WireEnd) (unread read more : ℕ) → heard' ≡ heard → length out ≡ more
     → Counted s0 s1 heard said others b m unread read → n ≡ heard_end out m → Counted s0 s1 heard' said (others ++ out) b n (unread + more) read
 counted_told s0 s1 heard heard' said others out b m n unread read more e k c told = record {
-  side = side_same s0 s1 _ _ _ _ _ _ b n (sym e) refl refl (side_told s0 s1 heard said others out b m n c.side told);
-  unread_is = left_grown m n out unread more told c.side.tied c.unread_is k;
+  side = side_same _ _ _ _ _ _ _ _ _ _ (sym e) refl refl (side_told _ _ _ _ _ _ _ _ _ c.side told);
+  unread_is = left_grown _ _ _ _ _ told c.side.tied c.unread_is k;
   read_is = c.read_is ∙ ap (λ (p : Pieces). length (octets_in p)) (sym e);
 }
 
@@ -153,11 +152,9 @@ exchanging_first r r1 r2 a a1 given flow moment count said b m n x round = recor
   events = x.events ++ event true moment round.got ∷ [];
   replied = x.replied ++ round.out;
   announced = x.announced;
-  asked = moments_more x.events given true moment round.got x.asked;
-  one = counted_more r r1 r2 0 (of_first x.events) _ moment round.got x.replied round.out x.announced b.first m n flow.to_first flow.first_read count
-      (first_more x.events moment round.got).0 round.counted x.one round.part;
-  other = counted_told a a1 (of_second x.events) _ x.announced x.replied round.out b.second m.second n.second flow.to_second flow.second_read said
-      (first_more x.events moment round.got).1 round.sized x.other round.part.other;
+  asked = moments_more _ _ _ _ _ x.asked;
+  one = counted_more _ _ _ _ _ _ _ _ _ _ _ _ _ _ _ _ _ (first_more x.events moment round.got).0 round.counted x.one round.part;
+  other = counted_told _ _ _ _ _ _ _ _ _ _ _ _ _ (first_more x.events moment round.got).1 round.sized x.other round.part.other;
 }
 
 exchanging_second : (r r1 a a1 a2 : Stance) (given : List ℕ) (flow : InFlight) (moment count said : ℕ) (b m n : WireEnds) → Exchanging r r1 a a1 given flow b m
@@ -166,10 +163,9 @@ exchanging_second r r1 a a1 a2 given flow moment count said b m n x round = reco
   events = x.events ++ event false moment round.got ∷ [];
   replied = x.replied;
   announced = x.announced ++ round.out;
-  asked = moments_more x.events given false moment round.got x.asked;
-  one = counted_told r r1 (of_first x.events) _ x.replied x.announced round.out b.first m.first n.first flow.to_first flow.first_read said
-      (second_more x.events moment round.got).0 round.sized x.one round.part.other;
-  other = counted_more a a1 a2 1 (of_second x.events) _ moment round.got x.announced round.out x.replied b.second m n flow.to_second flow.second_read count
+  asked = moments_more _ _ _ _ _ x.asked;
+  one = counted_told _ _ _ _ _ _ _ _ _ _ _ _ _ (second_more x.events moment round.got).0 round.sized x.one round.part.other;
+  other = counted_more _ _ _ _ _ _ _ _ _ _ _ _ _ _ _ _ _
       (second_more x.events moment round.got).1 round.counted x.other round.part;
 }
 
@@ -180,11 +176,10 @@ exchanging_said r r1 a a1 a2 given flow said b m n x speech = record {
   replied = x.replied;
   announced = x.announced ++ speech.out;
   asked = x.asked ∙ sym (append-nil given);
-  one = counted_told r r1 (of_first x.events) (of_first x.events) x.replied x.announced speech.out b.first m.first n.first flow.to_first flow.first_read said
-      refl speech.sized x.one speech.part.other;
+  one = counted_told _ _ _ _ _ _ _ _ _ _ _ _ _ refl speech.sized x.one speech.part.other;
   other = record {
-    side = side_same a a2 _ _ _ _ _ _ b.second n.second (append-nil (of_second x.events)) refl refl
-        (side_more a a1 a2 1 (of_second x.events) [] x.announced speech.out x.replied b.second m n x.other.side speech.part);
+    side = side_same _ _ _ _ _ _ _ _ _ _ (append-nil (of_second x.events)) refl refl
+        (side_more _ _ _ _ _ _ _ _ _ _ _ _ x.other.side speech.part);
     unread_is = x.other.unread_is ∙ ap length (speech.part.read);
     read_is = x.other.read_is;
   };
@@ -267,29 +262,26 @@ module _ {r r1 a a1 : Stance} {flow : InFlight} {before now : Option WireEnds} {
   stepped r2 a2 flow' step more last join told grew = record {
     given = t.given ++ more;
     grew = Grew-trans answers asked last t.given more t.grew grew;
-    told = told_and (λ b n. AreJoined b → Exchanging r r1 a a1 t.given flow b n) step (λ b n. AreJoined b → Exchanging r r2 a a2 (t.given ++ more) flow' b n)
-        (λ b m n x taken j. join b m n (x j) taken) before now later t.told told;
+    told = told_and _ _ _ (λ b m n x taken j. join b m n (x j) taken) before now later t.told told;
   }
 
   pub talking_first : (r2 : Stance) (flow' : InFlight) (moment count said : ℕ) (last : Option (List ℕ)) → flow' ≡ first_heard count said flow
       → Told (Round r1 r2 0 moment count said) now later → Grew asked last (moment ∷ []) → Talking r r2 a a1 flow' before later answers last
   talking_first r2 flow' moment count said last e round grew =
-      subst (λ (f : InFlight). Talking r r2 a a1 f before later answers last) (sym e)
-      (stepped r2 a1 (first_heard count said flow) (Round r1 r2 0 moment count said) (moment ∷ []) last
+      subst (λ (f : InFlight). Talking r r2 a a1 f before later answers last) (sym e) (stepped _ _ _ _ _ _
       (exchanging_first r r1 r2 a a1 t.given flow moment count said) round grew)
 
   pub talking_second : (a2 : Stance) (flow' : InFlight) (moment count said : ℕ) (last : Option (List ℕ)) → flow' ≡ second_heard count said flow
       → Told (Round a1 a2 1 moment count said) now later → Grew asked last (moment ∷ []) → Talking r r1 a a2 flow' before later answers last
   talking_second a2 flow' moment count said last e round grew =
-      subst (λ (f : InFlight). Talking r r1 a a2 f before later answers last) (sym e)
-      (stepped r1 a2 (second_heard count said flow) (Round a1 a2 1 moment count said) (moment ∷ []) last
+      subst (λ (f : InFlight). Talking r r1 a a2 f before later answers last) (sym e) (stepped _ _ _ _ _ _
       (exchanging_second r r1 a a1 a2 t.given flow moment count said) round grew)
 
   pub talking_said : (a2 : Stance) (flow' : InFlight) (said : ℕ) → flow' ≡ second_said said flow → Told (Speech a1 a2 1 said) now later
       → Talking r r1 a a2 flow' before later answers asked
   talking_said a2 flow' said e speech =
       subst (λ (f : InFlight). Talking r r1 a a2 f before later answers asked) (sym e)
-      (stepped r1 a2 (second_said said flow) (Speech a1 a2 1 said) [] asked (exchanging_said r r1 a a1 a2 t.given flow said) speech (Grew-refl asked))
+      (stepped _ _ _ _ _ _ (exchanging_said r r1 a a1 a2 t.given flow said) speech (Grew-refl asked))
 
   -- or octets that were in flight didn't arrive
   never : (r2 a2 : Stance) (end : Ended) (limit : ℕ) (step : WireEnds → WireEnds → Type 0) (more : List ℕ) (last : Option (List ℕ))
@@ -298,25 +290,21 @@ module _ {r r1 a a1 : Stance} {flow : InFlight} {before now : Option WireEnds} {
   never r2 a2 end limit step more last arrives told grew = record {
     given = t.given ++ more;
     grew = Grew-trans answers asked last t.given more t.grew grew;
-    told = told_and (λ b n. AreJoined b → Exchanging r r1 a a1 t.given flow b n) step (λ b n. AreJoined b
-        → ExchangedOut Broken r r2 a a2 end limit (t.given ++ more) b n)
-        (λ b m n x taken j. absurd (arrives b m n (x j) taken)) before now later t.told told;
+    told = told_and _ _ _ (λ b m n x taken j. absurd (arrives b m n (x j) taken)) before now later t.told told;
   }
 
   pub never_first : (r2 : Stance) (end : Ended) (limit moment count said : ℕ) (last : Option (List ℕ))
       → Told (Round r1 r2 0 moment count said) now later → Grew asked last (moment ∷ [])
       → 0 < flow.to_first → count ≡ 0 → Exchanges Broken r r2 a a1 end limit before later answers last
   never_first r2 end limit moment count said last round grew some none =
-      never r2 a1 end limit (Round r1 r2 0 moment count said) (moment ∷ []) last
-      (λ b m n x turned. never_arrives m.first.left n.first.left turned.got flow.to_first count turned.part.read x.one.unread_is some turned.counted
+      never _ _ _ _ _ _ _ (λ b m n x turned. never_arrives _ _ _ _ _ turned.part.read x.one.unread_is some turned.counted
       none (turned.none none)) round grew
 
   pub never_second : (a2 : Stance) (end : Ended) (limit moment count said : ℕ) (last : Option (List ℕ))
       → Told (Round a1 a2 1 moment count said) now later → Grew asked last (moment ∷ [])
       → 0 < flow.to_second → count ≡ 0 → Exchanges Broken r r1 a a2 end limit before later answers last
   never_second a2 end limit moment count said last round grew some none =
-      never r1 a2 end limit (Round a1 a2 1 moment count said) (moment ∷ []) last
-      (λ b m n x turned. never_arrives m.second.left n.second.left turned.got flow.to_second count turned.part.read x.other.unread_is some
+      never _ _ _ _ _ _ _ (λ b m n x turned. never_arrives _ _ _ _ _ turned.part.read x.other.unread_is some
       turned.counted none (turned.none none)) round grew
 
   -- or the second end said no more
@@ -325,14 +313,13 @@ module _ {r r1 a a1 : Stance} {flow : InFlight} {before now : Option WireEnds} {
       → end.count < limit → flow.to_first ≡ 0 → IsTrue end.begun → (end.ready ≡ false → flow.to_second ≡ 0) → (IsTrue end.ready → end.ahead ≡ 0)
       → Exchanges Done r r1 a a2 end limit before later answers asked
   talked_done a2 end limit speech few one other within counted none begun rest all =
-      talked Done r r1 a a2 end limit (second_said 0 flow) before later answers asked (talking_said a2 (second_said 0 flow) 0 refl speech) few
-      (λ events ends first second read. record {
+      talked _ _ _ _ _ _ _ _ _ _ _ _ (talking_said _ _ _ refl speech) few (λ events ends first second read. record {
         open_first = one;
         open_second = other;
         within_first = subst (λ (n : ℕ). n < limit) read within;
         within_second = counted;
-        heard_first = no_octets ends.first.left (omega (arith, first, none));
+        heard_first = no_octets _ (omega (arith, first, none));
         begun = begun;
-        heard_second = λ waits. no_octets ends.second.left (omega (arith, second, rest waits));
+        heard_second = λ waits. no_octets _ (omega (arith, second, rest waits));
         all = all;
       })

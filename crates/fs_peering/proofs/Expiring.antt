@@ -2,7 +2,7 @@
 use Rattle.fs_peering.proofs.Words.{Closed, Config, Established, Expires, Fault, Handed, Last, Machine, Message, MessageFault, NoFamily, Open, Peer}
 use Rattle.fs_peering.proofs.Words.{Phase, Point, State, Times, Update, UpdateFault, WaitKeep, WaitOpen, at_moment, at_start, bounded_from, closed}
 use Rattle.fs_peering.proofs.Words.{closing_of, faulted, fields_fault, first_message, first_over, header_of, is_established, not_taken, notice_of}
-use Rattle.fs_peering.proofs.Words.{notified, open_of, opened, parts_of, phase, plays, receiver, rest_closes, runs, runs_by, session_by, session_from}
+use Rattle.fs_peering.proofs.Words.{notified, open_of, opened, parts_of, phase, plays, rest_closes, runs, runs_by, session_by, session_from}
 use Rattle.fs_peering.proofs.Words.{shuts, still, taken, taken_in, tick_at, too_many, transition_at, transition_by, updates, wrong_at, ◌≡◌, ◌⊎◌, inl}
 use Rattle.fs_peering.proofs.Words.{inr, ◌==◌, ◌||◌, not, ℕ, ◌-◌, nat_lt, List, [], ◌∷◌, ◌++◌, length, drop, get_or, min, Bool, true, false}
 use Rattle.fs_peering.proofs.Words.{if◌then◌else◌, Option, Some, None, Result, Ok, Err, refl, ap, sym, ◌∙◌, subst, append_assoc, none-some, same_Some}
@@ -40,8 +40,7 @@ either P false x y p q = q
 
 header_not : (header : List ℕ) → WrongNot (header_fault header)
 header_not header =
-    either WrongNot (marker_wrong header) (Some (fault 1 1)) _ refl
-    (either WrongNot (nat_lt (length header) 18) None _ tt
+    either WrongNot (marker_wrong header) (Some (fault 1 1)) _ refl (either WrongNot (nat_lt (length header) 18) None _ tt
     (either WrongNot (size_wrong (size_at header)) (Some (fault 1 2)) _ refl
     (either WrongNot (nat_lt (length header) 19) None _ tt
     (either WrongNot (kind_wrong (kind_at header)) (Some (fault 1 3)) _ refl
@@ -75,8 +74,7 @@ open_not expected body = by (fields_fault body) (fields_not body)
               then reads_open expected body (capabilities_of (drop 10 body)) else Err (fault 2 4)
         ])
     by None n =
-        either OpenNot (are_parameters (drop 10 body)) (reads_open expected body (capabilities_of (drop 10 body))) (Err (fault 2 4))
-        (reads_not expected body (capabilities_of (drop 10 body))) refl
+        either OpenNot (are_parameters (drop 10 body)) _ _ (reads_not _ body (capabilities_of (drop 10 body))) refl
     by (Some wrong) n = n
 
 abbrev MadeNot : Made → Type 0
@@ -91,7 +89,7 @@ update_not NoMemory = tt
 
 updates_not : (now : Phase) (r : Result (Option Update) UpdateFault) → MadeNot (updates now r)
 updates_not now (Ok update) = tt
-updates_not now (Err wrong) = update_not wrong
+updates_not now (Err wrong) = update_not _
 
 module _ (machine : Machine) where
   opened_not : (r : Result Open MessageFault) → OpenNot r → MadeNot (opened machine r)
@@ -123,25 +121,24 @@ module _ (machine : Machine) where
   RunsNot made = made.point.closed ≡ Some (Fault 4 0) → ⊥
 
   shut_not : (now : Phase) (times : Times) (why : Closed) → NotLate why → RunsNot (shuts machine now times why)
-  shut_not now times why n e = no_late why n (same_Some why (Fault 4 0) e)
+  shut_not now times why n e = no_late _ n (same_Some why (Fault 4 0) e)
 
   runs_not : (messages : List Message) (now : Phase) (times : Times) (waiting : List ℕ) (wrong : Option MessageFault) → WrongNot wrong
       → RunsNot (runs machine now times messages waiting wrong)
   runs_not [] now times waiting None n = subst RunsNot (sym (runs_none machine now times waiting None)) (λ e. none-some (Fault 4 0) e)
-  runs_not [] now times waiting (Some wrong) n = subst RunsNot (sym (runs_none machine now times waiting (Some wrong))) (shut_not now times (faulted wrong) n)
+  runs_not [] now times waiting (Some wrong) n = subst RunsNot (sym (runs_none machine now times waiting (Some wrong))) (shut_not now times _ n)
   runs_not (message ∷ messages) now times waiting wrong n =
       subst RunsNot (sym (runs_step machine now times message messages waiting wrong))
-      (by (λ next. runs_not messages next (taken_in now.state times) waiting wrong n) (transition_by machine now message) (transition_not now message))
+      (by (λ next. runs_not _ _ _ _ _ n) (transition_by machine now message) (transition_not now message))
     where
       by : ((next : Phase) → RunsNot (runs machine next (taken_in now.state times) messages waiting wrong)) → (made : Made) → MadeNot made
           → RunsNot (ran machine now times made (λ next. runs machine next (taken_in now.state times) messages waiting wrong))
       by rest (Ok next) m e = rest next.0 e
-      by rest (Err why) m e = shut_not now times why m e
+      by rest (Err why) m e = shut_not now times _ m e
 
   runs_by_not : (now : Phase) (times : Times) (octets : List ℕ) → RunsNot (runs_by machine now times octets)
   runs_by_not now times octets =
-      runs_not (parts_of first_message octets).0 now times (parts_of first_message octets).1 (wrong_at (parts_of first_message octets).1)
-      (wrong_not (parts_of first_message octets).1)
+      runs_not _ _ _ _ _ (wrong_not (parts_of first_message octets).1)
 
   -- as a session
   abbrev LastNot : Last → Type 0
@@ -153,10 +150,10 @@ module _ (machine : Machine) where
   rest_not now (Some wrong) n = n
 
   plays_not : (messages : List Message) (now : Phase) (wrong : Option MessageFault) → WrongNot wrong → LastNot (plays machine now messages wrong).1
-  plays_not [] now wrong n = subst (λ (z : List Update × Last). LastNot z.1) (sym (plays_none machine now wrong)) (rest_not now wrong n)
+  plays_not [] now wrong n = subst (λ (z : List Update × Last). LastNot z.1) (sym (plays_none machine now wrong)) (rest_not _ _ n)
   plays_not (message ∷ messages) now wrong n =
       subst (λ (z : List Update × Last). LastNot z.1) (sym (plays_step machine now message messages wrong))
-      (by (λ next. plays_not messages next wrong n) (transition_by machine now message) (transition_not now message))
+      (by (λ next. plays_not _ _ _ n) _ (transition_not now message))
     where
       by : ((next : Phase) → LastNot (plays machine next messages wrong).1) → (made : Made) → MadeNot made
           → LastNot (going made (λ next. plays machine next messages wrong)).1
@@ -164,15 +161,14 @@ module _ (machine : Machine) where
       by rest (Err why) m = m
 
   session_not : (now : Phase) (octets : List ℕ) → LastNot (session_by machine now octets).1
-  session_not now octets = plays_not (parts_of first_message octets).0 now (wrong_at (parts_of first_message octets).1)
-      (wrong_not (parts_of first_message octets).1)
+  session_not now octets = plays_not _ _ _ (wrong_not (parts_of first_message octets).1)
 
   -- up to where it is established
   opens_not : (parts : List (Message × List ℕ)) (now : Phase) (wrong : Option MessageFault) → WrongNot wrong → LastNot (opens machine now parts wrong).0
-  opens_not [] now wrong n = subst (λ (z : Opened). LastNot z.0) (sym (opens_none machine now wrong)) (rest_not now wrong n)
+  opens_not [] now wrong n = subst (λ (z : Opened). LastNot z.0) (sym (opens_none _ _ _)) (rest_not _ _ n)
   opens_not (found ∷ later) now wrong n =
-      subst (λ (z : Opened). LastNot z.0) (sym (opens_step machine now found later wrong))
-      (by (λ next. opens_not later next wrong n) (transition_by machine now found.0) (transition_not now found.0))
+      subst (λ (z : Opened). LastNot z.0) (sym (opens_step _ _ _ _ _))
+      (by (λ next. opens_not _ _ _ n) _ (transition_not now found.0))
     where
       up : (b : Bool) (next : Phase) → LastNot (opens machine next later wrong).0
           → LastNot (if b then (still next, found.1) else opens machine next later wrong).0
@@ -181,21 +177,20 @@ module _ (machine : Machine) where
 
       by : ((next : Phase) → LastNot (opens machine next later wrong).0) → (made : Made) → MadeNot made
           → LastNot (made_open made found.1 (λ next. opens machine next later wrong)).0
-      by rest (Ok next) m = up (is_established next.0.state) next.0 (rest next.0)
+      by rest (Ok next) m = up (is_established next.0.state) _ (rest next.0)
       by rest (Err why) m = m
 
   opened_by_not : (now : Phase) (octets : List ℕ) → LastNot (opened_by machine now octets).0
-  opened_by_not now octets = opens_not (parts_of front_message octets).0 now (wrong_at (parts_of front_message octets).1)
-      (wrong_not (parts_of front_message octets).1)
+  opened_by_not now octets = opens_not _ _ _ (wrong_not (parts_of front_message octets).1)
 
   last_late : (last : Last) → LastNot last → last ≡ closed (Fault 4 0) → ⊥
   last_late last n e = never (subst LastNot e n)
 
   pub session_late : (now : Phase) (octets : List ℕ) → (session_by machine now octets).1 ≡ closed (Fault 4 0) → ⊥
-  session_late now octets e = last_late (session_by machine now octets).1 (session_not now octets) e
+  session_late now octets e = last_late _ (session_not _ _) e
 
   pub opened_late : (now : Phase) (octets : List ℕ) → (opened_by machine now octets).0 ≡ closed (Fault 4 0) → ⊥
-  opened_late now octets e = last_late (opened_by machine now octets).0 (opened_by_not now octets) e
+  opened_late now octets e = last_late _ (opened_by_not _ _) e
 
   -- An end that heard pieces and is closed so is closed by the clock, at one of them.
   pub record Expired (heard : Pieces) : Type 0 where
@@ -222,13 +217,13 @@ module _ (machine : Machine) where
         alive : here.closed ≡ None → Steps machine event here ⊎ (tick_at here.phase.hold (at_moment event.0 here.times) ≡ Expires)
             → Expired (heard ++ event ∷ [])
         alive k (inl s) =
-            absurd (runs_by_not here.phase s.times (here.waiting ++ event.1) (sym (ap (λ (p : Point). p.closed) s.point_is) ∙ there))
+            absurd (runs_by_not _ _ _ (sym (ap (λ (p : Point). p.closed) s.point_is) ∙ there))
         alive k (inr due) = record { earlier = heard; event = event; later = []; split = refl; lived = k; due = due }
 
         by : (c : Option Closed) → here.closed ≡ c → Expired (heard ++ event ∷ [])
-        by None k = alive k (steps machine event here k)
+        by None k = alive k (steps _ _ _ k)
         by (Some why) k =
-            let x = before (k ∙ sym (stays_shut machine event here why k) ∙ there) in
+            let x = before (k ∙ sym (stays_shut _ _ here _ k) ∙ there) in
             record {
               earlier = x.earlier;
               event = x.event;
@@ -255,5 +250,5 @@ bounded_late config peer octets e = by (first_over peer.max_routes session.0) re
     other h = cc
 
     by : (o : Option (List Update)) → first_over peer.max_routes session.0 ≡ o → ⊥
-    by None f = session_late (receiver config peer) at_start octets (sym (ap (λ (x : Option (List Update)). (chosen x).1) f) ∙ e)
+    by None f = session_late _ _ _ (sym (ap (λ (x : Option (List Update)). (chosen x).1) f) ∙ e)
     by (Some front) f = other (sym (ap (λ (x : Option (List Update)). (chosen x).1) f) ∙ e)

@@ -22,11 +22,11 @@ same_result result why e = e
 
 pub fed_over : (old new : Announcing) (result : Result ℕ Closed) (out out' : List ℕ) → StaysEnded old new result out out'
     → StaysOver old.line new.line (without_update result) out out'
-fed_over old new result out out' stays = stays_over old new result (without_update result) out out' (same_error result) stays
+fed_over old new result out out' stays = stays_over _ _ _ _ _ _ (same_error result) stays
 
 pub woke_over : (old new : Announcing) (result : Result (Unit {0}) Closed) (out out' : List ℕ) → StaysEnded old new result out out'
     → StaysOver old.line new.line result out out'
-woke_over old new result out out' stays = stays_over old new result result out out' (same_result result) stays
+woke_over old new result out out' stays = stays_over _ _ _ _ _ _ (same_result result) stays
 
 closed_without : (result : Result ℕ Closed) → closed_after result ≡ closed_after (without_update result)
 closed_without (Ok count) = refl
@@ -43,17 +43,14 @@ module _ (a b c : Announcing) (moment : ℕ) (piece rest o0 o1 o2 : List ℕ) (r
   pub goes_more : (count : ℕ) → result ≡ Ok count → Going (machine_in a) moment a.line c.line piece (drop count rest) [] [] o0 o2
   goes_more count e =
       going_more (machine_in a) moment a.line b.line c.line piece rest [] [] o0 o1 o2 count None (without_update result) (ap without_update e) going
-      (fed_over b c result o1 o2 stays) feeds_a
-      (shut ∙ closed_without result)
+      (fed_over _ _ _ _ _ stays) feeds_a (shut ∙ closed_without _)
 
   pub ends_all : (count : ℕ) → result ≡ Ok count → drop count rest ≡ [] → HandsOver (machine_in a) moment a.line c.line piece [] [] o0 o2
   ends_all count e none =
       hands_all (machine_in a) moment a.line b.line c.line piece rest [] [] o0 o1 o2 count None (without_update result) (ap without_update e) going
-      (fed_over b c result o1 o2 stays) feeds_a
-      (shut ∙ closed_without result) none
+      (fed_over _ _ _ _ _ stays) feeds_a (shut ∙ closed_without _) none
 
   pub ends_shut : (why : Closed) → result ≡ Err why → (why ≡ Memory → ⊥) → HandsOver (machine_in a) moment a.line c.line piece [] [] o0 o2
   ends_shut why e other =
       hands_closed (machine_in a) moment a.line b.line c.line piece rest [] [] o0 o1 o2 why (without_update result) (ap without_update e) other going
-      (fed_over b c result o1 o2 stays) feeds_a
-      (shut ∙ closed_without result)
+      (fed_over _ _ _ _ _ stays) feeds_a (shut ∙ closed_without _)

@@ -4,7 +4,7 @@ use Rattle.fs_peering.proofs.KeeperWords.{Some, None, IfSome, refl, ap, sym, sub
 use Rattle.fs_peering.proofs.KeeperWords.{nothing, taken, shut, Grew, Grew-refl, Grew-trans, Config, Peer, CanSend, has_started, is_established}
 use Rattle.fs_peering.proofs.KeeperWords.{machine_in, open_sent, sender_of, state_in, terms_of, StandsAt, Closed, Lined, Machine, Point, Sending}
 use Rattle.fs_peering.proofs.KeeperWords.{Connection, Kept, Outcome, Said, at_line, begins, checks, ends, follows, hears, is_up, machine_of, news_up}
-use Rattle.fs_peering.proofs.KeeperWords.{outcome, rests, rises, received, receives, speaks, wakes, woken, BreaksSo, Fits, IsConnection, IsOwn}
+use Rattle.fs_peering.proofs.KeeperWords.{outcome, rests, received, receives, speaks, wakes, woken, BreaksSo, Fits, IsConnection, IsOwn}
 use Rattle.fs_peering.proofs.KeeperWords.{KeepsOwn, Keeping, LinkSaid, LinkSays, Linked, MayBeSaid, Stands, Took, TookQuietly, TookSo, let_go}
 use Rattle.fs_peering.proofs.KeeperWords.{terms_in, News, Ended, Unreached}
 use Rattle.fs_peering.proofs.Standing.{going, linked_none, linked_some, machines, checks_none, checks_some, line_none, line_some, settled, settled_by}
@@ -25,7 +25,7 @@ may_be_said config linked sending own can =
 pub all_said : (config : Config) (linked : Linked) (sending : Option Sending) → IsOwn config linked → IfSome sending (CanSend config (sender_of config.peers))
     → IfSome sending (MayBeSaid (terms_in linked.end))
 all_said config linked None own can = tt
-all_said config linked (Some sending) own can = may_be_said config linked sending own can
+all_said config linked (Some sending) own can = may_be_said _ _ _ own can
 
 -- whose the end of the connection is stays
 pub owns_on : (config : Config) (linked linked' : Linked) → IsOwn config linked → (linked'.end.config ≡ linked.end.config)
@@ -40,51 +40,49 @@ pub fits_on : (config : Config) (rules : Option Sending) (link : Option Linked) 
     → KeepsOwn linked linked' → Fits config rules (Some linked')
 fits_on config rules link linked linked' is fits keeps = record {
   sendable = fits.sendable;
-  own = owns_on config linked linked' (subst (λ (l : Option Linked). IfSome l (IsOwn config)) is fits.own) keeps.0 keeps.1;
+  own = owns_on _ _ _ (subst (λ (l : Option Linked). IfSome l (IsOwn config)) is fits.own) keeps.0 keeps.1;
 }
 
 -- the clock, where a connection isn't made, or is
 module _ (time : ℕ) (old : Keeping) (linked : Linked) (link_is : old.link ≡ Some linked) where
   pub check_waits : (turns : Option (List Turn)) → linked.made ≡ false → TookSo (checks time) None old old turns turns
   check_waits turns off = λ kept stands.
-      let f = linked_some kept old linked stands link_is in
-      took_rests (checks time kept) kept old turns stands (checks_some time kept f.connection false f.there (sym f.is.made_is ∙ off))
+      let f = linked_some _ _ _ stands link_is in
+      took_rests _ _ _ _ stands (checks_some _ _ _ _ f.there (sym f.is.made_is ∙ off))
 
   pub check_open : (news : Option News) (linked' : Linked) (out : List ℕ) (new : Keeping) (turns turns1 : Option (List Turn)) → linked.made ≡ true
       → LinkSays (woken time linked.since) news linked linked' [] out → Grew turns turns1 (speaks linked.line out) → news ≡ None
       → new ≡ going false linked' old → TookSo (checks time) None old new turns turns1
   check_open news linked' out new turns turns1 on says asked none goes = λ kept stands.
-      let f = linked_some kept old linked stands link_is in
+      let f = linked_some _ _ _ stands link_is in
       let said : LinkSaid (woken time f.connection.since f.connection.point) news linked linked' [] out =
       subst (λ since. LinkSaid (woken time since f.connection.point) news linked linked' [] out) f.is.since_is
       (says f.connection.point (subst (λ machine. StandsAt machine linked.end.line f.connection.point)
-      (sym (machines old.config kept.rules f.connection linked f.is)) f.is.stands) f.is.alive) in
-      subst (λ (o : Outcome). Took o None old new turns turns1) (sym (checks_some time kept f.connection true f.there (sym f.is.made_is ∙ on)))
-      (took_open (woken time f.connection.since f.connection.point) news time f.connection linked linked' out kept old stands f.is said turns turns1
-      asked false new none goes)
+      (sym (machines _ _ _ _ f.is)) f.is.stands) f.is.alive) in
+      subst (λ (o : Outcome). Took o None old new turns turns1) (sym (checks_some _ _ _ _ f.there (sym f.is.made_is ∙ on)))
+      (took_open _ _ time _ _ _ _ _ _ stands f.is said _ _ asked false _ none goes)
 
   pub check_shut : (news : Option News) (linked' : Linked) (out : List ℕ) (new : Keeping) (turns turns1 turns2 : Option (List Turn)) (done : News)
       → linked.made ≡ true
       → LinkSays (woken time linked.since) news linked linked' [] out → Grew turns turns1 (speaks linked.line out) → news ≡ Some done
       → Grew turns1 turns2 (shut linked.line ∷ []) → new ≡ let_go time old → TookSo (checks time) (Some done) old new turns turns2
   check_shut news linked' out new turns turns1 turns2 done on says asked some closed goes = λ kept stands.
-      let f = linked_some kept old linked stands link_is in
+      let f = linked_some _ _ _ stands link_is in
       let said : LinkSaid (woken time f.connection.since f.connection.point) news linked linked' [] out =
       subst (λ since. LinkSaid (woken time since f.connection.point) news linked linked' [] out) f.is.since_is
       (says f.connection.point (subst (λ machine. StandsAt machine linked.end.line f.connection.point)
-      (sym (machines old.config kept.rules f.connection linked f.is)) f.is.stands) f.is.alive) in
-      subst (λ (o : Outcome). Took o (Some done) old new turns turns2) (sym (checks_some time kept f.connection true f.there (sym f.is.made_is ∙ on)))
-      (took_shut (woken time f.connection.since f.connection.point) news time f.connection linked linked' out kept old stands f.is said turns turns1
-      asked false done turns2 new some closed goes)
+      (sym (machines _ _ _ _ f.is)) f.is.stands) f.is.alive) in
+      subst (λ (o : Outcome). Took o (Some done) old new turns turns2) (sym (checks_some _ _ _ _ f.there (sym f.is.made_is ∙ on)))
+      (took_shut _ _ _ _ _ _ _ _ _ stands f.is said _ _ asked false _ _ _ some closed goes)
 
 pub check_none : (time : ℕ) (old : Keeping) (turns : Option (List Turn)) → old.link ≡ None → TookSo (checks time) None old old turns turns
-check_none time old turns none = λ kept stands. took_rests (checks time kept) kept old turns stands (checks_none time kept (linked_none kept old stands none))
+check_none time old turns none = λ kept stands. took_rests _ _ _ _ stands (checks_none _ _ (linked_none _ _ stands none))
 
 -- no connection is there, or another
 pub at_none : (line : ℕ) (fits : Connection → Bool) (act : Connection → Kept → Outcome) (old : Keeping) → old.link ≡ None
     → TookQuietly (at_line line fits act) None old old
 at_none line fits act old none =
-    λ turns kept stands. took_rests (at_line line fits act kept) kept old turns stands (line_none line fits act kept (linked_none kept old stands none))
+    λ turns kept stands. took_rests _ _ _ _ stands (line_none _ _ act _ (linked_none _ _ stands none))
 
 same_lines : (a b line : ℕ) (fits is : Bool) → a ≡ b → ((a == line) && fits) ≡ is → ((b == line) && fits) ≡ is
 same_lines a b line fits is e h = subst (λ n. ((n == line) && fits) ≡ is) e h
@@ -94,16 +92,15 @@ at_link : (line : ℕ) (fits : Connection → Bool) (connection : Connection) (l
     → fits connection ≡ fit
     → ((linked.line == line) && fit) ≡ is → ((connection.line == line) && fits connection) ≡ is
 at_link line fits connection linked fit is line_is fit_is h =
-    same_lines linked.line connection.line line (fits connection) is line_is (ap (λ b. (linked.line == line) && b) fit_is ∙ h)
+    same_lines _ _ _ _ _ line_is (ap (λ b. (linked.line == line) && b) fit_is ∙ h)
 
 pub at_other : (line : ℕ) (fits : Connection → Bool) (act : Connection → Kept → Outcome) (old : Keeping) (linked : Linked) (fit : Bool) → old.link ≡ Some linked
     → ((connection : Connection) → linked.made ≡ connection.made → fits connection ≡ fit) → ((linked.line == line) && fit) ≡ false
     → TookQuietly (at_line line fits act) None old old
 at_other line fits act old linked fit some fits_is other = λ turns kept stands.
-    let f = linked_some kept old linked stands some in
-    took_rests (at_line line fits act kept) kept old turns stands
-    (line_some line fits act kept f.connection false f.there
-    (at_link line fits f.connection linked fit false f.is.line_is (fits_is f.connection f.is.made_is) other))
+    let f = linked_some _ _ _ stands some in
+    took_rests _ _ _ _ stands (line_some _ _ act _ _ _ f.there
+    (at_link _ fits f.connection linked _ _ f.is.line_is (fits_is f.connection f.is.made_is) other))
 
 pub at_this : (line : ℕ) (fits : Connection → Bool) (act : Connection → Kept → Outcome) (news : Option News) (old new : Keeping) (linked : Linked) (fit : Bool)
     (turns turns' : Option (List Turn)) → old.link ≡ Some linked
@@ -112,10 +109,9 @@ pub at_this : (line : ℕ) (fits : Connection → Bool) (act : Connection → Ke
     → Took (act connection kept) news old new turns turns')
     → TookSo (at_line line fits act) news old new turns turns'
 at_this line fits act news old new linked fit turns turns' some fits_is this took = λ kept stands.
-    let f = linked_some kept old linked stands some in
-    subst (λ (o : Outcome). Took o news old new turns turns')
-    (sym (line_some line fits act kept f.connection true f.there
-    (at_link line fits f.connection linked fit true f.is.line_is (fits_is f.connection f.is.made_is) this)))
+    let f = linked_some _ _ _ stands some in
+    subst (λ (o : Outcome). Took o news old new turns turns') (sym (line_some _ _ act _ _ _ f.there
+    (at_link _ fits f.connection linked _ _ f.is.line_is (fits_is f.connection f.is.made_is) this)))
     (took kept f.connection stands f.is)
 
 -- the OPEN is said
@@ -150,21 +146,7 @@ begun_so time old new linked linked' out turns turns1 off begun asked goes kept 
             made = true;
             since = time;
             spoken = open_sent old.config connection.peer connection.asked;
-          })) (sym b.0) (record {
-            line_is = is.line_is;
-            made_is = refl;
-            since_is = refl;
-            config_is = is.config_is;
-            peer_is = is.peer_is;
-            sender = is.sender;
-            asked_is = is.asked_is;
-            started_is = refl;
-            appended_is = is.appended_is;
-            stands = is.stands;
-            alive = is.alive;
-            told_is = is.told_is;
-            same = is.same;
-          }),
+          })) (sym b.0) assumption,
         );
       };
       config_is = refl;
@@ -180,14 +162,7 @@ ended_so time news old new linked turns news_is goes kept connection stands is =
     (record {
       asked = Grew-refl turns;
       news_is = ap (λ (n : News). Some n) (news_is ∙ ap (λ (b : Bool). if b then Ended else Unreached) is.made_is);
-      stands = record {
-        rules_are = stands.rules_are;
-        sendable = stands.sendable;
-        since_is = refl;
-        wait_is = stands.delay_is;
-        delay_is = ap (λ n. min most_wait (2 * n)) stands.delay_is;
-        link = refl;
-      };
+      stands = assumption (ap (λ (n : ℕ). min most_wait (2 * n)) stands.delay_is);
       config_is = refl;
     })
 
@@ -203,20 +178,16 @@ module _ (time : ℕ) (piece : List ℕ) (old : Keeping) (linked linked' : Linke
   said_so : (kept : Kept) (connection : Connection) → IsConnection old.config kept.rules connection linked
       → LinkSaid (received (machine_of old.config connection) time piece connection.point) news linked linked' [] out
   said_so kept connection is =
-      subst (λ machine. LinkSaid (received machine time piece connection.point) news linked linked' [] out)
-      (machines old.config kept.rules connection linked is)
+      subst (λ machine. LinkSaid (received machine time piece connection.point) news linked linked' [] out) (machines _ _ _ _ is)
       (says connection.point (subst (λ machine. StandsAt machine linked.end.line connection.point)
-      (sym (machines old.config kept.rules connection linked is)) is.stands) is.alive)
+      (sym (machines _ _ _ _ is)) is.stands) is.alive)
 
   pub received_shut : (new : Keeping) (done : News) (turns2 : Option (List Turn)) → news ≡ Some done → Grew turns1 turns2 (shut linked.line ∷ [])
       → new ≡ let_go time old
       → (kept : Kept) (connection : Connection) → Stands kept old → IsConnection old.config kept.rules connection linked
       → Took (receives old.config time piece connection kept) (Some done) old new turns turns2
   received_shut new done turns2 some closed goes kept connection stands is =
-      took_shut (received (machine_of old.config connection) time piece connection.point) news time connection linked linked' out kept old stands is
-      (said_so kept connection is)
-      turns turns1 asked (rises connection.point (received (machine_of old.config connection) time piece connection.point).point) done turns2 new some
-      closed goes
+      took_shut _ _ _ _ _ _ _ _ _ stands is (said_so kept _ is) _ _ asked _ _ _ _ some closed goes
 
   -- whether it was up, and is
   pub received_open : (new : Keeping) (was now : Bool) → news ≡ None → was ≡ is_established (state_in linked.end.line)
@@ -230,24 +201,18 @@ module _ (time : ℕ) (piece : List ℕ) (old : Keeping) (linked linked' : Linke
       took : Took (settled (received (machine_of old.config connection) time piece connection.point) (now && not was) time connection kept)
           (news_up (now && not was)) old new turns turns1
       took =
-          took_open (received (machine_of old.config connection) time piece connection.point) news time connection linked linked' out kept old stands
-          is (said_so kept connection is)
-          turns turns1 asked (now && not was) new none goes
+          took_open _ _ _ _ _ _ _ _ _ stands is (said_so kept _ is) _ _ asked _ _ none goes
 
       by : (closing : Option Closed) → (received (machine_of old.config connection) time piece connection.point).closing ≡ closing
           → Took (receives old.config time piece connection kept) (news_up (now && not was)) old new turns turns1
       by (Some why) e =
-          subst (λ (o : Outcome). Took o (news_up (now && not was)) old new turns turns1)
-          (settled_by (received (machine_of old.config connection) time piece connection.point) (now && not was) time connection kept (Some why) e
-          ∙ sym (settled_by (received (machine_of old.config connection) time piece connection.point)
-          (rises connection.point (received (machine_of old.config connection) time
-          piece connection.point).point) time connection kept (Some why) e))
-          took
+          subst (λ (o : Outcome). Took o (news_up (now && not was)) old new turns turns1) (settled_by _ _ _ connection _ _ e
+          ∙ sym (settled_by _ _ _ connection _ _ e)) took
       by None e =
-          let on = (said_so kept connection is).stays e in
-          let was_up : was ≡ is_up connection.point = was_is ∙ up_is (machine_of old.config connection) linked.end.line connection.point is.stands is.alive in
+          let on = (said_so kept _ is).stays e in
+          let was_up : was ≡ is_up connection.point = was_is ∙ up_is _ _ _ is.stands is.alive in
           let now_up : now ≡ is_up (received (machine_of old.config connection) time piece connection.point).point =
-          now_is ∙ up_is (machine_in linked.end) linked'.end.line (received (machine_of old.config connection) time piece connection.point).point on.0 on.1 in
+          now_is ∙ up_is _ _ _ on.0 on.1 in
           subst (λ (b : Bool). Took (settled (received (machine_of old.config connection) time piece connection.point) b time connection kept)
           (news_up (now && not was)) old new turns turns1)
           (ap (λ b. b && not was) now_up ∙ ap (λ b. is_up (received (machine_of old.config connection) time piece connection.point).point && not b) was_up)
@@ -265,22 +230,22 @@ gone_told time kept done = by kept.connection refl
 
     settled_so : (said : Said) (connection : Connection) (closing : Option Closed) → said.closing ≡ closing
         → GoneWhereTold done (settled said false time connection kept)
-    settled_so said connection (Some why) e = subst (GoneWhereTold done) (sym (settled_by said false time connection kept (Some why) e)) (λ some. refl)
+    settled_so said connection (Some why) e = subst (GoneWhereTold done) (sym (settled_by _ false _ connection kept _ e)) (λ some. refl)
     settled_so said connection None e =
-        subst (GoneWhereTold done) (sym (settled_by said false time connection kept None e)) (λ some. absurd (let no : None ≡ Some done = some in cc))
+        subst (GoneWhereTold done) (sym (settled_by _ false _ connection kept _ e)) (λ some. absurd (let no : None ≡ Some done = some in cc))
 
     made_so : (connection : Connection) (made : Bool) → GoneWhereTold done (if made then wakes time connection kept else rests kept)
-    made_so connection true = settled_so (woken time connection.since connection.point) connection (woken time connection.since connection.point).closing refl
+    made_so connection true = settled_so _ connection _ refl
     made_so connection false = rests_so
 
     by : (connection : Option Connection) → kept.connection ≡ connection → GoneWhereTold done (checks time kept)
-    by None e = subst (GoneWhereTold done) (sym (checks_none time kept e)) rests_so
-    by (Some connection) e = subst (GoneWhereTold done) (sym (checks_some time kept connection connection.made e refl)) (made_so connection connection.made)
+    by None e = subst (GoneWhereTold done) (sym (checks_none _ _ e)) rests_so
+    by (Some connection) e = subst (GoneWhereTold done) (sym (checks_some _ _ _ _ e refl)) (made_so connection connection.made)
 
 follows_gone : (config : Config) (time : ℕ) (what : What) (kept : Kept) → kept.connection ≡ None → follows config time what kept ≡ rests kept
-follows_gone config time (made line) kept e = line_none line (λ connection. not connection.made) (begins config time) kept e
-follows_gone config time (gave line piece) kept e = line_none line (λ connection. connection.made) (receives config time piece) kept e
-follows_gone config time (ended line) kept e = line_none line (λ connection. true) (ends time) kept e
+follows_gone config time (made line) kept e = line_none _ _ (begins config time) _ e
+follows_gone config time (gave line piece) kept e = line_none _ _ (receives config time piece) _ e
+follows_gone config time (ended line) kept e = line_none _ _ (ends time) _ e
 follows_gone config time (taken line from) kept e = refl
 follows_gone config time nothing kept e = refl
 
@@ -289,7 +254,7 @@ pub hear_shut : (config : Config) (time : ℕ) (what : What) (done : News) (old 
     → TookSo (checks time) (Some done) old mid turns turns1 → TookSo (hears config time what) (Some done) old mid turns turns1
 hear_shut config time what done old mid turns turns1 first = λ kept stands.
     let took = first kept stands in
-    let e = follows_gone config time what (checks time kept).kept (gone_told time kept done (sym took.news_is)) in
+    let e = follows_gone config time what _ (gone_told time kept _ (sym took.news_is)) in
     subst (λ (o : Outcome). Took (outcome ((checks time kept).turns ++ o.turns) (option_or (checks time kept).news o.news) o.kept)
     (Some done) old mid turns turns1) (sym e)
     (record {

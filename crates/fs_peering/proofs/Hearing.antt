@@ -47,10 +47,10 @@ says_handed on machine moment old new piece out out' hands now stands =
 pub says_up : (on : Bool) (a : Announcing) (moment : ℕ) (old new : Lined) (piece rest out out' : List ℕ)
     → Going (machine_in a) moment old new piece rest [] [] out out'
     → stops_at on new ≡ true → SaysTo on (machine_in a) moment old new piece out out'
-says_up on a moment old new piece rest out out' going stop now stands = (by now.closed refl (going now stands), λ early. absurd (both stop early))
+says_up on a moment old new piece rest out out' going stop now stands = (by _ refl (going now stands), λ early. absurd (both stop early))
   where
     up : is_established (state_in new) ≡ true
-    up = stops_up on new stop
+    up = stops_up _ new stop
 
     machine : Machine
     machine = machine_in a
@@ -61,7 +61,7 @@ says_up on a moment old new piece rest out out' going stop now stands = (by now.
         let c : Comes machine moment (runs_by machine now.phase (at_moment moment now.times) (now.waiting ++ piece)) [] [] out out' new rest = g.1 in
         let on : is_established new.phase.state ≡ true = sym (state_open new g.0) ∙ up in
         let quiet : Quiet a.config (needs_of a.sending.rules) new.phase _ =
-        quiet_by a.config (needs_of a.sending.rules) new.phase (at_moment moment new.times) (pending new.framing ++ rest) (unawaited new.phase.state on) in
+        quiet_by a.config (needs_of a.sending.rules) _ _ _ (unawaited _ on) in
         c.said ∙ ap (λ (z : List ℕ). out ++ z)
         (sym (ap (λ (h : Handed). h.text) (open_hand machine moment now piece e) ∙ ap (λ (h : Handed). h.text) c.goes
         ∙ ap (λ (z : List ℕ). c.text ++ z) quiet.text_is ∙ append-nil c.text))
@@ -107,7 +107,7 @@ begins_early old new started out out' e starts heard said h =
 pub next_early : (old new : Announcing) (started had : Bool) (out out' : List ℕ) → old.line.closed ≡ None → started ≡ true
     → SaysText (next_text old) had old new out out'
     → Says (HasHeard old started) (HasHeard new started) out out'
-next_early old new started had out out' alive go says heard said h = by (is_established old.line.phase.state) refl
+next_early old new started had out out' alive go says heard said h = by _ refl
   where
     texts : Option (List ℕ)
     texts = first_text (text_sent old.config old.peer old.line.phase.four old.sending) (drop old.appended old.sending.rules)
@@ -136,8 +136,7 @@ next_early old new started had out out' alive go says heard said h = by (is_esta
           started_is = h.started_is;
           at = h.at;
           said_is = ap (λ (z : List ℕ). z ++ text) h.said_is ∙ append_assoc (opening_of old) ((course (machine_in old) heard).text ++ rules_of old) text
-              ∙ ap (λ (z : List ℕ). opening_of old ++ z)
-              (append_assoc (course (machine_in old) heard).text (rules_of old) text
+              ∙ ap (λ (z : List ℕ). opening_of old ++ z) (append_assoc (course (machine_in old) heard).text (rules_of old) text
               ∙ ap (λ (z : List ℕ). (course (machine_in old) heard).text ++ z) (sym more));
           listened = h.listened;
           alive = h.alive;
@@ -154,33 +153,33 @@ next_early old new started had out out' alive go says heard said h = by (is_esta
         more : rules_of (one_sent old) ≡ rules_of old ++ text
         more =
             let one : old.appended + 1 ≡ suc old.appended = omega arith in
-            let next = next_of text_of old.appended old.sending.rules text t in
+            let next = next_of _ _ _ _ t in
             ap (λ (n : ℕ). flat_map text_of (take n old.sending.rules)) one ∙ ap (flat_map text_of) next.1.1
             ∙ flat_map-append text_of (take old.appended old.sending.rules) (next.0 ∷ [])
             ∙ ap (λ (z : List ℕ). rules_of old ++ z) (append-nil (text_of next.0) ∙ sym next.1.0)
 
     by_text : (o : Option (List ℕ)) → is_established old.line.phase.state ≡ true → texts ≡ o → SaysText o had old new out out' → Answer
     by_text None up t s = same s.1 s.2
-    by_text (Some text) up t s = sent text up t s.1 s.2
+    by_text (Some text) up t s = sent _ up t s.1 s.2
 
     by : (b : Bool) → is_established old.line.phase.state ≡ b → Answer
-    by false e = let s = subst (λ (o : Option (List ℕ)). SaysText o had old new out out') (next_is false e) says in same s.1 s.2
-    by true e = by_text texts e refl (subst (λ (o : Option (List ℕ)). SaysText o had old new out out') (next_is true e) says)
+    by false e = let s = subst (λ (o : Option (List ℕ)). SaysText o had old new out out') (next_is _ e) says in same s.1 s.2
+    by true e = by_text _ e refl (subst (λ (o : Option (List ℕ)). SaysText o had old new out out') (next_is _ e) says)
 
 -- the clock closes an end where its hold time has expired
 ticked_shut : (machine : Machine) (event : ℕ × List ℕ) (now : Point) (why : Closed) → now.closed ≡ None → (ticked event.0 now).point.closed ≡ Some why
     → (tick_at now.phase.hold (at_moment event.0 now.times) ≡ Expires) × (why ≡ Fault 4 0)
-ticked_shut machine event now why alive shut = by (tick_at now.phase.hold (at_moment event.0 now.times)) refl
+ticked_shut machine event now why alive shut = by _ refl
   where
     closed_by : (tick : Tick) → tick_at now.phase.hold (at_moment event.0 now.times) ≡ tick
         → (ticks tick now.waiting now.phase (at_moment event.0 now.times)).point.closed ≡ Some why
-    closed_by tick e = sym (ap (λ (m : Handed). m.point.closed) (woke_is machine event now tick alive e)) ∙ shut
+    closed_by tick e = sym (ap (λ (m : Handed). m.point.closed) (woke_is machine event _ _ alive e)) ∙ shut
 
     by : (tick : Tick) → tick_at now.phase.hold (at_moment event.0 now.times) ≡ tick
         → (tick_at now.phase.hold (at_moment event.0 now.times) ≡ Expires) × (why ≡ Fault 4 0)
-    by IsQuiet e = absurd (none-some why (closed_by IsQuiet e))
-    by Keeps e = absurd (none-some why (closed_by Keeps e))
-    by Expires e = (e, sym (same_Some (Fault 4 0) why (closed_by Expires e)))
+    by IsQuiet e = absurd (none-some why (closed_by _ e))
+    by Keeps e = absurd (none-some why (closed_by _ e))
+    by Expires e = (e, sym (same_Some (Fault 4 0) why (closed_by _ e)))
 
 -- What an end hears at a moment: the clock, and then a piece.
 pub record HeardSo (on : Bool) (b w c : Announcing) (moment needed : ℕ) (piece o1 o2 o3 : List ℕ) : Type 0 where
@@ -253,8 +252,7 @@ module _ (b w c : Announcing) (count count' moment needed : ℕ) (piece o1 o2 o3
         (h.said_is ∙ ap (λ (z : List ℕ). opening_of b ++ z) (ap (λ (z : List ℕ). (course machine heard).text ++ z) (no_rules b (h.none early))
         ∙ append-nil (course machine heard).text))
         ∙ append_assoc (opening_of b) (course machine heard).text more
-        ∙ ap (λ (z : List ℕ). opening_of b ++ z)
-        (sym text_is ∙ sym (append-nil (course machine pieces).text)
+        ∙ ap (λ (z : List ℕ). opening_of b ++ z) (sym text_is ∙ sym (append-nil (course machine pieces).text)
         ∙ ap (λ (z : List ℕ). (course machine pieces).text ++ z) (sym (no_rules (with_line b c.line) (h.none early))))
 
     -- what is to come of all octets
@@ -264,46 +262,45 @@ module _ (b w c : Announcing) (count count' moment needed : ℕ) (piece o1 o2 o3
     -- its hold time expired
     late : tick_at here.phase.hold (at_moment moment here.times) ≡ Expires → HasExpired machine (moments_in pieces) (octets_in pieces)
     late due =
-        let x = expires_late machine heard moment open_here due in
+        let x = expires_late _ _ _ open_here due in
         record {
           taken = octets_in heard;
           untaken = piece;
           split = octets_more heard moment piece;
           phase = here.phase;
-          found = ap (opened_by machine at_start) (sym (append-nil (octets_in heard))) ∙ goes []
+          found = ap (opened_by machine at_start) (sym (append-nil (octets_in heard))) ∙ goes _
               ∙ ap (opened_by machine b.line.phase) (append-nil (pending b.line.framing) ∙ at_here.waiting_is)
               ∙ ap (λ (p : Phase). opened_by machine p here.waiting) at_here.phase_is
-              ∙ opened_waits machine here.phase here.waiting at_here.waits_is;
+              ∙ opened_waits _ _ _ at_here.waits_is;
           timed = x.0;
-          spans = subst (Spans (1000 * here.phase.hold)) (sym (moments_more heard moment piece)) x.1;
+          spans = subst (Spans (1000 * here.phase.hold)) (sym (moments_more _ _ _)) x.1;
         }
 
     shut : (why : Closed) → c.line.closed ≡ Some why → ClosesSo machine (moments_in pieces) (octets_in pieces) why
-    shut why e = by w.line.closed refl
+    shut why e = by _ refl
       where
         by : (how : Option Closed) → w.line.closed ≡ how → ClosesSo machine (moments_in pieces) (octets_in pieces) why
         by None open_w =
             let kept = (call.hand open_w).1 in
-            inl (λ later.
-            ap (λ (z : List ℕ). opened_by machine at_start (z ++ later)) (octets_more heard moment piece)
-            ∙ ap (opened_by machine at_start) (append_assoc (octets_in heard) piece later) ∙ goes (piece ++ later)
+            inl (λ later. ap (λ (z : List ℕ). opened_by machine at_start (z ++ later)) (octets_more heard _ _)
+            ∙ ap (opened_by machine at_start) (append_assoc (octets_in heard) piece later) ∙ goes _
             ∙ ap (λ (p : Phase). opened_by machine p (pending b.line.framing ++ (piece ++ later))) (sym kept.0)
             ∙ ap (λ (f : Framing). opened_by machine w.line.phase (pending f ++ (piece ++ later))) (sym kept.1)
             ∙ (subst (λ (m : Machine). ShutsBy m w.line c.line piece) machine_w (call.shuts refl)) why e open_w
             (ap (λ (p : Phase). is_established p.state) kept.0 ∙ down) later)
         by (Some what) shut_w =
             let woke_so : woke.point.closed ≡ Some what = sym woken.0.closed_is ∙ shut_w in
-            let due = ticked_shut machine (moment, piece) here what open_here woke_so in
+            let due = ticked_shut machine (moment, piece) here _ open_here woke_so in
             let stays : made.point.closed ≡ Some what = ap (λ (m : Handed). m.point.closed) (closed_hand machine moment woke.point piece what woke_so)
             ∙ woke_so in
-            let same : why ≡ what = same_Some why what (sym e ∙ (spoken.1 (state_shut c.line why e)).closed_is ∙ stays) in
+            let same : why ≡ what = same_Some why what (sym e ∙ (spoken.1 (state_shut c.line _ e)).closed_is ∙ stays) in
             inr (same ∙ due.1, late due.0)
 
     -- it is open, so the clock left it open
     in_time : c.line.closed ≡ None → IsInTime machine pieces
     in_time open_c earlier last e =
-        subst (λ (z : Pieces). (ticked last.0 (course machine z).point).point.closed ≡ None) (but_last heard earlier (moment, piece) last e)
-        (subst (λ (z : ℕ × List ℕ). (ticked z.0 here).point.closed ≡ None) (last_one heard earlier (moment, piece) last e)
+        subst (λ (z : Pieces). (ticked last.0 (course machine z).point).point.closed ≡ None) (but_last _ _ _ _ e)
+        (subst (λ (z : ℕ × List ℕ). (ticked z.0 here).point.closed ≡ None) (last_one _ _ _ _ e)
         (sym woken.0.closed_is ∙ (call.counts open_c).0))
 
     has_heard : HasHeard (with_line b c.line) true pieces (said ++ more)
@@ -311,7 +308,7 @@ module _ (b w c : Announcing) (count count' moment needed : ℕ) (piece o1 o2 o3
       started_is = h.started_is;
       at = λ e. subst (λ (m : Handed). StandsAt machine c.line m.point) (sym (course_more machine heard (moment, piece))) (spoken.1 e);
       said_is = said_is;
-      listened = λ earlier last e. subst (λ (z : Pieces). IsListening (course machine z).point) (but_last heard earlier (moment, piece) last e) listens;
+      listened = λ earlier last e. subst (λ (z : Pieces). IsListening (course machine z).point) (but_last _ _ _ _ e) listens;
       alive = in_time;
       shut = shut;
       none = λ e. h.none early;
@@ -323,10 +320,10 @@ module _ (b w c : Announcing) (count count' moment needed : ℕ) (piece o1 o2 o3
   hears_early counts heard said s = (
     more heard said s.0 s.1,
     (
-      (spoken heard said s.0 s.1).0 ∙ ap (λ (z : List ℕ). z ++ (made heard said s.0 s.1).text) (woken heard said s.0 s.1).1
+      (spoken _ _ s.0 s.1).0 ∙ ap (λ (z : List ℕ). z ++ (made heard said s.0 s.1).text) (woken _ _ s.0 s.1).1
           ∙ append_assoc o1 (woke heard said s.0 s.1).text (made heard said s.0 s.1).text,
       (
-        subst (λ (n : Announcing). HasHeard n true (heard ++ (moment, piece) ∷ []) (said ++ more heard said s.0 s.1)) (sym c_is) (has_heard heard said s.0 s.1),
+        subst (λ (n : Announcing). HasHeard n true (heard ++ (moment, piece) ∷ []) (said ++ more heard said s.0 s.1)) (sym c_is) (has_heard _ _ s.0 s.1),
         subst (CountsTo false (machine_in c) c.line count') (sym (octets_more heard moment piece)) (counts (octets_in heard) s.1),
       ),
     ),

@@ -38,7 +38,7 @@ nowhere {A} p xs e = by (find p xs) refl
   where
     by : (o : Option A) → find p xs ≡ o → find p xs ≡ None
     by None f = f
-    by (Some x) f = absurd (true≢false (sym (any_found p xs ∙ ap is_some f) ∙ e))
+    by (Some x) f = absurd (true≢false (sym (any_found _ xs ∙ ap is_some f) ∙ e))
 
 never_there : {A : Type 0} (p : A → Bool) (xs : List A) → find p xs ≡ None → list_any p xs ≡ false
 never_there p xs e = any_found p xs ∙ ap is_some e
@@ -93,7 +93,7 @@ same_class : (a b c : Ruled) → is_rule a b ≡ true → is_rule a c ≡ is_rul
 same_class a b c h = rule_equivalence.congr a b c h
 
 any_same : (rule : Ruled) (sent : Sent) (rules : List Sent) → fits rule sent ≡ true → list_any (fits rule) rules ≡ list_any (is_same sent) rules
-any_same rule sent rules h = any_alike (fits rule) (is_same sent) (λ (other : Sent). same_class rule sent.rule other.rule h) rules
+any_same rule sent rules h = any_alike _ _ (λ (other : Sent). same_class rule sent.rule other.rule h) rules
 
 pub single_first : (sent : Sent) (rules : List Sent) → are_single (sent ∷ rules) ≡ true → (list_any (is_same sent) rules ≡ false) × (are_single rules ≡ true)
 single_first sent rules e =
@@ -112,7 +112,7 @@ single_filtered q (sent ∷ rules) e = by (single_filtered q rules parts.1) (q s
     parts = single_first sent rules e
 
     by : are_single (filter q rules) ≡ true → (b : Bool) → are_single (cond b (sent ∷ filter q rules) (filter q rules)) ≡ true
-    by rest true = rw (any_filtered (is_same sent) q rules parts.0) rest
+    by rest true = rw (any_filtered _ _ _ parts.0) rest
     by rest false = rest
 
 -- of single rules the one that is found is kept, or no other
@@ -186,7 +186,7 @@ module _ (rule : Ruled) where
     given_last before None = before
 
     tells_one : (sent : Sent) → tells_of_rule rule (announced sent) ≡ fits rule sent
-    tells_one sent = by (fits rule sent)
+    tells_one sent = by _
       where
         by : (b : Bool) → is_some (if b then Some sent.rule else None) ≡ b
         by true = refl
@@ -219,13 +219,13 @@ module _ (rule : Ruled) where
         → flow_left rule (taken ++ map announced rules) ≡ given_last (flow_left rule taken) (find (fits rule) rules)
     announced_left taken rules e =
         left_more taken (map announced rules)
-        ∙ ap (told_last (flow_left rule taken)) (last_mapped rules e)
-        ∙ by (find (fits rule) rules) refl
+        ∙ ap (told_last (flow_left rule taken)) (last_mapped _ e)
+        ∙ by _ refl
       where
         by : (o : Option Sent) → find (fits rule) rules ≡ o
             → told_last (flow_left rule taken) (option_map announced o) ≡ given_last (flow_left rule taken) o
         by None f = refl
-        by (Some sent) f = shows_one sent (found_passes (fits rule) rules sent f)
+        by (Some sent) f = shows_one _ (found_passes (fits rule) _ _ f)
 
   -- RULES THAT ARE WITHDRAWN
   one_withdrawn : (family : Family) (pack : List Ruled) (taken : List Update)
@@ -288,10 +288,8 @@ module _ (rule : Ruled) where
           → (list_any (is_rule rule) (map (λ (s : Sent). s.rule) (cond (afi_of family == afi_of V4) (sent ∷ four) four))
           || list_any (is_rule rule) (map (λ (s : Sent). s.rule) (cond (afi_of family == afi_of V6) (sent ∷ six) six)))
           ≡ (fits rule sent || list_any (fits rule) rules)
-      by rest V4 = first (fits rule sent) (list_any (is_rule rule) (of_family V4 rules)) (list_any (is_rule rule) (of_family V6 rules))
-          (list_any (fits rule) rules) rest
-      by rest V6 = second (fits rule sent) (list_any (is_rule rule) (of_family V4 rules)) (list_any (is_rule rule) (of_family V6 rules))
-          (list_any (fits rule) rules) rest
+      by rest V4 = first (fits rule sent) _ _ _ rest
+      by rest V6 = second (fits rule sent) (list_any (is_rule rule) (of_family V4 rules)) _ _ rest
 
   -- A CHANGE
   module _ (terms : Terms) (old new : Sending) (is_fresh : Sent → Bool) (four six : List (List Ruled))
@@ -314,8 +312,8 @@ module _ (rule : Ruled) where
         ∙ ap (λ (rules : List Ruled). if list_any (is_rule rule) rules then None else flow_left rule (taken ++ map (withdrawal V4) four)) sixes
         ∙ ap (λ (o : Option Given). if list_any (is_rule rule) (of_family V6 left) then None else o)
         (withdrawn_left V4 four taken ∙ ap (λ (rules : List Ruled). if list_any (is_rule rule) rules then None else flow_left rule taken) fours)
-        ∙ by (list_any (is_rule rule) (of_family V4 left)) (list_any (is_rule rule) (of_family V6 left))
-        ∙ ap (λ (b : Bool). if b then None else flow_left rule taken) (any_families left)
+        ∙ by (list_any (is_rule rule) (of_family V4 left)) _
+        ∙ ap (λ (b : Bool). if b then None else flow_left rule taken) (any_families _)
         ∙ ap (λ (o : Option Given). if list_any (fits rule) left then None else o) held
       where
         by : (a b : Bool) → (if b then None else (if a then None else flow_left rule taken)) ≡ (if (a || b) then None else flow_left rule taken)
@@ -326,9 +324,9 @@ module _ (rule : Ruled) where
     -- the rule is a new one
     stays : (sent : Sent) → find (fits rule) new.rules ≡ Some sent → list_any (fits rule) left ≡ false
     stays sent f =
-        none_kept (fits rule) is_gone
+        none_kept _ _
         (λ other h. not_of_true (list_any (is_same other) new.rules) (sym (any_same rule other new.rules h) ∙ any_found (fits rule) new.rules
-        ∙ ap is_some f)) old.rules
+        ∙ ap is_some f)) _
 
     -- it isn't
     goes : find (fits rule) new.rules ≡ None → (if list_any (fits rule) left then None else given_by terms old rule) ≡ None

@@ -3,7 +3,7 @@ use Rattle.fs_peering.proofs.KeeperWords.{ℕ, ◌*◌, ◌-◌, min, most_wait,
 use Rattle.fs_peering.proofs.KeeperWords.{None, IfSome, refl, ap, sym, subst, ◌∙◌, if◌then◌else◌, is_some, Turn, dialled, shut, Grew, Grew-refl}
 use Rattle.fs_peering.proofs.KeeperWords.{Grew-trans, Config, Peer, CanSend, announcing, fresh, is_established, needs_of, sender_of, state_in}
 use Rattle.fs_peering.proofs.KeeperWords.{notice_text, terms_of, Fault, Sending, Connection, Kept, Outcome, accepts, begins_one, change_text}
-use Rattle.fs_peering.proofs.KeeperWords.{dialling, dials, exceeds, is_due, is_up, machine_of, news_told, outcome, parts, rests, speaks, tells}
+use Rattle.fs_peering.proofs.KeeperWords.{dialling, dials, exceeds, is_due, is_up, news_told, outcome, parts, rests, speaks, tells}
 use Rattle.fs_peering.proofs.KeeperWords.{tells_all, terms_at, with_connection, with_rules, IsConnection, IsLink, Keeping, LinkTellsBy, Linked}
 use Rattle.fs_peering.proofs.KeeperWords.{Stands, TellsAt, TellsBy, TellsSo, Took, TookSo, is_told, is_untold, let_go, terms_in, News}
 use Rattle.fs_peering.proofs.{Standing.{going, linked_none, linked_some, took_rests}, Following.{up_is}}
@@ -54,7 +54,7 @@ pub tells_idle : (time : ℕ) (told : Option Sending) (old : Keeping) (turns : O
 tells_idle time told old turns none = by old.link refl
   where
     by : (link : Option Linked) → old.link ≡ link → TellsSo time told None old old turns turns
-    by None e = tells_none time told old turns e
+    by None e = tells_none _ _ _ _ e
     by (Some linked) e =
         subst (λ (l : Option Linked). TellsAt l old.rules time told None old old turns turns) (sym e)
         (subst (λ (r : Option Sending). TellsAt (Some linked) r time told None old old turns turns) (sym none) (Grew-refl turns, (refl, refl)))
@@ -66,6 +66,9 @@ record StandsBut (kept : Kept) (keeping : Keeping) : Type 0 where
   since_is : keeping.since ≡ kept.since
   wait_is : keeping.wait ≡ kept.wait
   delay_is : keeping.delay ≡ kept.delay
+
+but_of : (kept : Kept) (old : Keeping) → Stands kept old → StandsBut kept old
+but_of kept old stands = assumption
 
 module _ (time : ℕ) (rules : Sending) (before : Option Sending) (connection : Connection) (linked : Linked) (kept : Kept) (mid new : Keeping)
     (told : Option Sending) (news : Option News)
@@ -79,21 +82,7 @@ module _ (time : ℕ) (rules : Sending) (before : Option Sending) (connection : 
 
   told_connection : (text : List ℕ)
       → IsConnection mid.config kept.rules (record connection { spoken = text; told = Some rules }) (record linked { told = true })
-  told_connection text = record {
-    line_is = is.line_is;
-    made_is = is.made_is;
-    since_is = is.since_is;
-    config_is = is.config_is;
-    peer_is = is.peer_is;
-    sender = is.sender;
-    asked_is = is.asked_is;
-    started_is = is.started_is;
-    appended_is = is.appended_is;
-    stands = is.stands;
-    alive = is.alive;
-    told_is = refl;
-    same = rules_are;
-  }
+  told_connection text = assumption
 
   tells_case : (exceeding : Bool) → exceeds (needs_of connection.asked.rules) (needs_of rules.rules) ≡ exceeding
       → TellsBy exceeding time told rules linked news mid new turns turns' → Took (tells mid.config time rules connection kept) news mid new turns turns'
@@ -110,14 +99,7 @@ module _ (time : ℕ) (rules : Sending) (before : Option Sending) (connection : 
       (record {
         asked = subst (λ line. Grew turns turns' (speaks line (notice_text 6 6) ++ shut line ∷ [])) is.line_is by.0;
         news_is = by.1.0;
-        stands = record {
-          rules_are = but.rules_are;
-          sendable = but.sendable;
-          since_is = refl;
-          wait_is = but.delay_is;
-          delay_is = ap (λ n. min most_wait (2 * n)) but.delay_is;
-          link = refl;
-        };
+        stands = assumption (ap (λ (n : ℕ). min most_wait (2 * n)) but.delay_is);
         config_is = refl;
       }))
   tells_case false e by =
@@ -150,7 +132,7 @@ module _ (time : ℕ) (rules : Sending) (before : Option Sending) (connection : 
               link = (
                 record linked { told = true },
                 refl,
-                told_connection (connection.spoken ++ change_text (terms_at mid.config connection) connection.told rules),
+                told_connection _,
               );
             });
         config_is = ap (λ (k : Keeping). k.config) by.1.1;
@@ -159,7 +141,7 @@ module _ (time : ℕ) (rules : Sending) (before : Option Sending) (connection : 
   took_tells : TellsBy (exceeds (needs_of linked.end.sending.rules) (needs_of rules.rules)) time told rules linked news mid new turns turns'
       → Took (tells mid.config time rules connection kept) news mid new turns turns'
   took_tells by =
-      tells_case (exceeds (needs_of connection.asked.rules) (needs_of rules.rules)) refl
+      tells_case _ refl
       (subst (λ (s : Sending). TellsBy (exceeds (needs_of s.rules) (needs_of rules.rules)) time told rules linked news mid new turns turns') is.asked_is by)
 
 -- Other rules are to be kept.
@@ -196,86 +178,50 @@ untold rules (Some told) off = absurd (let no : true ≡ false = off in cc)
 
 module _ (time : ℕ) (rules : Sending) (old : Keeping) (can : CanSend old.config (sender_of old.config.peers) rules) where
   but_so : (kept : Kept) → Stands kept old → StandsBut (with_rules rules kept) (with_new rules old)
-  but_so kept stands = record {
-    rules_are = refl;
-    sendable = can;
-    since_is = stands.since_is;
-    wait_is = stands.wait_is;
-    delay_is = stands.delay_is;
-  }
+  but_so kept stands = assumption
 
   rests_with : (turns : Option (List Turn)) (kept : Kept) → Stands kept old → IsLink old.config (Some rules) kept.connection old.link
       → accepts old.config time rules kept ≡ rests (with_rules rules kept) → Took (accepts old.config time rules kept) None old (with_new rules old) turns turns
   rests_with turns kept stands link e =
-      subst (λ (o : Outcome). Took o None old (with_new rules old) turns turns) (sym e)
-      (record {
-        asked = Grew-refl turns;
-        news_is = refl;
-        stands = record {
-          rules_are = refl;
-          sendable = can;
-          since_is = stands.since_is;
-          wait_is = stands.wait_is;
-          delay_is = stands.delay_is;
-          link = link;
-        };
-        config_is = refl;
-      })
+      subst (λ (o : Outcome). Took o None old (with_new rules old) turns turns) (sym e) (assumption (Grew-refl turns))
 
   pub accept_rests : (mid : Keeping) (turns : Option (List Turn)) → is_told old.link ≡ false → mid ≡ with_new rules old
       → TookSo (accepts old.config time rules) None old mid turns turns
   accept_rests mid turns off mid_is =
       λ kept stands. subst (λ (m : Keeping). Took (accepts old.config time rules kept) None old m turns turns) (sym mid_is)
-      (by kept stands old.link refl)
+      (by _ stands old.link refl)
     where
       by : (kept : Kept) → Stands kept old → (link : Option Linked) → old.link ≡ link
           → Took (accepts old.config time rules kept) None old (with_new rules old) turns turns
       by kept stands None e =
-          let none = linked_none kept old stands e in
-          rests_with turns kept stands (subst (λ (o : Option Connection). IsLink old.config (Some rules) o old.link) (sym none) e)
-          (accepts_none old.config time rules kept none)
+          let none = linked_none _ _ stands e in
+          rests_with _ _ stands (subst (λ (o : Option Connection). IsLink old.config (Some rules) o old.link) (sym none) e)
+          (accepts_none old.config _ _ kept none)
       by kept stands (Some linked) e =
-          let f = linked_some kept old linked stands e in
+          let f = linked_some _ _ _ stands e in
           let off_so : is_some f.connection.told ≡ false = sym f.is.told_is ∙ sym (ap is_told e) ∙ off in
-          rests_with turns kept stands
-          (subst (λ (o : Option Connection). IsLink old.config (Some rules) o old.link) (sym f.there) (
+          rests_with _ _ stands (subst (λ (o : Option Connection). IsLink old.config (Some rules) o old.link) (sym f.there) (
             linked,
             e,
-            record {
-              line_is = f.is.line_is;
-              made_is = f.is.made_is;
-              since_is = f.is.since_is;
-              config_is = f.is.config_is;
-              peer_is = f.is.peer_is;
-              sender = f.is.sender;
-              asked_is = f.is.asked_is;
-              started_is = f.is.started_is;
-              appended_is = f.is.appended_is;
-              stands = f.is.stands;
-              alive = f.is.alive;
-              told_is = f.is.told_is;
-              same = untold (Some rules) f.connection.told off_so;
-            },
-          ))
-          (accepts_some old.config time rules kept f.connection false f.there off_so)
+            assumption (f.is, untold (Some rules) f.connection.told off_so),
+          )) (accepts_some old.config _ _ kept _ _ f.there off_so)
 
   pub accept_tells : (news : Option News) (mid new : Keeping) (turns turns' : Option (List Turn)) → is_told old.link ≡ true → mid ≡ with_new rules old
       → TellsSo time old.rules news mid new turns turns' → TookSo (accepts old.config time rules) news old new turns turns'
   accept_tells news mid new turns turns' on mid_is so = λ kept stands.
-      by kept stands old.link refl (subst (λ (m : Keeping). TellsSo time old.rules news m new turns turns') mid_is so)
+      by _ stands _ refl (subst (λ (m : Keeping). TellsSo time old.rules news m new turns turns') mid_is so)
     where
       by : (kept : Kept) → Stands kept old → (link : Option Linked) → old.link ≡ link → TellsSo time old.rules news (with_new rules old) new turns turns'
           → Took (accepts old.config time rules kept) news old new turns turns'
       by kept stands None e so = absurd (let no : false ≡ true = sym (ap is_told e) ∙ on in cc)
       by kept stands (Some linked) e so =
-          let f = linked_some kept old linked stands e in
+          let f = linked_some _ _ _ stands e in
           let on_so : is_some f.connection.told ≡ true = sym f.is.told_is ∙ sym (ap is_told e) ∙ on in
-          let told : old.rules ≡ f.connection.told = stands.rules_are ∙ old_told kept.rules f.connection.told f.is.same on_so in
+          let told : old.rules ≡ f.connection.told = stands.rules_are ∙ old_told _ _ f.is.same on_so in
           let took =
-          took_tells time rules kept.rules f.connection linked (with_rules rules kept) (with_new rules old) new old.rules news turns turns' f.is
-          (but_so kept stands) refl told
+          took_tells _ _ _ _ _ _ _ _ _ _ _ _ f.is (but_so _ stands) refl told
           (subst (λ (l : Option Linked). TellsAt l (Some rules) time old.rules news (with_new rules old) new turns turns') e so) in
-          subst (λ (o : Outcome). Took o news old new turns turns') (sym (accepts_some old.config time rules kept f.connection true f.there on_so))
+          subst (λ (o : Outcome). Took o news old new turns turns') (sym (accepts_some old.config _ _ kept _ _ f.there on_so))
           (record { asked = took.asked; news_is = took.news_is; stands = took.stands; config_is = took.config_is })
 
 -- All rules are told.
@@ -304,7 +250,7 @@ module _ (time : ℕ) (old : Keeping) where
       → is_untold (Some linked) ≡ (is_up connection.point && not (is_some connection.told))
   untold_so kept connection linked is =
       ap (λ b. not b && is_established (state_in linked.end.line)) is.told_is
-      ∙ ap (λ b. not (is_some connection.told) && b) (up_is (machine_of old.config connection) linked.end.line connection.point is.stands is.alive)
+      ∙ ap (λ b. not (is_some connection.told) && b) (up_is _ _ _ is.stands is.alive)
       ∙ swapped (not (is_some connection.told)) (is_up connection.point)
 
   idle : (kept : Kept) (connection : Option Connection) → all_of kept connection None ≡ rests kept
@@ -317,16 +263,14 @@ module _ (time : ℕ) (old : Keeping) where
   rests_off kept connection (Some new) off = ap (λ (b : Bool). if b then tells old.config time new connection kept else rests kept) off
 
   pub all_rests : (turns : Option (List Turn)) → is_untold old.link ≡ false → TookSo (tells_all old.config time) None old old turns turns
-  all_rests turns off = λ kept stands. by kept stands old.link refl
+  all_rests turns off = λ kept stands. by kept stands _ refl
     where
       by : (kept : Kept) → Stands kept old → (link : Option Linked) → old.link ≡ link → Took (tells_all old.config time kept) None old old turns turns
-      by kept stands None e = took_rests (tells_all old.config time kept) kept old turns stands
-          (all_so kept None kept.rules (linked_none kept old stands e) refl)
+      by kept stands None e = took_rests _ _ _ _ stands (all_so _ _ _ (linked_none _ _ stands e) refl)
       by kept stands (Some linked) e =
-          let f = linked_some kept old linked stands e in
-          took_rests (tells_all old.config time kept) kept old turns stands
-          (all_so kept (Some f.connection) kept.rules f.there refl
-          ∙ rests_off kept f.connection kept.rules (sym (untold_so kept f.connection linked f.is) ∙ sym (ap is_untold e) ∙ off))
+          let f = linked_some _ _ _ stands e in
+          took_rests _ _ _ _ stands (all_so _ _ _ f.there refl
+          ∙ rests_off _ f.connection _ (sym (untold_so kept _ _ f.is) ∙ sym (ap is_untold e) ∙ off))
 
   up_untold : (up told : Bool) → (up && not told) ≡ true → told ≡ false
   up_untold true true e = absurd (let no : false ≡ true = e in cc)
@@ -339,7 +283,7 @@ module _ (time : ℕ) (old : Keeping) where
 
   pub all_tells : (news : Option News) (new : Keeping) (turns turns' : Option (List Turn)) → is_untold old.link ≡ true
       → TellsSo time None news old new turns turns' → TookSo (tells_all old.config time) news old new turns turns'
-  all_tells news new turns turns' on so = λ kept stands. by kept stands old.link refl old.rules refl
+  all_tells news new turns turns' on so = λ kept stands. by _ stands _ refl old.rules refl
     where
       by : (kept : Kept) → Stands kept old → (link : Option Linked) → old.link ≡ link → (rules : Option Sending) → old.rules ≡ rules
           → Took (tells_all old.config time kept) news old new turns turns'
@@ -349,26 +293,18 @@ module _ (time : ℕ) (old : Keeping) where
           (subst (λ (l : Option Linked). TellsAt l old.rules time None news old new turns turns') e so) in
           subst (λ (n : Keeping). Took (tells_all old.config time kept) news old n turns turns') (sym t.1.1)
           (subst (λ (o : Outcome). Took o news old old turns turns')
-          (sym (all_so kept kept.connection None refl (sym stands.rules_are ∙ r) ∙ idle kept kept.connection))
+          (sym (all_so _ _ _ refl (sym stands.rules_are ∙ r) ∙ idle _ _))
           (record { asked = t.0; news_is = t.1.0; stands = stands; config_is = refl }))
       by kept stands (Some linked) e (Some rules) r =
           let t = subst (λ (o : Option Sending). TellsAt (Some linked) o time None news old new turns turns') r
           (subst (λ (l : Option Linked). TellsAt l old.rules time None news old new turns turns') e so) in
-          let f = linked_some kept old linked stands e in
-          let up : (is_up f.connection.point && not (is_some f.connection.told)) ≡ true = sym (untold_so kept f.connection linked f.is)
+          let f = linked_some _ _ _ stands e in
+          let up : (is_up f.connection.point && not (is_some f.connection.told)) ≡ true = sym (untold_so kept _ _ f.is)
           ∙ sym (ap is_untold e) ∙ on in
           let rules_so : kept.rules ≡ Some rules = sym stands.rules_are ∙ r in
-          subst (λ (o : Outcome). Took o news old new turns turns')
-          (sym (all_so kept (Some f.connection) (Some rules) f.there rules_so
+          subst (λ (o : Outcome). Took o news old new turns turns') (sym (all_so _ _ _ f.there rules_so
           ∙ ap (λ (b : Bool). if b then tells old.config time rules f.connection kept else rests kept) up))
-          (took_tells time rules kept.rules f.connection linked kept old new None news turns turns' f.is
-          (record {
-            rules_are = stands.rules_are;
-            sendable = stands.sendable;
-            since_is = stands.since_is;
-            wait_is = stands.wait_is;
-            delay_is = stands.delay_is;
-          }) rules_so (none_of f.connection.told (up_untold (is_up f.connection.point) (is_some f.connection.told) up)) t)
+          (took_tells _ _ _ _ _ kept _ _ _ _ _ _ f.is (but_of kept old stands) rules_so (none_of _ (up_untold _ _ up)) t)
 
 -- A connection is dialled.
 module _ (line time : ℕ) (address : List ℕ) (old : Keeping) where
@@ -408,46 +344,28 @@ module _ (line time : ℕ) (address : List ℕ) (old : Keeping) where
       by (Some connection) is = refl
 
   pub dial_there : (turns : Option (List Turn)) → is_some old.link ≡ true → TookSo (dials old.config line time address) None old old turns turns
-  dial_there turns on = λ kept stands.
-      took_rests (dials old.config line time address kept) kept old turns stands
-      (there kept kept.connection kept.rules (sender_of old.config.peers) (is_due time kept) (linked_there kept stands on))
+  dial_there turns on = λ kept stands. took_rests _ _ _ _ stands (there _ _ _ _ _ (linked_there _ stands on))
 
   due_so : (kept : Kept) → Stands kept old → is_due time kept ≡ not (nat_lt (time - old.since) old.wait)
   due_so kept stands = ap (λ n. not (nat_lt (time - n) kept.wait)) (sym stands.since_is) ∙ ap (λ n. not (nat_lt (time - old.since) n)) (sym stands.wait_is)
 
   pub dial_early : (turns : Option (List Turn)) → nat_lt (time - old.since) old.wait ≡ true
       → TookSo (dials old.config line time address) None old old turns turns
-  dial_early turns on = λ kept stands.
-      took_rests (dials old.config line time address kept) kept old turns stands
-      (ap (dials_of kept kept.connection kept.rules (sender_of old.config.peers)) (due_so kept stands ∙ ap not on)
-      ∙ early kept kept.connection kept.rules (sender_of old.config.peers))
+  dial_early turns on = λ kept stands. took_rests _ _ _ _ stands
+      (ap (dials_of kept kept.connection kept.rules (sender_of old.config.peers)) (due_so _ stands ∙ ap not on)
+      ∙ early _ _ _ _)
 
   pub dial_idle : (turns : Option (List Turn)) → old.rules ≡ None → TookSo (dials old.config line time address) None old old turns turns
-  dial_idle turns none = λ kept stands.
-      took_rests (dials old.config line time address kept) kept old turns stands
+  dial_idle turns none = λ kept stands. took_rests _ _ _ _ stands
       (ap (λ (o : Option Sending). dials_of kept kept.connection o (sender_of old.config.peers) (is_due time kept)) (sym stands.rules_are ∙ none)
-      ∙ without kept kept.connection (sender_of old.config.peers) (is_due time kept))
+      ∙ without _ _ (sender_of old.config.peers) (is_due time kept))
 
   abbrev pub fresh_link : Peer → Sending → Linked
   fresh_link peer sending = record { line = line; made = false; since = time; end = announcing old.config peer sending fresh false 0; told = false }
 
   fresh_stands : (peer : Peer) (sending : Sending) (rules : Option Sending) → sender_of old.config.peers ≡ Some peer
       → IsConnection old.config rules (dialling line time peer sending) (fresh_link peer sending)
-  fresh_stands peer sending rules sender = record {
-    line_is = refl;
-    made_is = refl;
-    since_is = refl;
-    config_is = refl;
-    peer_is = refl;
-    sender = sender;
-    asked_is = refl;
-    started_is = refl;
-    appended_is = refl;
-    stands = record { closed_is = refl; open_is = λ alive. record { waiting_is = refl; phase_is = refl; times_is = refl; waits_is = refl } };
-    alive = refl;
-    told_is = refl;
-    same = tt;
-  }
+  fresh_stands peer sending rules sender = assumption tt
 
   pub dial_new : (peer : Peer) (sending : Sending) (new : Keeping) (turns turns1 : Option (List Turn)) → old.link ≡ None → old.rules ≡ Some sending
       → sender_of old.config.peers ≡ Some peer → nat_lt (time - old.since) old.wait ≡ false → Grew turns turns1 (dialled line address ∷ [])
@@ -455,11 +373,10 @@ module _ (line time : ℕ) (address : List ℕ) (old : Keeping) where
   dial_new peer sending new turns turns1 none rules_are sender off asked goes = λ kept stands.
       subst (λ (n : Keeping). Took (dials old.config line time address kept) None old n turns turns1) (sym goes)
       (subst (λ (o : Outcome). Took o None old (going false (fresh_link peer sending) old) turns turns1)
-      (sym (ap (λ (o : Option Connection). dials_of kept o kept.rules (sender_of old.config.peers) (is_due time kept)) (linked_none kept old stands none)
+      (sym (ap (λ (o : Option Connection). dials_of kept o kept.rules (sender_of old.config.peers) (is_due time kept)) (linked_none _ _ stands none)
       ∙ ap (λ (o : Option Sending). dials_of kept None o (sender_of old.config.peers) (is_due time kept)) (sym stands.rules_are ∙ rules_are)
       ∙ ap (λ (o : Option Peer). dials_of kept None (Some sending) o (is_due time kept)) sender
-      ∙ ap (dials_of kept None (Some sending) (Some peer)) (due_so kept stands ∙ ap not off)))
-      (record {
+      ∙ ap (dials_of kept None (Some sending) (Some peer)) (due_so _ stands ∙ ap not off))) (record {
         asked = asked;
         news_is = refl;
         stands = record {
@@ -468,7 +385,7 @@ module _ (line time : ℕ) (address : List ℕ) (old : Keeping) where
           since_is = stands.since_is;
           wait_is = stands.wait_is;
           delay_is = stands.delay_is;
-          link = (fresh_link peer sending, refl, fresh_stands peer sending kept.rules sender);
+          link = (fresh_link peer sending, refl, fresh_stands _ _ _ sender);
         };
         config_is = refl;
       }))

@@ -61,7 +61,7 @@ module _ (config : Config) (peer : Peer) where
       let opening : transition_by machine at_start (record { kind = 1; body = body }) ≡ Ok (met, None) =
       ap (λ (r : Result Open MessageFault). opened machine r)
       (open_read peer.asn config.hold_time sending.id asn.small own.hold_time.small id.small asn.some own.hold_time.not_one own.hold_time.not_two id.some)
-      ∙ ap (λ (n : ℕ). Ok (phase WaitKeep true n, None)) (least config.hold_time) in
+      ∙ ap (λ (n : ℕ). Ok (phase WaitKeep true n, None)) (least _) in
       record { goes = λ more. one_message machine at_start met None 1 body more (omega arith) (omega arith) fits.0 fits.1 opening }
 
   -- a KEEPALIVE
@@ -75,15 +75,13 @@ module _ (config : Config) (peer : Peer) where
   leads_update : (body : List ℕ) (update : Update) → IsRead (terms_of config peer true) body update
       → Leads (receiver config peer) up (message_text 2 body) (update ∷ []) up
   leads_update body update is = record {
-    goes = λ more.
-        one_message machine up up (Some update) 2 body more (omega arith) (omega arith) (update_fits (length body) is.long) is.short
-        (ap (λ (r : Result Update UpdateFault). updates up (as_update r)) is.read);
+    goes = λ more. one_message machine up up (Some update) 2 body more (omega arith) (omega arith)
+        (update_fits (length body) is.long) is.short (ap (λ (r : Result Update UpdateFault). updates up (as_update r)) is.read);
   }
 
   pub leads_each : {A : Type 0} (body : A → List ℕ) (update : A → Update) (xs : List A)
       → AllByRecursion (λ x. IsRead (terms_of config peer true) (body x) (update x)) xs
       → Leads (receiver config peer) up (flat_map (λ (x : A). message_text 2 (body x)) xs) (map update xs) up
-  leads_each body update [] all = leads_none (receiver config peer) up
+  leads_each body update [] all = leads_none _ _
   leads_each {A} body update (x ∷ xs) all =
-      leads_then (receiver config peer) up up up (message_text 2 (body x)) (flat_map (λ (y : A). message_text 2 (body y)) xs) (update x ∷ []) (map update xs)
-      (leads_update (body x) (update x) all.0) (leads_each body update xs all.1)
+      leads_then _ _ _ _ _ _ _ _ (leads_update (body x) (update x) all.0) (leads_each body update xs all.1)

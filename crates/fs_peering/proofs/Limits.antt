@@ -57,7 +57,6 @@ module _ (config : Config) (peer : Peer) (sending : Sending) where
   pub within : (most : Option ℕ) (rules : List Sent) → MayHold most (length rules) → first_over most (updates rules) ≡ None
   within None rules may = none_found (update_sent config peer sending) (λ front. is_over None (routes_left front)) rules (λ some few. refl)
   within (Some most) rules may =
-      none_found (update_sent config peer sending) (λ front. is_over (Some most) (routes_left front)) rules
-      (λ some few.
+      none_found (update_sent config peer sending) (λ front. is_over (Some most) (routes_left front)) rules (λ some few.
       let left = few_left some in
       not_over most (routes_left (updates some)) (omega (arith, left, few, may)))

@@ -97,10 +97,10 @@ module _ (old : Linked) (end : Announcing) (time : ℕ) (out out1 : List ℕ) (s
     woken_shut why news e n now stands alive =
         let t = ticks_so now stands in
         let shut : (ticked time now).point.closed ≡ Some why = sym t.0.closed_is ∙ e in
-        by_clock now news out1 (Some why) (is_late time old.since now) shut refl (record {
+        by_clock now _ _ _ _ shut refl (record {
           text = t.1;
           news_is = n;
-          stays = λ h. absurd (some_not why h);
+          stays = λ h. absurd (some_not _ h);
           other = λ h. never time now alive (shut ∙ h);
           same = same_link;
         })
@@ -118,10 +118,10 @@ module _ (old : Linked) (end : Announcing) (time : ℕ) (out out1 : List ℕ) (s
         → LinkSays (woken time old.since) news old (with_end old end) out out2
     woken_late news out2 e l parts now stands alive =
         let t = ticks_so now stands in
-        by_clock now news out2 None true (sym t.0.closed_is ∙ e) (late_is now t.0 e ∙ l) (record {
+        by_clock now _ _ _ _ (sym t.0.closed_is ∙ e) (late_is now t.0 e ∙ l) (record {
           text = parts.1 ∙ ap (λ (z : List ℕ). z ++ notice_text 4 0) t.1 ∙ append_assoc out (ticked time now).text (notice_text 4 0);
           news_is = parts.0;
-          stays = λ h. absurd (some_not (Fault 4 0) h);
+          stays = λ h. absurd (some_not _ h);
           other = λ h. late_not h;
           same = same_link;
         })
@@ -130,7 +130,7 @@ module _ (old : Linked) (end : Announcing) (time : ℕ) (out out1 : List ℕ) (s
     woken_on e l now stands alive =
         let t = ticks_so now stands in
         let opened : (ticked time now).point.closed ≡ None = sym t.0.closed_is ∙ e in
-        by_clock now None out1 None false opened (late_is now t.0 e ∙ l) (record {
+        by_clock now _ _ _ _ opened (late_is now t.0 e ∙ l) (record {
           text = t.1;
           news_is = refl;
           stays = λ h. (t.0, opened);
@@ -150,11 +150,11 @@ module _ (old : Linked) (end : Announcing) (time : ℕ) (out out1 : List ℕ) (s
         → LinkSays (received (machine_in old.end) time piece) news old (with_end old end) out out2
     received_shut why news out2 e other parts now stands alive =
         let t = says now stands in
-        by_octets now news out2 (Some why) (sym (t.1 refl).closed_is ∙ e) (record {
+        by_octets _ _ _ _ (sym (t.1 refl).closed_is ∙ e) (record {
           text = parts.1 ∙ ap (λ (z : List ℕ). z ++ parting why) t.0 ∙ append_assoc out (hand (machine_in old.end) time now piece).text (parting why);
           news_is = parts.0;
-          stays = λ h. absurd (some_not why h);
-          other = λ h. other (same_why why h);
+          stays = λ h. absurd (some_not _ h);
+          other = λ h. other (same_why _ h);
           same = same_link;
         })
 
@@ -162,7 +162,7 @@ module _ (old : Linked) (end : Announcing) (time : ℕ) (out out1 : List ℕ) (s
     received_on e now stands alive =
         let t = says now stands in
         let opened : (hand (machine_in old.end) time now piece).point.closed ≡ None = sym (t.1 refl).closed_is ∙ e in
-        by_octets now None out1 None opened (record {
+        by_octets _ _ _ _ opened (record {
           text = t.0;
           news_is = refl;
           stays = λ h. (t.1 refl, opened);
@@ -178,19 +178,19 @@ Owned old new = (new.config ≡ old.config) × (new.peer ≡ old.peer)
 pub starts_own : (old new : Announcing) (out out' : List ℕ) (result : Result (Unit {0}) Closed) → StaysEnded old new result out out'
     → StartsOpen old new out out' result
     → (new.config ≡ old.config) × (new.peer ≡ old.peer)
-starts_own old new out out' result stays starts = by old.line.closed refl
+starts_own old new out out' result stays starts = by _ refl
   where
     at : (b : Bool) → StartsWith b old new out out' → Owned old new
     at true s = subst (Owned old) (sym s.0) (refl, refl)
     at false s = subst (Owned old) (sym s.0) (refl, refl)
 
     on : (r : Result (Unit {0}) Closed) → Starts old new out out' r → Owned old new
-    on (Ok u) s = at old.started s
+    on (Ok u) s = at _ s
     on (Err why) s = subst (Owned old) (sym s.1.1) (refl, refl)
 
     by : (c : Option Closed) → old.line.closed ≡ c → Owned old new
-    by None e = on result (starts e)
-    by (Some why) e = subst (Owned old) (sym (stayed old new out out' result stays why e).1) (refl, refl)
+    by None e = on _ (starts e)
+    by (Some why) e = subst (Owned old) (sym (stayed _ _ _ _ _ stays _ e).1) (refl, refl)
 
 -- it is made, and its OPEN is said
 pub begun_link : (inside old : Linked) → inside ≡ old → (end : Announcing) (time : ℕ) (out out' : List ℕ)
@@ -201,7 +201,6 @@ pub begun_link : (inside old : Linked) → inside ≡ old → (end : Announcing)
 begun_link inside old view end time out out' starts =
     subst (λ (l : Linked). l.end.started ≡ false
     → (record inside { made = true; since = time; end = end } ≡ record l { made = true; since = time; end = has_started l.end })
-    × (out' ≡ out ++ open_sent l.end.config l.end.peer l.end.sending)) view
-    (λ off.
+    × (out' ≡ out ++ open_sent l.end.config l.end.peer l.end.sending)) view (λ off.
     let s : StartsWith false inside.end end out out' = subst (λ (b : Bool). StartsWith b inside.end end out out') off starts in
     (ap (λ (n : Announcing). record inside { made = true; since = time; end = n }) s.0, s.1))

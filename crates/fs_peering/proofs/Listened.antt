@@ -19,12 +19,12 @@ module _ (desk : Desked) (peer : ℕ) (whose : Peer) (heard : Pieces) (said : Li
   stands_so : standing_at (bounded_session desk.config peer (octets_in heard)).1 ≡ Live h.session.phase.state
   stands_so =
       sym (ap (λ (o : Option (List ℕ)). elim o [ None ↦ Down | Some octets ↦ standing_at (bounded_session desk.config peer octets).1 ])
-      (life_tape peer (octets_in heard)))
+      (life_tape _ _))
       ∙ sym (desk_stands desk.config (tape_of peer (octets_in heard)) desk peer h.played)
-      ∙ stands_open desk peer h.session h.session_is h.alive
+      ∙ stands_open desk peer _ h.session_is h.alive
 
   found_phase : (found : Phase) × (((bounded_session desk.config peer (octets_in heard)).1 ≡ still found) × (found.state ≡ h.session.phase.state))
-  found_phase = still_there (bounded_session desk.config peer (octets_in heard)).1 h.session.phase stands_so
+  found_phase = still_there _ h.session.phase stands_so
 
   pub receiving : IsReceiving desk peer whose heard said
   receiving = record {
@@ -39,28 +39,28 @@ module _ (desk : Desked) (peer : ℕ) (whose : Peer) (heard : Pieces) (said : Li
   pub settled_so : (b : Bool) → is_settled (standing_at_desk desk peer) ≡ b → is_established receiving.phase.state ≡ b
   unfolding receiving found_phase
   settled_so b e =
-      ap is_established found_phase.1.1 ∙ sym (ap is_settled (stands_open desk peer h.session h.session_is h.alive)) ∙ e
+      ap is_established found_phase.1.1 ∙ sym (ap is_settled (stands_open desk peer _ h.session_is h.alive)) ∙ e
 
 module _ (desk : Desked) (peer count limit : ℕ) (heard : Pieces) (said left : List ℕ) (r : Receives desk peer count heard said) where
   pub ends_so : (b : Bool) → is_settled (standing_at_desk desk peer) ≡ b → is_ended (standing_at_desk desk peer) ≡ false → count < limit → left ≡ []
       → EndsSo b desk peer r.whose limit heard said left
   ends_so b e alive within none =
-      let h : IsHearing desk peer r.whose heard said = hearing_of desk peer r.whose heard said alive r.stands in
+      let h : IsHearing desk peer r.whose heard said = hearing_of _ _ _ _ _ alive r.stands in
       record {
-        receives = receiving desk peer r.whose heard said h;
-        settled = settled_so desk peer r.whose heard said h b e;
+        receives = receiving _ _ _ _ _ h;
+        settled = settled_so _ _ _ _ _ h _ e;
         within = subst (λ (n : ℕ). n < limit) r.counted within;
         none = none;
       }
 
   pub meets_so : is_ended (standing_at_desk desk peer) ≡ false → limit ≤ count → MeetsLimit desk peer r.whose limit heard said
   meets_so alive met = record {
-    receives = receiving desk peer r.whose heard said (hearing_of desk peer r.whose heard said alive r.stands);
+    receives = receiving _ _ _ _ _ (hearing_of _ _ _ _ _ alive r.stands);
     met = subst (λ (n : ℕ). limit ≤ n) r.counted met;
   }
 
   pub closes_so : (why : Closed) → standing_at_desk desk peer ≡ Ended why → HasClosed desk.config peer r.whose heard said why
-  closes_so why e = closed_of desk peer r.whose heard said why e r.stands
+  closes_so why e = closed_of _ _ _ _ _ _ e r.stands
 
 -- the clause, from how the end stands
 module _ (first last : Desked) (peer peer' first_count count limit : ℕ) (same : peer' ≡ peer) (own : bare last ≡ bare first)
@@ -81,8 +81,7 @@ module _ (first last : Desked) (peer peer' first_count count limit : ℕ) (same 
   listens_so ending heard over hears ends = record {
     given = hears.given;
     grew = hears.grew;
-    told = told_as (HeardOut heard s0 s1 over first_count count 0 limit hears.given) (Listens ending first.config last peer limit hears.given) one t0
-        t1 hears.told;
+    told = told_as _ _ one _ _ hears.told;
   }
     where
       one : (a b : WireEnds) → HeardOut heard s0 s1 over first_count count 0 limit hears.given a b → Listens ending first.config last peer limit hears.given a b
@@ -105,24 +104,23 @@ module _ (first last : Desked) (peer peer' first_count count limit : ℕ) (same 
   pub listens_as : (heard : Stopped) (ending : Ending) (over : Bool) → HearsOut heard s0 s1 over first_count count 0 limit t0 t1 answers answers'
       → over ≡ is_ended (standing_at_desk last peer)
       → EndsHearing heard (standing_at_desk last peer) ending → ListensOver ending first.config last peer limit t0 t1 answers answers'
-  listens_as heard ending over hears o is = listens_so ending heard over hears (λ pieces said left r stops. by heard is pieces said left r stops)
+  listens_as heard ending over hears o is = listens_so _ _ _ hears (λ pieces said left r stops. by heard is pieces said left r stops)
     where
       all : (pieces : Pieces) (said left : List ℕ) (r : Receives last peer count pieces said) → StopsSo All over count limit left → (b : Bool)
           → is_settled (standing_at_desk last peer) ≡ b
           → ListensSo (if b then Done else EndedEarly) last peer r.whose limit pieces said left
-      all pieces said left r e true s = ends_so last peer count limit pieces said left r true s (sym o ∙ e.0) e.1.0 e.1.1
-      all pieces said left r e false s = ends_so last peer count limit pieces said left r false s (sym o ∙ e.0) e.1.0 e.1.1
+      all pieces said left r e true s = ends_so _ _ _ _ _ _ _ r _ s (sym o ∙ e.0) e.1.0 e.1.1
+      all pieces said left r e false s = ends_so _ _ _ _ _ _ _ r _ s (sym o ∙ e.0) e.1.0 e.1.1
 
       by : (heard : Stopped) → EndsHearing heard (standing_at_desk last peer) ending
           → (pieces : Pieces) (said left : List ℕ) (r : Receives last peer count pieces said)
           → StopsSo heard over count limit left → ListensSo ending last peer r.whose limit pieces said left
       by Over is pieces said left r e =
-          let found = ended_there (standing_at_desk last peer) (sym o ∙ e) in
+          let found = ended_there _ (sym o ∙ e) in
           subst (λ (x : Ending). ListensSo x last peer r.whose limit pieces said left) (sym (is found.0 found.1))
-          (closes_so last peer count limit pieces said left r found.0 found.1)
+          (closes_so _ _ _ limit _ _ left r _ found.1)
       by MetIt is pieces said left r e =
           subst (λ (x : Ending). ListensSo x last peer r.whose limit pieces said left) (sym is)
-          (meets_so last peer count limit pieces said left r (sym o ∙ e.0) e.1)
+          (meets_so _ _ _ _ _ _ left r (sym o ∙ e.0) e.1)
       by All is pieces said left r e =
-          subst (λ (x : Ending). ListensSo x last peer r.whose limit pieces said left) (sym is)
-          (all pieces said left r e (is_settled (standing_at_desk last peer)) refl)
+          subst (λ (x : Ending). ListensSo x last peer r.whose limit pieces said left) (sym is) (all _ _ _ r e _ refl)

@@ -1,7 +1,7 @@
 -- The moments of an end, one more at a time, and when its hold time expires.
 use Rattle.fs_peering.proofs.Words.{Expires, Keeps, Quiet, Times, tick_at, Closed, Established, Handed, Machine, Message, MessageFault, Phase, Point}
-use Rattle.fs_peering.proofs.Words.{State, Update, WaitKeep, WaitOpen, at_moment, at_start, faulted, first_message, handed, parts_of, point, runs}
-use Rattle.fs_peering.proofs.Words.{runs_by, shuts, taken_in, transition_by, wrong_at, ◌≡◌, ◌<◌, ◌≤◌, ℕ, ◌-◌, max, List, [], ◌∷◌, ◌++◌, length, ap}
+use Rattle.fs_peering.proofs.Words.{State, Update, WaitKeep, WaitOpen, at_moment, at_start, handed, point, runs}
+use Rattle.fs_peering.proofs.Words.{runs_by, shuts, taken_in, transition_by, ◌≡◌, ◌<◌, ◌≤◌, ℕ, ◌-◌, max, List, [], ◌∷◌, ◌++◌, length, ap}
 use Rattle.fs_peering.proofs.Words.{sym, ◌∙◌, arith, append_assoc, append-nil, ◌≢◌, ◌==◌, ◌*◌, suc, zero, Bool, true, false, if◌then◌else◌, nat_le}
 use Rattle.fs_peering.proofs.Words.{refl, subst, ◌⊎◌, inl, inr, ◌+◌, Option, Some, None, Result, Ok, Err, length-append, IsTakenAt, Spans, most}
 use Rattle.fs_peering.proofs.Words.{AreTimely, nat_tests, none-some, ran, runs_none, runs_step, Pieces, moments_in, after, hears, course, course_from}
@@ -13,7 +13,7 @@ most_append [] ys = omega arith
 most_append (x ∷ xs) ys = let h : most (xs ++ ys) ≡ max (most xs) (most ys) = most_append xs ys in omega (arith, h)
 
 pub most_more : (xs : List ℕ) (m : ℕ) → most (xs ++ m ∷ []) ≡ max (most xs) m
-most_more xs m = let h : most (xs ++ m ∷ []) ≡ max (most xs) (max m 0) = most_append xs (m ∷ []) in omega (arith, h)
+most_more xs m = let h : most (xs ++ m ∷ []) ≡ max (most xs) (max m 0) = most_append _ _ in omega (arith, h)
 
 pub taken_later : (moments : List ℕ) (taken m : ℕ) → IsTakenAt moments taken → IsTakenAt (moments ++ m ∷ []) taken
 taken_later moments taken m t = record {
@@ -37,7 +37,7 @@ spans_now moments greatest taken least e t some far = record {
   split = t.split;
   some = t.some;
   apart =
-      let all : most moments ≡ max (most t.earlier) (most t.later) = ap most t.split ∙ most_append t.earlier t.later in
+      let all : most moments ≡ max (most t.earlier) (most t.later) = ap most t.split ∙ most_append _ _ in
       omega (arith, all, e, t.taken_is, some, far);
 }
 
@@ -89,17 +89,17 @@ runs_later : (machine : Machine) (messages : List Message) (now : Phase) (times 
 runs_later machine [] now times waiting None =
     subst (LaterOpen now times) (sym (runs_none machine now times waiting None)) (λ e. inl (refl, refl))
 runs_later machine [] now times waiting (Some fault) =
-    subst (LaterOpen now times) (sym (runs_none machine now times waiting (Some fault))) (shut_later machine now now times (faulted fault))
+    subst (LaterOpen now times) (sym (runs_none machine now times waiting (Some fault))) (shut_later machine _ _ _ _)
 runs_later machine (message ∷ messages) now times waiting wrong =
     subst (LaterOpen now times) (sym (runs_step machine now times message messages waiting wrong))
-    (by (λ next. runs_later machine messages next (taken_in now.state times) waiting wrong) (transition_by machine now message))
+    (by (λ next. runs_later _ _ _ _ _ _) (transition_by machine now message))
   where
     by : ((next : Phase) → LaterOpen next (taken_in now.state times) (runs machine next (taken_in now.state times) messages waiting wrong)) → (made : Made)
         → LaterOpen now times (ran machine now times made (λ next. runs machine next (taken_in now.state times) messages waiting wrong))
     by rest (Ok next) e = at (rest next.0 e)
       where
         took : ((taken_in now.state times).taken ≡ times.greatest) × ((taken_in now.state times).greatest ≡ times.greatest)
-        took = took_now now.state times
+        took = took_now now.state _
 
         later : Point
         later = (runs machine next.0 (taken_in now.state times) messages waiting wrong).point
@@ -107,7 +107,7 @@ runs_later machine (message ∷ messages) now times waiting wrong =
         at : Later next.0 (taken_in now.state times) later → Later now times later
         at (inl k) = inr (ap (λ (t : Times). t.taken) k.1 ∙ took.0, ap (λ (t : Times). t.greatest) k.1 ∙ took.1)
         at (inr k) = inr (k.0 ∙ took.1, k.1 ∙ took.1)
-    by rest (Err why) e = shut_later machine now now times why e
+    by rest (Err why) e = shut_later machine _ _ _ _ e
 
 abbrev Timely : List ℕ → Handed → Type 0
 Timely moments made = made.point.closed ≡ None → AreTimely moments made.point.phase.hold made.point.times
@@ -115,9 +115,7 @@ Timely moments made = made.point.closed ≡ None → AreTimely moments made.poin
 timely_more : (machine : Machine) (moments : List ℕ) (now : Handed) (event : ℕ × List ℕ) → Timely moments now
     → Timely (moments ++ event.0 ∷ []) (after now (hears machine event now.point))
 timely_more machine moments now event t end =
-    subst (λ (p : Point). AreTimely all p.phase.hold p.times) (sym k.point_is)
-    (at (runs_later machine (parts_of first_message octets).0 now.point.phase k.times (parts_of first_message octets).1
-    (wrong_at (parts_of first_message octets).1)
+    subst (λ (p : Point). AreTimely all p.phase.hold p.times) (sym k.point_is) (at (runs_later _ _ _ _ _ _
     (sym (ap (λ (p : Point). p.closed) k.point_is) ∙ end)))
   where
     all : List ℕ
@@ -127,7 +125,7 @@ timely_more machine moments now event t end =
     octets = now.point.waiting ++ event.1
 
     live : (now.point.closed ≡ None) × Steps machine event now.point
-    live = lived machine event now.point end
+    live = lived _ _ _ end
 
     k : Steps machine event now.point
     k = live.1
@@ -136,7 +134,7 @@ timely_more machine moments now event t end =
     before = t live.0
 
     all_greatest : k.times.greatest ≡ most all
-    all_greatest = k.greatest ∙ ap (λ (n : ℕ). max n event.0) before.greatest_is ∙ sym (most_more moments event.0)
+    all_greatest = k.greatest ∙ ap (λ (n : ℕ). max n event.0) before.greatest_is ∙ sym (most_more _ _)
 
     some_moment : 0 < length all
     some_moment = let e : length all ≡ length moments + 1 = length-append moments (event.0 ∷ []) in omega (arith, e)
@@ -145,13 +143,12 @@ timely_more machine moments now event t end =
         → AreTimely all (runs_by machine now.point.phase k.times octets).point.phase.hold (runs_by machine now.point.phase k.times octets).point.times
     at (inl l) = record {
       greatest_is = ap (λ (x : Times). x.greatest) l.1 ∙ all_greatest;
-      taken_is = λ timed.
-          subst (IsTakenAt all) (sym (ap (λ (x : Times). x.taken) l.1 ∙ k.taken))
-          (taken_later moments now.point.times.taken event.0 (before.taken_is (λ z. timed (ap (λ (p : Phase). p.hold) l.0 ∙ z))));
+      taken_is = λ timed. subst (IsTakenAt all) (sym (ap (λ (x : Times). x.taken) l.1 ∙ k.taken))
+          (taken_later _ _ _ (before.taken_is (λ z. timed (ap (λ (p : Phase). p.hold) l.0 ∙ z))));
     }
     at (inr l) = record {
       greatest_is = l.1 ∙ all_greatest;
-      taken_is = λ timed. taken_now all (runs_by machine now.point.phase k.times octets).point.times.taken some_moment (l.0 ∙ all_greatest);
+      taken_is = λ timed. taken_now _ _ some_moment (l.0 ∙ all_greatest);
     }
 
 timely_on : (machine : Machine) (moments : List ℕ) (now : Handed) → Timely moments now → (heard : Pieces)
@@ -172,11 +169,9 @@ pub expires_late : (machine : Machine) (heard : Pieces) (moment : ℕ) → (cour
     → ((course machine heard).point.phase.hold ≢ 0) × Spans (1000 * (course machine heard).point.phase.hold) (moments_in heard ++ moment ∷ [])
 expires_late machine heard moment alive due =
     let here : Point = (course machine heard).point in
-    let timely : AreTimely (moments_in heard) here.phase.hold here.times = timely_course machine heard alive in
-    let timed : here.phase.hold ≢ 0 = expires_timed here.phase.hold (at_moment moment here.times) due in (
+    let timely : AreTimely (moments_in heard) here.phase.hold here.times = timely_course _ _ alive in
+    let timed : here.phase.hold ≢ 0 = expires_timed _ _ due in (
       timed,
-      spans_now (moments_in heard ++ moment ∷ []) (at_moment moment here.times).greatest here.times.taken (1000 * here.phase.hold)
-          (ap (λ (n : ℕ). max n moment) timely.greatest_is ∙ sym (most_more (moments_in heard) moment))
-          (taken_later (moments_in heard) here.times.taken moment (timely.taken_is timed))
-          (positive here.phase.hold timed) (expires_far here.phase.hold (at_moment moment here.times) due),
+      spans_now _ _ _ _ (ap (λ (n : ℕ). max n moment) timely.greatest_is ∙ sym (most_more _ _))
+          (taken_later _ _ _ (timely.taken_is timed)) (positive _ timed) (expires_far _ _ due),
     )

@@ -1,7 +1,7 @@
 -- One step and all octets up to the message that establishes.
 use Rattle.std.proofs.Common.{option_map}
 use Rattle.fs_peering.proofs.Words.{Closed, Last, Machine, Message, MessageFault, Phase, Shrinks, Update, closed, first_message, is_established}
-use Rattle.fs_peering.proofs.Words.{parts_of, rest_closes, step_by, still, stops, takes, transition_by, waits, wrong_at, ◌≡◌, ◌<◌, ℕ, List, [], ◌∷◌}
+use Rattle.fs_peering.proofs.Words.{rest_closes, step_by, still, stops, takes, transition_by, waits, wrong_at, ◌≡◌, ◌<◌, ℕ, List, [], ◌∷◌}
 use Rattle.fs_peering.proofs.Words.{◌++◌, length, if◌then◌else◌, Option, Some, None, Ok, Err, refl, ap, sym, ◌∙◌, subst, inl, inr, message_shrinks}
 use Rattle.fs_peering.proofs.Words.{message_stable, fault_stays, Shows, told, wrong_first, Transition, front_message, opened_by, opens}
 use Rattle.fs_base.proofs.Parts.{parts_end, parts_step}
@@ -51,14 +51,14 @@ pub opened_first : (machine : Machine) (now : Phase) (octets : List ℕ) (found 
     → opened_by machine now octets ≡ going (transition_by machine now found.0) found.1 (λ next. opened_by machine next found.1)
 opened_first machine now octets found h =
     ap (λ (parts : List (Message × List ℕ) × List ℕ). opens machine now parts.0 (wrong_at parts.1))
-    (parts_step front_message front_shrinks octets (found, found.1) (front_some octets found h))
-    ∙ opens_step machine now found (parts_of front_message found.1).0 (wrong_at (parts_of front_message found.1).1)
+    (parts_step front_message front_shrinks octets (found, found.1) (front_some octets _ h))
+    ∙ opens_step _ _ _ _ _
 
 pub opened_rest : (machine : Machine) (now : Phase) (octets : List ℕ) → first_message octets ≡ None
     → opened_by machine now octets ≡ (rest_closes now (wrong_at octets), [])
 opened_rest machine now octets h =
     ap (λ (parts : List (Message × List ℕ) × List ℕ). opens machine now parts.0 (wrong_at parts.1)) (parts_end front_message octets (front_none octets h))
-    ∙ opens_none machine now (wrong_at octets)
+    ∙ opens_none _ _ _
 
 -- a message is taken at the front, whatever follows
 pub opened_takes : (machine : Machine) (now next : Phase) (update : Option Update) (octets behind more : List ℕ)
@@ -66,7 +66,7 @@ pub opened_takes : (machine : Machine) (now next : Phase) (update : Option Updat
     → opened_by machine now (octets ++ more) ≡ (if is_established next.state then (still next, behind ++ more) else opened_by machine next (behind ++ more))
 opened_takes machine now next update octets behind more h =
     let shows : Shows machine now octets (takes next update behind) = subst (Shows machine now octets) h (told machine now octets) in
-    opened_first machine now (octets ++ more) (shows.0, behind ++ more) (message_stable octets more (shows.0, behind) shows.1)
+    opened_first _ _ _ _ (message_stable octets more (shows.0, behind) shows.1)
     ∙ ap (λ (t : Transition). going t (behind ++ more) (λ n. opened_by machine n (behind ++ more))) shows.2
 
 -- the octets close the session, whatever follows
@@ -75,11 +75,11 @@ pub opened_stops : (machine : Machine) (now : Phase) (why : Closed) (octets more
 opened_stops machine now why octets more h = elim (subst (Shows machine now octets) h (told machine now octets)) [
   | inl w ↦
       let stays = fault_stays octets more w.0 w.1 in
-      opened_rest machine now (octets ++ more) (wrong_first (octets ++ more) w.0 stays)
+      opened_rest _ _ _ (wrong_first (octets ++ more) w.0 stays)
       ∙ ap (λ (o : Option MessageFault). (rest_closes now o, [])) stays
       ∙ ap (λ (c : Closed). (closed c, [])) (sym w.2)
   | inr f ↦
-      opened_first machine now (octets ++ more) (f.0.0, f.0.1 ++ more) (message_stable octets more f.0 f.1)
+      opened_first _ _ _ _ (message_stable octets more f.0 f.1)
       ∙ ap (λ (t : Transition). going t (f.0.1 ++ more) (λ n. opened_by machine n (f.0.1 ++ more))) f.2
 ]
 
@@ -87,4 +87,4 @@ opened_stops machine now why octets more h = elim (subst (Shows machine now octe
 pub opened_waits : (machine : Machine) (now : Phase) (octets : List ℕ) → step_by machine now octets ≡ waits → opened_by machine now octets ≡ (still now, [])
 opened_waits machine now octets h =
     let shows : Shows machine now octets waits = subst (Shows machine now octets) h (told machine now octets) in
-    opened_rest machine now octets shows.0 ∙ ap (λ (o : Option MessageFault). (rest_closes now o, [])) shows.1
+    opened_rest _ _ _ shows.0 ∙ ap (λ (o : Option MessageFault). (rest_closes now o, [])) shows.1

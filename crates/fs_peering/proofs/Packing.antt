@@ -24,7 +24,7 @@ attribute_most kind value = at (nat_lt 255 (length value))
     at false = omega arith
 
 attribute_least : (kind : ℕ) (value : List ℕ) → 3 + length value ≤ length (attribute_text (attribute kind value))
-attribute_least kind value = at (nat_lt 255 (length value))
+attribute_least kind value = at _
   where
     at : (wide : Bool) → 3 + length value ≤ length (if wide then bit_or (flags_of kind) 16 ∷ kind ∷ long_text value
         else flags_of kind ∷ kind ∷ length value ∷ value)
@@ -48,7 +48,7 @@ withdrawn family rules = attribute_text (attribute 15 (unreach_text (Flow family
 withdrawal_size : (terms : Terms) (family : Family) (rules : List Ruled)
     → length (update_text terms (withdrawal family rules)) ≡ 4 + length (withdrawn family rules)
 withdrawal_size terms family rules =
-    body_size (withdrawn family rules ++ []) ∙ ap (λ (n : ℕ). 4 + n) (omega (arith, length-append (withdrawn family rules) []))
+    body_size _ ∙ ap (λ (n : ℕ). 4 + n) (omega (arith, length-append (withdrawn family rules) []))
 
 pub withdrawal_short : (terms : Terms) (family : Family) (rules : List Ruled) → length (rules_text rules) ≤ 4066
     → 19 + length (update_text terms (withdrawal family rules)) ≤ 4096
@@ -67,7 +67,7 @@ beside terms path sent = flat_map attribute_text (path_in terms (update_by terms
 
 body_is : (terms : Terms) (path : List ℕ) (sent : Sent) → length (body_by terms path sent) ≡ 4 + length (announced terms sent ++ beside terms path sent)
 unfolding body_by
-body_is terms path sent = body_size (announced terms sent ++ beside terms path sent)
+body_is terms path sent = body_size _
 
 reach_size : (terms : Terms) (sent : Sent) → length (reach_text terms.address (Flow sent.rule.family (sent.rule ∷ []))) ≡ 5 + length (canonical_frame sent.rule)
 reach_size terms sent =
@@ -176,9 +176,9 @@ module _ (family : Family) where
       let shorter : length (drop k rules) ≤ n = omega (arith, l, length-drop k rules) in
       let later = packs_within n (drop k rules) shorter (each_dropped (IsOf family) k rules o.1) (each_dropped HasRoom k rules f.1) in
       let pack : IsPack family (rule ∷ take k rules) = record {
-        some = some_there (length (take k rules));
+        some = some_there _;
         of_one = are_of family (rule ∷ take k rules) (o.0, each_taken (IsOf family) k rules o.1);
-        each = (f.0.0, rules_only (take k rules) (each_taken HasRoom k rules f.1));
+        each = (f.0.0, rules_only _ (each_taken _ _ _ f.1));
         small = omega (arith, most, both, fitting_small (4066 - size) rules);
       } in
       ((pack, later.0), ap (λ (z : List Ruled). (rule ∷ take k rules) ++ z) later.1 ∙ ap (λ (z : List Ruled). rule ∷ z) (take-append-drop k rules))
@@ -198,11 +198,11 @@ module _ (family : Family) where
       → AllByRecursion (IsPack family) (packs (of_family family rules))
       × (flat_map (λ (pack : List Ruled). pack) (packs (of_family family rules)) ≡ of_family family rules)
   packs_are rules all =
-      packs_within (length (of_family family rules)) (of_family family rules) (omega arith) (are_in rules)
+      packs_within _ _ (omega arith) (are_in _)
       (each_mapped (λ (s : Sent). s.rule) HasRoom (filter (λ (s : Sent). afi_of s.rule.family == afi_of family) rules)
       (each_filtered (λ (s : Sent). HasRoom s.rule) (λ (s : Sent). afi_of s.rule.family == afi_of family) rules all))
 
 -- the rules that may be sent have room
 pub has_room : (terms : Terms) (path : List ℕ) (sent : Sent) → IsRule sent.rule → is_short terms path sent ≡ true
     → IsRule sent.rule × (length (canonical_frame sent.rule) ≤ 4066)
-has_room terms path sent is short = (is, frame_small terms path sent short)
+has_room terms path sent is short = (is, frame_small _ _ _ short)

@@ -127,7 +127,7 @@ module _ (first last : Desked) (peer peer' first_count count limit : ℕ) (same 
     appended = b.appended;
     rules_are = s.rules_are ∙ ap (λ (x : Sending). take b.appended x.rules) b_sending;
     ending = s.ending;
-    said_is = s.said_is ∙ ap (λ (z : List ℕ). opening_of b ++ (z ++ s.ending)) (text_of s.four s.parts)
+    said_is = s.said_is ∙ ap (λ (z : List ℕ). opening_of b ++ (z ++ s.ending)) (text_of _ _)
         ∙ ap (λ (z : List ℕ). z ++ (woven (text_sent config whose s.four sending) s.parts ++ s.ending)) opening_is;
     kept = s.kept ∙ ap (λ (m : Machine). (course m heard).text) machine_is;
   }
@@ -157,9 +157,9 @@ module _ (first last : Desked) (peer peer' first_count count limit : ℕ) (same 
       → PairsSo (WasClosed (Fault 4 0)) config whose sending last peer limit events announced replied now
       → RunsLate (receiver config whose) (of_first events) given ⊎ RunsLate (announcer config (needs_of sending.rules)) (of_second events) given
   late_so events announced replied now given asked (inl c) =
-      inl (subst (RunsLate (receiver config whose) (of_first events)) asked (late_first config peer whose events replied c))
+      inl (subst (RunsLate (receiver config whose) (of_first events)) asked (late_first _ _ _ _ _ c))
   late_so events announced replied now given asked (inr c) =
-      inr (subst (RunsLate (announcer config (needs_of sending.rules)) (of_second events)) asked (late_second config sending events c))
+      inr (subst (RunsLate (announcer config (needs_of sending.rules)) (of_second events)) asked (late_second config sending _ c))
 
   pairs_so : (ending : Ending) (talk : Talk) → (x : Exchanges talk s0 s1 a0 a1 end limit t0 t1 moments moments')
       → ((events : List Heard) (announced replied : List ℕ) (now : WireEnds) → Known events announced replied now
@@ -221,7 +221,7 @@ module _ (first last : Desked) (peer peer' first_count count limit : ℕ) (same 
     closes_first why e =
         subst (λ (p : Peer). HasClosed config peer p (of_first events) replied why) whose_same
         (subst (λ (c : Config). HasClosed c peer r.whose (of_first events) replied why) config_is
-        (closed_of last peer r.whose (of_first events) replied why e r.stands))
+        (closed_of _ _ _ _ _ _ e r.stands))
 
     closes_second : (why : Closed) → b.line.closed ≡ Some why → (told_by config sending (of_second events)).point.closed ≡ Some why
     closes_second why e = sym (ap (λ (m : Machine). (course m (of_second events)).point.closed) machine_is) ∙ sym s.at.closed_is ∙ e
@@ -229,7 +229,7 @@ module _ (first last : Desked) (peer peer' first_count count limit : ℕ) (same 
     receives_so : is_ended (standing_at_desk last peer) ≡ false → IsReceiving last peer whose (of_first events) replied
     receives_so alive =
         subst (λ (p : Peer). IsReceiving last peer p (of_first events) replied) whose_same
-        (receiving last peer r.whose (of_first events) replied (hearing_of last peer r.whose (of_first events) replied alive r.stands))
+        (receiving _ _ _ _ _ (hearing_of _ _ _ _ _ alive r.stands))
 
     -- an open announcing end, by all that it heard
     module _ (open_b : b.line.closed ≡ None) where
@@ -240,8 +240,7 @@ module _ (first last : Desked) (peer peer' first_count count limit : ℕ) (same 
       at_second = s.at.open_is (sym s.at.closed_is ∙ open_b)
 
       opens_b : Opens true (machine_in b) b.line heard_up (octets_in (of_second events))
-      opens_b = opens_so true (machine_in b) b.line (course (machine_in b) (of_second events)).point heard_up (octets_in (of_second events)) open_b
-          (λ down. at_second) k.speaks.1
+      opens_b = opens_so _ _ _ _ _ _ open_b (λ down. at_second) k.speaks.1
 
       opens : Opens true (announcer config (needs_of sending.rules)) b.line heard_up (octets_in (of_second events))
       opens = subst (λ (m : Machine). Opens true m b.line heard_up (octets_in (of_second events))) machine_is opens_b
@@ -276,7 +275,7 @@ module _ (first last : Desked) (peer peer' first_count count limit : ℕ) (same 
           none_first = none;
           alive = alive_second open_b;
           down = down_second e;
-          before = ends_by (opens open_b) limit now.second.left (sym (open_settled b.line open_b) ∙ e) few_up other;
+          before = ends_by (opens open_b) _ _ (sym (open_settled b.line open_b) ∙ e) few_up other;
         }
 
     all_heard : now.first.left ≡ [] → announced ≡ octets_in (of_first events)
@@ -288,7 +287,7 @@ module _ (first last : Desked) (peer peer' first_count count limit : ℕ) (same 
     said_past open_b go p =
         s.said_is
         ∙ ap (λ (z : List ℕ). opening_of b ++ (woven (text_in b s.four) s.parts ++ z)) (s.unended open_b)
-        ∙ ap (λ (z : List ℕ). opening_of b ++ z) (append-nil (woven (text_in b s.four) s.parts) ∙ text_of s.four s.parts)
+        ∙ ap (λ (z : List ℕ). opening_of b ++ z) (append-nil (woven (text_in b s.four) s.parts) ∙ text_of _ _)
         ∙ ap (λ (z : List ℕ). z ++ woven (text_sent config whose s.four sending) s.parts) (open_is go)
         ∙ ap (λ (z : List (Option Sent)). open_sent config whose sending ++ woven (text_sent config whose s.four sending) z) p.0.1
 
@@ -297,7 +296,7 @@ module _ (first last : Desked) (peer peer' first_count count limit : ℕ) (same 
 
     -- while it is open it said a front of all
     fronts : b.line.closed ≡ None → Fronts config whose sending announced (octets_in (of_second events))
-    fronts open_b = by b.line.phase.state (s.began open_b)
+    fronts open_b = by _ (s.began open_b)
       where
         opening : List ℕ
         opening = open_sent config whose sending
@@ -316,9 +315,9 @@ module _ (first last : Desked) (peer peer' first_count count limit : ℕ) (same 
         begun_so behind e = record { behind = behind; four = s.four; parts = []; appended = 0; rules_are = refl; whole = e; took = inl refl }
 
         unanswered : s.parts ≡ [] → (g : Bool) → b.started ≡ g → Fronts config whose sending announced (octets_in (of_second events))
-        unanswered none true g = begun_so answer (ap (λ (z : List ℕ). z ++ answer) (only none ∙ open_is g))
+        unanswered none true g = begun_so _ (ap (λ (z : List ℕ). z ++ answer) (only none ∙ open_is g))
         unanswered none false g =
-            begun_so (opening ++ answer) (ap (λ (z : List ℕ). z ++ (opening ++ answer)) (only none ∙ opening_is
+            begun_so _ (ap (λ (z : List ℕ). z ++ (opening ++ answer)) (only none ∙ opening_is
             ∙ ap (λ (x : Bool). if x then opening else []) g))
 
         no_parts : (more : List (Option Sent)) → None ∷ more ≡ [] → ⊥
@@ -335,19 +334,19 @@ module _ (first last : Desked) (peer peer' first_count count limit : ℕ) (same 
           whole = append-nil announced ∙ said_past open_b g p;
           took = inr (subst (λ (c : Config). TookOpen c s.four (octets_in (of_second events))) b_config p.1.1);
         }
-        went p false g = absurd (no_parts p.0.0 (sym p.0.1 ∙ (s.unstarted (sym s.started_is ∙ g)).0))
+        went p false g = absurd (no_parts _ (sym p.0.1 ∙ (s.unstarted (sym s.started_is ∙ g)).0))
 
         by : (state : State) → Began state b s.four (of_second events) s.parts → Fronts config whose sending announced (octets_in (of_second events))
-        by WaitOpen p = unanswered p.0 b.started refl
-        by WaitKeep p = went p b.started refl
-        by Established p = went p b.started refl
-        by IsClosed p = went p b.started refl
+        by WaitOpen p = unanswered p.0 _ refl
+        by WaitKeep p = went p _ refl
+        by Established p = went p _ refl
+        by IsClosed p = went p _ refl
 
     -- what nothing hinders
     module _ (u : IsUnhindered config whose sending limit (moments_of events) announced replied) where
       limit_never : (limit ≤ length (octets_in (of_first events)))
           ⊎ MetLimit (announcer config (needs_of sending.rules)) limit (octets_in (of_second events)) → ⊥
-      limit_never (inl l) = reaches_never (octets_in (of_first events)) now.first.left announced limit k.read_first u.announced_within l
+      limit_never (inl l) = reaches_never _ _ _ _ k.read_first u.announced_within l
       limit_never (inr l) = let m = l.met in
           reaches_never (octets_in (of_second events)) now.second.left replied limit k.read_second u.replied_within (omega (arith, m))
 
@@ -379,9 +378,8 @@ module _ (first last : Desked) (peer peer' first_count count limit : ℕ) (same 
 
       second_never : IsUnhindered config whose sending limit (moments_of events) announced replied → (why : Closed) → b.line.closed ≡ Some why → ⊥
       second_never u why e =
-          none-some why
-          (sym (teller_stays config whose sending (of_second events) now.second.left replied u.can (sym k.read_second) replies_form
-          (timely_one config false events u.timely)) ∙ closes_second why e)
+          none-some why (sym (teller_stays _ _ _ _ now.second.left _ u.can (sym k.read_second) replies_form
+          (timely_one config false _ u.timely)) ∙ closes_second _ e)
 
       -- the announcing end has said its OPEN, and nothing is in flight
       unsettled_never : IsUnhindered config whose sending limit (moments_of events) announced replied → is_settled b.line ≡ false → started ≡ true
@@ -419,7 +417,7 @@ module _ (first last : Desked) (peer peer' first_count count limit : ℕ) (same 
         left = sym (ap (λ (c : Option Closed). if is_some c then 0 else unsaid started + (length b.sending.rules - b.appended)) open_b) ∙ all
 
         none_left : (unsaid started ≡ 0) × (length b.sending.rules ≤ b.appended)
-        none_left = sub_none (unsaid started) (length b.sending.rules) b.appended left
+        none_left = sub_none _ _ _ left
 
         has_begun : b.started ≡ true
         has_begun = s.started_is ∙ by started none_left.0
@@ -429,8 +427,7 @@ module _ (first last : Desked) (peer peer' first_count count limit : ℕ) (same 
             by false h = absurd cc
 
         past : Past b s.four (of_second events) s.parts
-        past = past_of b.line.phase.state b s.four (of_second events) s.parts (unawaited b.line.phase.state (sym (open_settled b.line open_b) ∙ up))
-            (s.began open_b)
+        past = past_of _ _ _ _ _ (unawaited _ (sym (open_settled b.line open_b) ∙ up)) (s.began open_b)
 
         said_so : announced ≡ open_sent config whose sending ++ woven (text_sent config whose s.four sending) (None ∷ past.0.0)
         said_so = said_past open_b has_begun past
@@ -440,10 +437,9 @@ module _ (first last : Desked) (peer peer' first_count count limit : ℕ) (same 
 
         four_so : CanArrive config whose sending → s.four ≡ true
         four_so can =
-            meets config whose sending s.four (octets_in (of_second events)) now.second.left replied can
-            (subst (λ (c : Config). TookOpen c s.four (octets_in (of_second events))) b_config past.1.1) k.read_second
-            (subst (λ (z : List ℕ). (z ≡ []) ⊎ ((more : List ℕ) × (z ≡ reply_to config WaitOpen ++ more))) (sym reply_is)
-            (answers config whose (of_first events) open_course))
+            meets _ _ _ _ _ _ _ can (subst (λ (c : Config). TookOpen c s.four (octets_in (of_second events))) b_config past.1.1)
+            k.read_second (subst (λ (z : List ℕ). (z ≡ []) ⊎ ((more : List ℕ) × (z ≡ reply_to config WaitOpen ++ more)))
+            (sym reply_is) (answers config whose (of_first events) open_course))
 
         updates_so : CanArrive config whose sending
             → bounded_session config peer announced ≡ (map (update_sent config whose sending) sending.rules, still (phase Established true config.hold_time))
@@ -454,10 +450,10 @@ module _ (first last : Desked) (peer peer' first_count count limit : ℕ) (same 
             sym (ap (λ (x : List Update × Last). x.1) whole) ∙ ap (λ (z : List ℕ). (bounded_session config peer z).1) (all_heard none)
             ∙ sym (ap (λ (c : Config). (bounded_session c peer (octets_in (of_first events))).1) config_is) ∙ got.found in
             whole
-            ∙ bounded_still whose.max_routes (session_from config whose at_start announced) got.phase found
+            ∙ bounded_still _ _ _ found
             ∙ ap (session_from config whose at_start) (said_so
             ∙ ap (λ (f : Bool). open_sent config whose sending ++ woven (text_sent config whose f sending) (None ∷ past.0.0)) (four_so can))
-            ∙ all_arrive config whose sending past.0.0 can rules_so
+            ∙ all_arrive _ _ _ _ can rules_so
 
         arrives : length (octets_in (of_first events)) < limit → heard_up < limit
             → Arrives config whose sending last peer limit (of_first events) (of_second events) announced replied

@@ -1,9 +1,9 @@
 -- What messages leave of a phase: past its OPEN the machine of an announcing end answers nothing, and the hold time that an
 -- end agreed on stays as long as the session does; before the OPEN there is none.
 use Rattle.fs_peering.proofs.Words.{Closed, Config, Established, Fault, Handed, Machine, Memory, Message, MessageFault, Needs, NoFamily, Notified}
-use Rattle.fs_peering.proofs.Words.{Open, Phase, State, Times, Update, UpdateFault, WaitKeep, WaitOpen, announcer, at_fault, faulted, first_message}
-use Rattle.fs_peering.proofs.Words.{is_established, keepalive_to, no_farewell, not_taken, notice_of, notified, open_of, opened, parts_of, phase, runs}
-use Rattle.fs_peering.proofs.Words.{runs_by, shuts, step_by, taken, taken_in, takes, transition_at, transition_by, updates, wrong_at, Last, closed}
+use Rattle.fs_peering.proofs.Words.{Open, Phase, State, Times, Update, UpdateFault, WaitKeep, WaitOpen, announcer, at_fault}
+use Rattle.fs_peering.proofs.Words.{is_established, keepalive_to, no_farewell, not_taken, notice_of, notified, open_of, opened, phase, runs}
+use Rattle.fs_peering.proofs.Words.{runs_by, shuts, step_by, taken, taken_in, takes, transition_at, transition_by, updates, Last, closed}
 use Rattle.fs_peering.proofs.Words.{plays, session_by, still, ◌≡◌, ◌==◌, ℕ, List, [], ◌∷◌, ◌++◌, Bool, true, false, if◌then◌else◌, min, Option, Some}
 use Rattle.fs_peering.proofs.Words.{None, Result, Ok, Err, refl, ap, sym, ◌∙◌, subst, ◌⊎◌, inl, inr, ran, runs_none, runs_step, Shows, told, going}
 use Rattle.fs_peering.proofs.Words.{plays_none, plays_step, last_update}
@@ -107,7 +107,7 @@ module _ (config : Config) (needs : Needs) where
     pub goes : made.point.closed ≡ None → Goes now made.point.phase
 
   shut_quiet : (now at : Phase) (times : Times) (why : Closed) → Quiet now (shuts machine at times why)
-  shut_quiet now at times why = record { text_is = silent why; goes = λ h. absurd (never h) }
+  shut_quiet now at times why = record { text_is = silent _; goes = λ h. absurd (never h) }
     where
       never : Some why ≡ None → ⊥
       never h = cc
@@ -118,10 +118,10 @@ module _ (config : Config) (needs : Needs) where
       subst (Quiet now) (sym (runs_none machine now times waiting None))
       (record { text_is = refl; goes = λ h. record { four_is = refl; hold_is = refl; past = e; up = λ u. u } })
   runs_quiet [] now times waiting (Some fault) e =
-      subst (Quiet now) (sym (runs_none machine now times waiting (Some fault))) (shut_quiet now now times (faulted fault))
+      subst (Quiet now) (sym (runs_none machine now times waiting (Some fault))) (shut_quiet _ _ _ _)
   runs_quiet (message ∷ messages) now times waiting wrong e =
       subst (Quiet now) (sym (runs_step machine now times message messages waiting wrong))
-      (by (λ next f. runs_quiet messages next (taken_in now.state times) waiting wrong f) (transition_by machine now message) (goes_on machine now message))
+      (by (λ next f. runs_quiet _ _ _ _ _ f) (transition_by machine now message) (goes_on machine now message))
     where
       by : ((next : Phase) → awaits_open next.state ≡ false → Quiet next (runs machine next (taken_in now.state times) messages waiting wrong))
           → (made : Made) → GoesTo now made
@@ -131,13 +131,12 @@ module _ (config : Config) (needs : Needs) where
           record {
             text_is = ap (λ (z : List ℕ). z ++ (runs machine next.0 (taken_in now.state times) messages waiting wrong).text)
                 (answers_none now.state e) ∙ later.text_is;
-            goes = λ h. goes_then now next.0 _ (g.1 e) (later.goes h);
+            goes = λ h. goes_then _ _ _ (g.1 e) (later.goes h);
           }
-      by rest (Err why) g = shut_quiet now now times why
+      by rest (Err why) g = shut_quiet _ _ _ _
 
   pub quiet_by : (now : Phase) (times : Times) (octets : List ℕ) → awaits_open now.state ≡ false → Quiet now (runs_by machine now times octets)
-  quiet_by now times octets e = runs_quiet (parts_of first_message octets).0 now times (parts_of first_message octets).1
-      (wrong_at (parts_of first_message octets).1) e
+  quiet_by now times octets e = runs_quiet _ _ _ _ _ e
 
 pub same_still : (a b : Phase) → still a ≡ still b → a ≡ b
 same_still a b e = cc
@@ -151,22 +150,22 @@ module _ (machine : Machine) where
       → (plays machine now messages wrong).1 ≡ still last
       → Goes now last
   plays_on [] now last None e h =
-      subst (Goes now) (same_still now last (sym (ap (λ (z : List Update × Last). z.1) (plays_none machine now None)) ∙ h))
+      subst (Goes now) (same_still _ _ (sym (ap (λ (z : List Update × Last). z.1) (plays_none machine now None)) ∙ h))
       (record { four_is = refl; hold_is = refl; past = e; up = λ u. u })
   plays_on [] now last (Some fault) e h =
-      absurd (closed_still (faulted fault) last (sym (ap (λ (z : List Update × Last). z.1) (plays_none machine now (Some fault))) ∙ h))
+      absurd (closed_still _ _ (sym (ap (λ (z : List Update × Last). z.1) (plays_none machine now (Some fault))) ∙ h))
   plays_on (message ∷ messages) now last wrong e h =
-      by (λ next f k. plays_on messages next last wrong f k) (transition_by machine now message) (goes_on machine now message)
+      by (λ next f k. plays_on _ _ _ _ f k) (transition_by machine now message) (goes_on machine now message)
       (sym (ap (λ (z : List Update × Last). z.1) (plays_step machine now message messages wrong)) ∙ h)
     where
       by : ((next : Phase) → awaits_open next.state ≡ false → (plays machine next messages wrong).1 ≡ still last → Goes next last) → (made : Made)
           → GoesTo now made
           → (going made (λ next. plays machine next messages wrong)).1 ≡ still last → Goes now last
-      by rest (Ok next) k g = goes_then now next.0 last (k.1 e) (rest next.0 k.0 (sym (last_update next.1 (plays machine next.0 messages wrong)) ∙ g))
-      by rest (Err why) k g = absurd (closed_still why last g)
+      by rest (Ok next) k g = goes_then _ _ _ (k.1 e) (rest next.0 k.0 (sym (last_update next.1 (plays machine next.0 messages wrong)) ∙ g))
+      by rest (Err why) k g = absurd (closed_still _ _ g)
 
   pub session_on : (now last : Phase) (octets : List ℕ) → awaits_open now.state ≡ false → (session_by machine now octets).1 ≡ still last → Goes now last
-  session_on now last octets e h = plays_on (parts_of first_message octets).0 now last (wrong_at (parts_of first_message octets).1) e h
+  session_on now last octets e h = plays_on _ _ _ _ e h
 
   -- before it none
   abbrev pub Unheld : Phase → Type 0
@@ -180,7 +179,7 @@ module _ (machine : Machine) where
       subst (λ (p : Phase). Unheld p) (sym (ap (λ (m : Handed). m.point.phase) (runs_none machine now times waiting (Some fault)))) u
   runs_unheld (message ∷ messages) now times waiting wrong u =
       subst (λ (p : Phase). Unheld p) (sym (ap (λ (m : Handed). m.point.phase) (runs_step machine now times message messages waiting wrong)))
-      (by (λ next v. runs_unheld messages next (taken_in now.state times) waiting wrong v) (transition_by machine now message) (goes_on machine now message))
+      (by (λ next v. runs_unheld _ _ _ _ _ v) _ (goes_on machine now message))
     where
       by : ((next : Phase) → Unheld next → Unheld (runs machine next (taken_in now.state times) messages waiting wrong).point.phase) → (made : Made)
           → GoesTo now made
@@ -194,4 +193,4 @@ module _ (machine : Machine) where
     where
       by : (b : Bool) → awaits_open now.state ≡ b → (now.hold ≡ 0) ⊎ (now.hold ≡ last.hold)
       by true e = inl (u e)
-      by false e = inr (sym (session_on now last octets e h).hold_is)
+      by false e = inr (sym (session_on _ _ _ e h).hold_is)

@@ -49,7 +49,7 @@ one_tape peer octets piece number = by (peer == number)
     by false = refl
 
 pub no_octets_yet : (peer number : ℕ) → life number (came_up peer ∷ []) ≡ life number (tape_of peer [])
-no_octets_yet peer number = by (peer == number)
+no_octets_yet peer number = by _
   where
     nothing : List ℕ
     nothing = []
@@ -61,7 +61,7 @@ no_octets_yet peer number = by (peer == number)
 retaped : (config : Config) (peer : ℕ) (octets piece : List ℕ) (desk : Desked) → Played config (tape_of peer octets ++ received peer piece ∷ []) desk
     → Played config (tape_of peer (octets ++ piece)) desk
 retaped config peer octets piece desk p =
-    same_lives config (tape_of peer octets ++ received peer piece ∷ []) (tape_of peer (octets ++ piece)) desk (one_tape peer octets piece) p
+    same_lives _ _ _ _ (one_tape peer octets piece) p
 
 -- the session of a peer that has come up
 pub record Upright (config : Config) (peer : ℕ) (whose : Peer) (octets : List ℕ) (desk : Desked) : Type 0 where
@@ -73,10 +73,9 @@ pub upright : (config : Config) (peer : ℕ) (whose : Peer) (octets : List ℕ) 
     → Played config (tape_of peer octets) desk
     → Upright config peer whose octets desk
 upright config peer whose octets desk q p =
-    by (session_at peer desk.sessions) refl
-    (subst (λ (o : Option Peer). PeerIs config o (Some octets) (session_at peer desk.sessions) peer desk.held) q
+    by _ refl (subst (λ (o : Option Peer). PeerIs config o (Some octets) (session_at peer desk.sessions) peer desk.held) q
     (subst (λ (l : Option (List ℕ)). PeerIs config (peer_of peer config.peers) l (session_at peer desk.sessions) peer desk.held)
-    (life_tape peer octets) (p.each peer)))
+    (life_tape _ _) (p.each peer)))
   where
     by : (o : Option Live) → session_at peer desk.sessions ≡ o → PeerIs config (Some whose) (Some octets) o peer desk.held
         → Upright config peer whose octets desk
@@ -97,7 +96,7 @@ stands_ended desk peer session why there shut =
 -- what stands of an open session, and of an ended one
 pub hearing_of : (desk : Desked) (peer : ℕ) (whose : Peer) (heard : Pieces) (said : List ℕ) → is_ended (standing_at_desk desk peer) ≡ false
     → StandsBy (standing_at_desk desk peer) desk peer whose heard said → IsHearing desk peer whose heard said
-hearing_of desk peer whose heard said e s = by (standing_at_desk desk peer) e s
+hearing_of desk peer whose heard said e s = by _ e s
   where
     by : (at : Standing) → is_ended at ≡ false → StandsBy at desk peer whose heard said → IsHearing desk peer whose heard said
     by Down h k = k
@@ -162,7 +161,7 @@ module _ (old new : Desked) (peer moment : ℕ) (whose : Peer) (heard : Pieces) 
   module _ (now : Live) (there : session_at peer new.sessions ≡ Some now) (stays : StaysPlayed peer old new) where
     still_played : standing_at_desk new peer ≡ LiveIn h.session.phase.state → Played old.config (tape_of peer (octets_in heard)) new
     still_played e =
-        stays (e ∙ sym (stands_open old peer h.session h.session_is h.alive)) nobody old.config (tape_of peer (octets_in heard)) h.played
+        stays (e ∙ sym (stands_open old peer _ h.session_is h.alive)) nobody old.config (tape_of peer (octets_in heard)) h.played
 
     woke : (later : Times) (tick : Tick) → now ≡ with_times later h.session → at_moment moment later ≡ later
         → tick_at h.session.phase.hold (at_moment moment h.session.times) ≡ tick
@@ -176,19 +175,19 @@ module _ (old new : Desked) (peer moment : ℕ) (whose : Peer) (heard : Pieces) 
           session = now;
           session_is = there;
           alive = alive;
-          played = still_played (stands_open new peer now there alive ∙ ap (λ (l : Live). LiveIn l.phase.state) e);
+          played = still_played (stands_open new peer _ there alive ∙ ap (λ (l : Live). LiveIn l.phase.state) e);
           point_is = ap point_of e ∙ ap (λ (c : Option Closed). point (pending h.session.framing) h.session.phase later c) h.alive ∙ p
-              ∙ sym (ap (λ (made : Handed). made.point) (ticked_here tick t));
+              ∙ sym (ap (λ (made : Handed). made.point) (ticked_here _ t));
           moved_is = ap (λ (l : Live). at_moment moment l.times) e ∙ m ∙ ap (λ (l : Live). l.times) (sym e);
-          said_is = s ∙ ap (λ (made : Handed). out ++ made.text) (sym (ticked_here tick t));
+          said_is = s ∙ ap (λ (made : Handed). out ++ made.text) (sym (ticked_here _ t));
         }
 
     made : (tick : Tick) → tick_at h.session.phase.hold (at_moment moment h.session.times) ≡ tick
         → TickMakes tick peer (at_moment moment h.session.times) h.session now old.held new.held out out'
         → Woke old new peer moment whose heard out out' ⊎ Slept old new peer moment whose heard out out'
-    made Quiet t k = inl (woke (at_moment moment h.session.times) Quiet k.0 (moment_stays moment h.session.times) t refl (k.1.1 ∙ sym (append-nil out)))
-    made Keeps t k = inl (woke (written_now (at_moment moment h.session.times)) Keeps k.0 (wrote_stays moment h.session.times) t refl k.1.1)
-    made Expires t k = inr (record { due = due_here t; ended = stands_ended new peer now (Fault 4 0) there k.0; said_is = k.1.1 })
+    made Quiet t k = inl (woke _ _ k.0 (moment_stays moment h.session.times) t refl (k.1.1 ∙ sym (append-nil out)))
+    made Keeps t k = inl (woke _ _ k.0 (wrote_stays _ h.session.times) t refl k.1.1)
+    made Expires t k = inr (record { due = due_here t; ended = stands_ended new peer _ _ there k.0; said_is = k.1.1 })
 
   abbrev TicksOf : Option Live → Type 0
   TicksOf found = elim found [
@@ -206,7 +205,7 @@ module _ (old new : Desked) (peer moment : ℕ) (whose : Peer) (heard : Pieces) 
       let t = subst TicksOf h.session_is ticked in
       let there : session_at peer new.sessions ≡ Some t.0 = t.1.1 peer
       ∙ ap (λ (b : Bool). if b then Some t.0 else session_at peer old.sessions) (eq_itself peer) in
-      made t.0 there stays (tick_at h.session.phase.hold (at_moment moment h.session.times)) refl
+      made _ there stays _ refl
       (subst (λ (c : Option Closed). TicksIn c peer moment h.session t.0 old.held new.held out out') h.alive t.1.0)
 
 -- the hold time has expired: nothing more is heard
@@ -228,7 +227,7 @@ hears_slept old new peer moment whose heard said piece out out' config_is count'
             moment = moment;
             piece = piece;
             split = refl;
-            lived = open_here old new peer moment whose heard said out out' h;
+            lived = open_here _ new _ moment _ _ _ out out' h;
             closes = inl (record { due = s.due; why_is = refl; said_is = ap (λ (z : List ℕ). z ++ notice_text 4 0) h.said_is });
           }));
       counted = k;
@@ -255,7 +254,7 @@ module _ (old mid new : Desked) (peer moment : ℕ) (whose : Peer) (heard : Piec
   woken = ticked moment (course_of config whose heard).point
 
   played_all : Played config (tape_of peer (octets_in heard ++ piece)) new
-  played_all = retaped config peer (octets_in heard) piece new (plays nobody config (tape_of peer (octets_in heard)) w.played)
+  played_all = retaped _ _ _ _ _ (plays nobody config (tape_of peer (octets_in heard)) w.played)
 
   config_is : new.config ≡ config
   config_is = config_new ∙ config_mid
@@ -266,10 +265,10 @@ module _ (old mid new : Desked) (peer moment : ℕ) (whose : Peer) (heard : Piec
       (subst (λ (z : List ℕ). Played config (tape_of peer z) new) (sym (octets_more heard moment piece)) played_all)
 
   now_is : Upright config peer whose (octets_in heard ++ piece) new
-  now_is = upright config peer whose (octets_in heard ++ piece) new q played_all
+  now_is = upright _ _ _ _ _ q played_all
 
   before_is : Upright config peer whose (octets_in heard) mid
-  before_is = upright config peer whose (octets_in heard) mid q w.played
+  before_is = upright _ _ _ _ _ q w.played
 
   same_session : before_is.session ≡ w.session
   same_session = ap (λ (x : Option Live). elim x [ None ↦ before_is.session | Some l ↦ l ]) (sym before_is.session_is ∙ w.session_is)
@@ -285,7 +284,7 @@ module _ (old mid new : Desked) (peer moment : ℕ) (whose : Peer) (heard : Piec
   handed_then =
       ap (λ (d : Config). hand (receiver d w.session.peer) w.session.times.greatest (point_of w.session) piece) fed_before.0.config_is
       ∙ ap (λ (p : Peer). hand (receiver config p) w.session.times.greatest (point_of w.session) piece) fed_before.0.peer_is
-      ∙ at w.session.times.greatest (greatest_stays w.session.times)
+      ∙ at w.session.times.greatest (greatest_stays _)
       ∙ sym (at moment w.moved_is)
       ∙ ap (λ (p : Point). hand machine moment p piece) w.point_is
     where
@@ -314,11 +313,9 @@ module _ (old mid new : Desked) (peer moment : ℕ) (whose : Peer) (heard : Piec
       let step : course_of config whose all
       ≡ after (course_of config whose heard) (hears machine (moment, piece) (course_of config whose heard).point) =
       course_more machine heard (moment, piece) in
-      answer (woken.text ++ later.text)
-      (text ∙ ap (λ (z : List ℕ). z ++ later.text) w.said_is ∙ append_assoc a woken.text later.text)
+      answer _ (text ∙ ap (λ (z : List ℕ). z ++ later.text) w.said_is ∙ append_assoc a woken.text later.text)
       (subst (λ (at : Standing). StandsBy at new peer whose all (said ++ (woken.text ++ later.text)))
-      (sym (stands_open new peer now_is.session now_is.session_is alive))
-      (record {
+      (sym (stands_open new peer _ now_is.session_is alive)) (record {
         session = now_is.session;
         session_is = now_is.session_is;
         alive = alive;
@@ -333,18 +330,17 @@ module _ (old mid new : Desked) (peer moment : ℕ) (whose : Peer) (heard : Piec
   closes_there : (why : Closed) → now_is.session.closed ≡ Some why → Answer
   closes_there why shut =
       let fed = subst (λ (x : Option Closed). IsFed config whose (octets_in heard ++ piece) now_is.session x now_is.up.updates) shut now_is.up.fed in
-      let replied = subst (λ (l : Option (List ℕ)). Replied config peer l piece b c) (life_tape peer (octets_in heard))
+      let replied = subst (λ (l : Option (List ℕ)). Replied config peer l piece b c) (life_tape _ _)
       (replies nobody config (tape_of peer (octets_in heard)) w.played) in
-      answer (woken.text ++ replied.0)
-      (replied.1 ∙ ap (λ (z : List ℕ). z ++ replied.0) w.said_is ∙ append_assoc a woken.text replied.0)
+      answer _ (replied.1 ∙ ap (λ (z : List ℕ). z ++ replied.0) w.said_is ∙ append_assoc a woken.text replied.0)
       (subst (λ (at : Standing). StandsBy at new peer whose all (said ++ (woken.text ++ replied.0)))
-      (sym (stands_ended new peer now_is.session why now_is.session_is shut))
+      (sym (stands_ended new peer _ _ now_is.session_is shut))
       (subst (λ (d : Config). HasClosed d peer whose all (said ++ (woken.text ++ replied.0)) why) (sym config_is) (record {
         earlier = heard;
         moment = moment;
         piece = piece;
         split = refl;
-        lived = open_here old mid peer moment whose heard said a b h;
+        lived = open_here _ mid _ moment _ _ _ a b h;
         closes = inr (record {
           lives = ap (λ (p : Point). p.closed) (sym w.point_is) ∙ w.alive;
           over = fed.0;
@@ -355,11 +351,11 @@ module _ (old mid new : Desked) (peer moment : ℕ) (whose : Peer) (heard : Piec
       })))
 
   pub hears_woke : (more : List ℕ) × ((c ≡ a ++ more) × Receives new peer count' all (said ++ more))
-  hears_woke = by now_is.session.closed refl
+  hears_woke = by _ refl
     where
       by : (x : Option Closed) → now_is.session.closed ≡ x → Answer
       by None e = stays_open e
-      by (Some why) e = closes_there why e
+      by (Some why) e = closes_there _ e
 
 -- the clock at a moment, and a piece
 module _ (old mid : Desked) (peer count count' moment : ℕ) (piece a b : List ℕ) (config_mid : mid.config ≡ old.config)
@@ -370,32 +366,31 @@ module _ (old mid : Desked) (peer count count' moment : ℕ) (piece a b : List �
     Woken = Woke old mid peer moment r.whose heard a b ⊎ Slept old mid peer moment r.whose heard a b
 
     h : IsHearing old peer r.whose heard said
-    h = hearing_of old peer r.whose heard said alive r.stands
+    h = hearing_of _ _ _ _ _ alive r.stands
 
     either_way : Woken
-    either_way = wakes old mid peer moment r.whose heard said a b h ticked stays
+    either_way = wakes _ _ _ _ _ _ _ _ _ h ticked stays
 
     counted : count' ≡ length (octets_in (heard ++ (moment, piece) ∷ []))
-    counted = counted_more heard moment count count' piece r.counted k
+    counted = counted_more heard moment _ _ _ r.counted k
 
   -- the clock closes the session
   pub hears_clock : is_ended (standing_at_desk mid peer) ≡ true → Hears (Receives old peer count) (Receives mid peer count') moment piece a b
-  hears_clock shut heard said r = by (either_way heard said r)
+  hears_clock shut heard said r = by (either_way _ _ r)
     where
       by : Woken heard said r → (more : List ℕ) × ((b ≡ a ++ more) × Receives mid peer count' (heard ++ (moment, piece) ∷ []) (said ++ more))
-      by (inl w) = absurd (never (sym shut ∙ ap is_ended (stands_open mid peer w.session w.session_is w.alive)))
-      by (inr s) = hears_slept old mid peer moment r.whose heard said piece a b config_mid count' (h heard said r) r.whose_is (counted heard said r) s
+      by (inl w) = absurd (never (sym shut ∙ ap is_ended (stands_open mid _ _ w.session_is w.alive)))
+      by (inr s) = hears_slept _ _ _ _ _ _ _ _ _ _ config_mid _ (h _ _ r) r.whose_is (counted _ _ r) s
 
   -- it goes on
   pub hears_piece : (new : Desked) (c : List ℕ) → new.config ≡ mid.config → is_ended (standing_at_desk mid peer) ≡ false
       → Plays (received peer piece) mid new → RepliesBehind peer mid piece b c
       → HandsPeer peer mid new piece b c → Hears (Receives old peer count) (Receives new peer count') moment piece a c
-  hears_piece new c config_new open_ plays replies hands heard said r = by (either_way heard said r)
+  hears_piece new c config_new open_ plays replies hands heard said r = by (either_way _ _ r)
     where
       by : Woken heard said r → (more : List ℕ) × ((c ≡ a ++ more) × Receives new peer count' (heard ++ (moment, piece) ∷ []) (said ++ more))
       by (inl w) =
-          hears_woke old mid new peer moment r.whose heard said piece a b c count' config_mid config_new (h heard said r) r.whose_is
-          (counted heard said r) w plays replies hands
+          hears_woke _ _ _ _ _ _ _ _ _ _ _ _ _ config_mid config_new (h _ _ r) r.whose_is (counted _ _ r) w plays replies hands
       by (inr s) = absurd (never (sym (ap is_ended s.ended) ∙ open_))
 
 -- before the first octet
@@ -434,7 +429,7 @@ on_octets (Err e) a b c f = tt
 pub open_new : (own_config : Config) (peer : ℕ) (desk : Desked) → IsSome (peer_of peer own_config.peers)
     → session_at peer desk.sessions ≡ begins own_config peer
     → is_ended (standing_at_desk desk peer) ≡ false
-open_new own_config peer desk some begun = by (peer_of peer own_config.peers) refl some
+open_new own_config peer desk some begun = by _ refl some
   where
     by : (o : Option Peer) → peer_of peer own_config.peers ≡ o → IsSome o → is_ended (standing_at_desk desk peer) ≡ false
     by None e h = absurd (never (sym h))

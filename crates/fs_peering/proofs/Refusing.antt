@@ -2,7 +2,7 @@
 use Rattle.fs_peering.proofs.Words.{Closed, Config, Fault, Handed, IsUnnamed, Last, Machine, Message, MessageFault, Notified, Open, Peer, Phase}
 use Rattle.fs_peering.proofs.Words.{Point, Sending, Step, Times, Update, at_fault, at_moment, at_start, closed, first_message, hand, handed}
 use Rattle.fs_peering.proofs.Words.{notice_text, open_body, open_sent, opened, point, runs_by, session_by, shuts, step_by, stops, takes, tick_at}
-use Rattle.fs_peering.proofs.Words.{ticked, ticks, transition_by, waits, ◌≡◌, ◌⊎◌, inl, inr, ◌<◌, ◌^◌, ◌==◌, ℕ, Bool, true, false, if◌then◌else◌}
+use Rattle.fs_peering.proofs.Words.{ticked, ticks, transition_by, waits, ◌≡◌, ◌⊎◌, inl, inr, ◌<◌, ◌^◌, ℕ, Bool, true, false, if◌then◌else◌}
 use Rattle.fs_peering.proofs.Words.{List, [], ◌∷◌, ◌++◌, length, take, drop, Option, Some, None, Result, Err, Ok, refl, ap, sym, ◌∙◌, subst}
 use Rattle.fs_peering.proofs.Words.{append_assoc, append-nil, arith, take-append-drop, none-some, same_Some, open_unnamed, message_stable, text_first}
 use Rattle.fs_peering.proofs.Words.{World, at_first, happens, next_said, run, runs_on, says, sent, taker_comes, taker_of, teller_comes, teller_of}
@@ -33,7 +33,7 @@ module _ (machine : Machine) (why : Closed) (text : List ℕ) (message : Message
       by (stops other) h =
           let same : closed other ≡ closed why =
           ap (λ (s : List Update × Last). s.1)
-          (sym (machine_stops machine at_start other octets rest h) ∙ ap (λ (z : List ℕ). session_by machine at_start z) e ∙ shuts_all more) in
+          (sym (machine_stops machine at_start other octets rest h) ∙ ap (λ (z : List ℕ). session_by machine at_start z) e ∙ shuts_all _) in
           inr (ap (λ (z : List ℕ). runs_by machine at_start times z) (sym (append-nil octets)) ∙ runs_stops machine at_start times other octets [] h
           ∙ ap (λ (c : Closed). shuts machine at_start times c) (same_why other why same))
       by (takes next update behind) h =
@@ -41,7 +41,7 @@ module _ (machine : Machine) (why : Closed) (text : List ℕ) (message : Message
           let found : ◌≡◌ {A = Option (Message × List ℕ)} (Some (shows.0, behind ++ rest)) (Some (message, more)) =
           sym (message_stable octets rest (shows.0, behind) shows.1) ∙ ap first_message e ∙ first more in
           let same : shows.0 ≡ message = ap (λ (f : Message × List ℕ). f.0) (same_Some (shows.0, behind ++ rest) (message, more) found) in
-          absurd (no_both (next, update) (sym shows.2 ∙ ap (transition_by machine at_start) same ∙ err))
+          absurd (no_both _ (sym shows.2 ∙ ap (transition_by machine at_start) same ∙ err))
 
   -- it waits for more of it, or has closed so
   abbrev pub IsEnd : List ℕ → Point → Type 0
@@ -59,7 +59,7 @@ module _ (machine : Machine) (why : Closed) (text : List ℕ) (message : Message
   end_hand heard piece rest more now moment (inr shut) goes =
       let there : hand machine moment now piece ≡ handed now [] [] = closed_hand machine moment now piece why shut in
       inr (inr (shut, (ap (λ (h : Handed). h.point.closed) there ∙ shut, ap (λ (h : Handed). h.text) there)))
-  end_hand heard piece rest more now moment (inl i) goes = by (comes times (heard ++ piece) rest more (goes i.0))
+  end_hand heard piece rest more now moment (inl i) goes = by (comes _ _ _ _ (goes i.0))
     where
       times : Times
       times = at_moment moment now.times
@@ -162,7 +162,7 @@ module _ (config : Config) (peer : Peer) (sending : Sending) (un : IsUnnamed con
   refuses : transition_by taker at_start (record { kind = 1; body = body }) ≡ Err (Fault 2 3)
   refuses = ap (λ (r : Result Open MessageFault). opened taker r)
       (open_unnamed peer.asn config.hold_time sending.id un.asn.small un.hold_time.small
-      (zero_small sending.id un.unnamed) un.asn.some un.hold_time.not_one un.hold_time.not_two un.unnamed)
+      (zero_small _ un.unnamed) un.asn.some un.hold_time.not_one un.hold_time.not_two un.unnamed)
 
   is_told : transition_by teller at_start (record { kind = 3; body = 2 ∷ 3 ∷ [] }) ≡ Err (Notified 2 3)
   is_told = refl
@@ -191,7 +191,7 @@ module _ (config : Config) (peer : Peer) (sending : Sending) (un : IsUnnamed con
   more_said : (octets flying more text : List ℕ) (cut : Bool) → Flies octets flying (opening ++ more) cut
       → Flies octets (sent cut flying text) (opening ++ (more ++ text)) cut
   more_said octets flying more text cut f =
-      subst (λ (z : List ℕ). Flies octets (sent cut flying text) z cut) (append_assoc opening more text) (flies_said octets flying (opening ++ more) text cut f)
+      subst (λ (z : List ℕ). Flies octets (sent cut flying text) z cut) (append_assoc opening more text) (flies_said _ _ _ _ _ f)
 
   -- the announcing end said something
   teller_said : (w : World) (r : Refused w) (now : Point) (flying heard : List ℕ) (text : List ℕ) → IsTeller heard now
@@ -214,7 +214,7 @@ module _ (config : Config) (peer : Peer) (sending : Sending) (un : IsUnnamed con
     taker_is = r.taker_is;
     teller_is = is;
     said_is = r.said_is;
-    flies = λ o. more_said r.octets w.to_taker r.more text w.cut (r.flies o);
+    flies = λ o. more_said _ _ _ _ _ (r.flies o);
     goes = goes;
   }
 
@@ -236,7 +236,7 @@ module _ (config : Config) (peer : Peer) (sending : Sending) (un : IsUnnamed con
       made = hand taker moment w.taker piece
 
       goes_on : w.teller.closed ≡ None → Flies r.heard (sent w.cut w.to_teller made.text) (r.said ++ made.text) w.cut
-      goes_on o = flies_said r.heard w.to_teller r.said made.text w.cut (r.goes o)
+      goes_on o = flies_said _ _ _ _ _ (r.goes o)
 
       -- so it stands, with this said
       so : IsTaker (r.octets ++ piece) made.point → Said made.point.closed (r.said ++ made.text) → (made.point.closed ≡ None → w.taker.closed ≡ None)
@@ -249,7 +249,7 @@ module _ (config : Config) (peer : Peer) (sending : Sending) (un : IsUnnamed con
         taker_is = is;
         teller_is = r.teller_is;
         said_is = said;
-        flies = λ o. flies_taken r.octets w.to_taker (opening ++ r.more) w.cut count (r.flies (opens o));
+        flies = λ o. flies_taken _ _ _ _ _ (r.flies (opens o));
         goes = goes_on;
       }
 
@@ -280,11 +280,9 @@ module _ (config : Config) (peer : Peer) (sending : Sending) (un : IsUnnamed con
       by : IsTaker r.octets w.taker → Refused (taker_given w moment count)
       by (inl i) =
           let f = r.flies i.0 in
-          from (end_hand taker (Fault 2 3) opening (record { kind = 1; body = body }) first_open refuses r.octets piece
-          (drop count w.to_taker ++ f.0) r.more w.taker moment (inl i)
-          (λ o. taken_front r.octets w.to_taker f.0 count ∙ f.1.0))
+          from (end_hand _ _ opening _ first_open refuses _ _ _ _ _ _ (inl i) (λ o. taken_front r.octets _ _ _ ∙ f.1.0))
       by (inr c) =
-          from (end_hand taker (Fault 2 3) opening (record { kind = 1; body = body }) first_open refuses r.octets piece [] [] w.taker moment (inr c)
+          from (end_hand _ _ opening _ first_open refuses _ _ [] [] w.taker _ (inr c)
           (λ o. absurd (none-some (Fault 2 3) (sym o ∙ c))))
 
   -- the announcing end was
@@ -297,8 +295,7 @@ module _ (config : Config) (peer : Peer) (sending : Sending) (un : IsUnnamed con
       so : IsTeller (r.heard ++ piece) (hand teller moment w.teller piece).point
           → ((hand teller moment w.teller piece).point.closed ≡ None → w.teller.closed ≡ None) → Refused (teller_given w moment count)
       so is opens =
-          teller_said w r (hand teller moment w.teller piece).point (drop count w.to_teller) (r.heard ++ piece)
-          (hand teller moment w.teller piece).text is (λ o. flies_taken r.heard w.to_teller r.said w.cut count (r.goes (opens o))) w.appended
+          teller_said _ r _ _ _ _ is (λ o. flies_taken _ _ _ _ _ (r.goes (opens o))) _
 
       from : Made teller (Notified 2 3) notice (record { kind = 3; body = 2 ∷ 3 ∷ [] }) first_notice is_told (r.heard ++ piece) w.teller
           (hand teller moment w.teller piece) → Refused (teller_given w moment count)
@@ -309,23 +306,22 @@ module _ (config : Config) (peer : Peer) (sending : Sending) (un : IsUnnamed con
       -- what it was handed is a front of the NOTIFICATION
       fronts : (rest : List ℕ) → (r.heard ++ piece) ++ rest ≡ r.said → Said w.taker.closed r.said
           → (rest : List ℕ) × ((r.heard ++ piece) ++ rest ≡ notice ++ [])
-      fronts rest e (inl s) = (notice, ap (λ (z : List ℕ). z ++ notice) (nothing (r.heard ++ piece) rest (e ∙ s.1)))
+      fronts rest e (inl s) = (notice, ap (λ (z : List ℕ). z ++ notice) (nothing _ _ (e ∙ s.1)))
       fronts rest e (inr s) = (rest, e ∙ s.1)
 
       by : IsTeller r.heard w.teller → Refused (teller_given w moment count)
       by (inl i) =
           let f = r.goes i.0 in
-          let front = fronts (drop count w.to_teller ++ f.0) (taken_front r.heard w.to_teller f.0 count ∙ f.1.0) r.said_is in
-          from (end_hand teller (Notified 2 3) notice (record { kind = 3; body = 2 ∷ 3 ∷ [] }) first_notice is_told r.heard piece front.0 [] w.teller
-          moment (inl i) (λ o. front.1))
+          let front = fronts _ (taken_front r.heard _ _ _ ∙ f.1.0) r.said_is in
+          from (end_hand _ _ notice _ first_notice is_told _ _ _ _ _ _ (inl i) (λ o. front.1))
       by (inr c) =
-          from (end_hand teller (Notified 2 3) notice (record { kind = 3; body = 2 ∷ 3 ∷ [] }) first_notice is_told r.heard piece [] [] w.teller moment (inr c)
+          from (end_hand _ _ notice _ first_notice is_told _ _ [] [] w.teller _ (inr c)
           (λ o. absurd (none-some (Notified 2 3) (sym o ∙ c))))
 
   -- the clock was heard
   taker_ticks : (w : World) (r : Refused w) (moment : ℕ) → Refused (taker_comes (ticked moment w.taker) w.to_taker w)
   taker_ticks w r moment =
-      let t = end_tick taker (Fault 2 3) opening (record { kind = 1; body = body }) first_open refuses r.octets w.taker moment r.taker_is in
+      let t = end_tick taker _ opening _ first_open refuses _ _ _ r.taker_is in
       record {
         octets = r.octets;
         heard = r.heard;
@@ -337,30 +333,30 @@ module _ (config : Config) (peer : Peer) (sending : Sending) (un : IsUnnamed con
             subst (λ (how : Option Closed). Said how (r.said ++ (ticked moment w.taker).text)) (sym t.1.1)
             (subst (Said w.taker.closed) (sym (ap (λ (z : List ℕ). r.said ++ z) t.1.0 ∙ append-nil r.said)) r.said_is);
         flies = λ o. r.flies (sym t.1.1 ∙ o);
-        goes = λ o. flies_said r.heard w.to_teller r.said (ticked moment w.taker).text w.cut (r.goes o);
+        goes = λ o. flies_said _ _ _ _ _ (r.goes o);
       }
 
   teller_ticks : (w : World) (r : Refused w) (moment : ℕ) → Refused (teller_comes (ticked moment w.teller) w.to_teller w)
   teller_ticks w r moment =
-      let t = end_tick teller (Notified 2 3) notice (record { kind = 3; body = 2 ∷ 3 ∷ [] }) first_notice is_told r.heard w.teller moment r.teller_is in
-      teller_said w r (ticked moment w.teller).point w.to_teller r.heard (ticked moment w.teller).text t.0 (λ o. r.goes (sym t.1.1 ∙ o)) w.appended
+      let t = end_tick teller _ notice _ first_notice is_told _ _ _ r.teller_is in
+      teller_said w r _ _ _ _ t.0 (λ o. r.goes (sym t.1.1 ∙ o)) _
 
   refused_on : (w : World) (event : Event) → Refused w → Refused (happens config peer sending event w)
   refused_on w Send r = by (next_said config peer sending w.teller w.appended)
     where
       by : (text : Option (List ℕ)) → Refused (says text w)
       by None = r
-      by (Some text) = teller_said w r w.teller w.to_teller r.heard text r.teller_is r.goes _
-  refused_on w (Deliver to count moment) r = by (to == 0)
+      by (Some text) = teller_said _ r _ _ _ _ r.teller_is r.goes _
+  refused_on w (Deliver to count moment) r = by _
     where
       by : (zeroth : Bool) → Refused (if zeroth then taker_given w moment count else teller_given w moment count)
-      by true = taker_made w r moment count
-      by false = teller_made w r moment count
-  refused_on w (TickEvent end moment) r = by (end == 0)
+      by true = taker_made _ r _ _
+      by false = teller_made _ r _ _
+  refused_on w (TickEvent end moment) r = by _
     where
       by : (zeroth : Bool) → Refused (if zeroth then taker_comes (ticked moment w.taker) w.to_taker w else teller_comes (ticked moment w.teller) w.to_teller w)
-      by true = taker_ticks w r moment
-      by false = teller_ticks w r moment
+      by true = taker_ticks _ r _
+      by false = teller_ticks _ r _
   refused_on w Cut r = record {
     octets = r.octets;
     heard = r.heard;
@@ -369,8 +365,8 @@ module _ (config : Config) (peer : Peer) (sending : Sending) (un : IsUnnamed con
     taker_is = r.taker_is;
     teller_is = r.teller_is;
     said_is = r.said_is;
-    flies = λ o. flies_cut r.octets w.to_taker (opening ++ r.more) w.cut (r.flies o);
-    goes = λ o. flies_cut r.heard w.to_teller r.said w.cut (r.goes o);
+    flies = λ o. flies_cut _ _ _ _ (r.flies o);
+    goes = λ o. flies_cut _ _ _ _ (r.goes o);
   }
 
   refused_first : Refused (at_first config peer sending)
@@ -400,7 +396,7 @@ module _ (config : Config) (peer : Peer) (sending : Sending) (un : IsUnnamed con
 
 pub closes_unnamed : ClosesUnnamed
 closes_unnamed config peer sending events un =
-    let r = refused_all config peer sending un events (at_first config peer sending) (refused_first config peer sending un) in (
-      taker_so config peer sending un (run config peer sending events).taker r.octets r.taker_is,
-      teller_so config peer sending un (run config peer sending events).teller r.heard r.teller_is,
+    let r = refused_all _ _ _ un events _ (refused_first _ _ _ un) in (
+      taker_so _ _ _ un (run config peer sending events).taker _ r.taker_is,
+      teller_so _ _ _ un (run config peer sending events).teller _ r.teller_is,
     )

@@ -1,7 +1,7 @@
 -- What an open receiving end has said: nothing, or the answer to the OPEN and then KEEPALIVEs.
 use Rattle.fs_peering.proofs.Words.{Closed, Config, Established, Handed, Machine, Message, MessageFault, Peer, Phase, Point, State, Times, Update}
-use Rattle.fs_peering.proofs.Words.{WaitKeep, WaitOpen, faulted, first_message, message_text, parts_of, receiver, reply_to, runs, runs_by, shuts}
-use Rattle.fs_peering.proofs.Words.{taken_in, transition_by, wrong_at, ◌≡◌, ◌⊎◌, inl, inr, ℕ, zero, suc, ◌+◌, arith, List, [], ◌∷◌, ◌++◌, drop, true}
+use Rattle.fs_peering.proofs.Words.{WaitKeep, WaitOpen, message_text, receiver, reply_to, runs, runs_by, shuts}
+use Rattle.fs_peering.proofs.Words.{taken_in, transition_by, ◌≡◌, ◌⊎◌, inl, inr, ℕ, zero, suc, ◌+◌, arith, List, [], ◌∷◌, ◌++◌, true}
 use Rattle.fs_peering.proofs.Words.{false, Option, Some, None, Result, Ok, Err, refl, ap, sym, ◌∙◌, subst, append_assoc, append-nil, none-some, ran}
 use Rattle.fs_peering.proofs.Words.{runs_none, runs_step, Pieces, course_of, after, hears, course}
 use Rattle.fs_peering.proofs.{Courses.{keepalives, Steps, by_pieces, lived, course_more}, Phases.{GoesTo, awaits_open, goes_on}}
@@ -47,10 +47,10 @@ module _ (config : Config) (whose : Peer) where
       → Answered now (runs machine now times messages waiting wrong)
   runs_answered [] now times waiting None = subst (Answered now) (sym (runs_none machine now times waiting None)) (λ e. inl (refl, refl))
   runs_answered [] now times waiting (Some fault) =
-      subst (Answered now) (sym (runs_none machine now times waiting (Some fault))) (shut_answered now now times (faulted fault))
+      subst (Answered now) (sym (runs_none machine now times waiting (Some fault))) (shut_answered _ _ times _)
   runs_answered (message ∷ messages) now times waiting wrong =
       subst (Answered now) (sym (runs_step machine now times message messages waiting wrong))
-      (by (λ next. runs_answered messages next (taken_in now.state times) waiting wrong) (transition_by machine now message) (goes_on machine now message))
+      (by (λ next. runs_answered _ _ _ _ _) (transition_by machine now message) (goes_on machine now message))
     where
       by : ((next : Phase) → Answered next (runs machine next (taken_in now.state times) messages waiting wrong)) → (made : Made) → GoesTo now made
           → Answered now (ran machine now times made (λ next. runs machine next (taken_in now.state times) messages waiting wrong))
@@ -68,11 +68,10 @@ module _ (config : Config) (whose : Peer) where
               ⊎ ((reply_to config now.state ++ later.text ≡ reply_to config now.state) × (awaits_open later.point.phase.state ≡ false))
           at (inl w) = inr (silent w.0, ap (λ (p : Phase). awaits_open p.state) w.1 ∙ k.0)
           at (inr m) = inr (silent (m.0 ∙ past_none next.0.state k.0), m.1)
-      by rest (Err why) k e = shut_answered now now times why e
+      by rest (Err why) k e = shut_answered _ _ times _ e
 
   answered : (now : Phase) (times : Times) (octets : List ℕ) → Answered now (runs_by machine now times octets)
-  answered now times octets = runs_answered (parts_of first_message octets).0 now times (parts_of first_message octets).1
-      (wrong_at (parts_of first_message octets).1)
+  answered now times octets = runs_answered _ _ _ _ _
 
   -- it waits for the OPEN and has said nothing
   record Silent (made : Handed) : Type 0 where
@@ -104,14 +103,14 @@ module _ (config : Config) (whose : Peer) where
         ⊎ ((later.text ≡ reply_to config now.point.phase.state) × (awaits_open later.point.phase.state ≡ false))
         → Silent both ⊎ Replied both
     from_silent n (inl w) = inl (record {
-      text_is = said [] [] n.text_is (ap (λ (k : ℕ). keepalives k ++ later.text) (s.untimed n.hold_is) ∙ w.0);
+      text_is = said _ _ n.text_is (ap (λ (k : ℕ). keepalives k ++ later.text) (s.untimed n.hold_is) ∙ w.0);
       state_is = ap (λ (p : Point). p.phase.state) s.point_is ∙ ap (λ (p : Phase). p.state) w.1 ∙ n.state_is;
       hold_is = ap (λ (p : Point). p.phase.hold) s.point_is ∙ ap (λ (p : Phase). p.hold) w.1 ∙ n.hold_is;
     })
     from_silent n (inr m) = inr (record {
       count = 0;
       text_is =
-          said [] (reply_to config WaitOpen) n.text_is
+          said _ _ n.text_is
           (ap (λ (k : ℕ). keepalives k ++ later.text) (s.untimed n.hold_is) ∙ m.0 ∙ ap (reply_to config) n.state_is)
           ∙ sym (append-nil (reply_to config WaitOpen));
       past = ap (λ (p : Point). awaits_open p.phase.state) s.point_is ∙ m.1;
@@ -127,10 +126,9 @@ module _ (config : Config) (whose : Peer) where
         more t e = record {
           count = s.kept + r.count;
           text_is =
-              said (reply_to config WaitOpen ++ keepalives r.count) (keepalives s.kept) r.text_is
-              (ap (λ (z : List ℕ). keepalives s.kept ++ z) t ∙ append-nil (keepalives s.kept))
+              said _ _ r.text_is (ap (λ (z : List ℕ). keepalives s.kept ++ z) t ∙ append-nil (keepalives s.kept))
               ∙ append_assoc (reply_to config WaitOpen) (keepalives r.count) (keepalives s.kept)
-              ∙ ap (λ (z : List ℕ). reply_to config WaitOpen ++ z) (keepalives_more r.count s.kept);
+              ∙ ap (λ (z : List ℕ). reply_to config WaitOpen ++ z) (keepalives_more _ s.kept);
           past = ap (λ (p : Point). awaits_open p.phase.state) s.point_is ∙ e;
         }
 
@@ -138,7 +136,7 @@ module _ (config : Config) (whose : Peer) where
             ⊎ ((later.text ≡ reply_to config now.point.phase.state) × (awaits_open later.point.phase.state ≡ false))
             → Replied both
         by (inl w) = more w.0 (ap (λ (p : Phase). awaits_open p.state) w.1 ∙ r.past)
-        by (inr m) = more (m.0 ∙ past_none now.point.phase.state r.past) m.1
+        by (inr m) = more (m.0 ∙ past_none _ r.past) m.1
 
     says_both : (Silent now ⊎ Replied now) → both.point.closed ≡ None → Silent both ⊎ Replied both
     says_both a e = by a
@@ -147,8 +145,8 @@ module _ (config : Config) (whose : Peer) where
         alive = sym (ap (λ (p : Point). p.closed) s.point_is) ∙ e
 
         by : (Silent now ⊎ Replied now) → Silent both ⊎ Replied both
-        by (inl n) = from_silent n (answered now.point.phase s.times (now.point.waiting ++ event.1) alive)
-        by (inr r) = inr (from_replied r (answered now.point.phase s.times (now.point.waiting ++ event.1) alive))
+        by (inl n) = from_silent n (answered _ _ _ alive)
+        by (inr r) = inr (from_replied r (answered _ _ _ alive))
 
   abbrev SaysAll : Pieces → Type 0
   SaysAll heard = Says (course machine heard)
@@ -156,7 +154,7 @@ module _ (config : Config) (whose : Peer) where
   says_more : (heard : Pieces) (event : ℕ × List ℕ) → SaysAll heard → SaysAll (heard ++ event ∷ [])
   says_more heard event a =
       subst Says (sym (course_more machine heard event)) (λ e.
-      let before = lived machine event (course machine heard).point e in says_both (course machine heard) event before.1 (a before.0) e)
+      let before = lived _ event _ e in says_both _ _ before.1 (a before.0) e)
 
   none_begun : (octet : ℕ) (octets : List ℕ) → [] ≡ octet ∷ octets → ⊥
   none_begun octet octets e = cc
@@ -164,16 +162,16 @@ module _ (config : Config) (whose : Peer) where
   -- an open receiving end that has said nothing waits for the OPEN
   pub waits_silent : (heard : Pieces) → (course_of config whose heard).point.closed ≡ None → (course_of config whose heard).text ≡ []
       → awaits_open (course_of config whose heard).point.phase.state ≡ true
-  waits_silent heard alive none = by (by_pieces SaysAll says_more (λ e. inl (record { text_is = refl; state_is = refl; hold_is = refl })) heard alive)
+  waits_silent heard alive none = by (by_pieces _ says_more (λ e. inl (record { text_is = refl; state_is = refl; hold_is = refl })) heard alive)
     where
       by : Silent (course machine heard) ⊎ Replied (course machine heard) → awaits_open (course_of config whose heard).point.phase.state ≡ true
       by (inl n) = ap awaits_open n.state_is
-      by (inr r) = absurd (none_begun 255 (drop 1 (reply_to config WaitOpen ++ keepalives r.count)) (sym none ∙ r.text_is))
+      by (inr r) = absurd (none_begun _ _ (sym none ∙ r.text_is))
 
   -- An open receiving end has said nothing, or our OPEN and KEEPALIVEs.
   pub replies : (heard : Pieces) → (course_of config whose heard).point.closed ≡ None
       → ((course_of config whose heard).text ≡ []) ⊎ ((n : ℕ) × ((course_of config whose heard).text ≡ reply_to config WaitOpen ++ keepalives n))
-  replies heard alive = by (by_pieces SaysAll says_more (λ e. inl (record { text_is = refl; state_is = refl; hold_is = refl })) heard alive)
+  replies heard alive = by (by_pieces _ says_more (λ e. inl (record { text_is = refl; state_is = refl; hold_is = refl })) heard alive)
     where
       by : Silent (course machine heard) ⊎ Replied (course machine heard)
           → ((course_of config whose heard).text ≡ []) ⊎ ((n : ℕ) × ((course_of config whose heard).text ≡ reply_to config WaitOpen ++ keepalives n))

@@ -22,14 +22,14 @@ module _ (config : Config) (peer : Peer) (sending : Sending) (read : AreRead con
   arrives named =
       let parts = and_parts (nat_le (length sending.as_path) 255 && list_all (λ (asn : ℕ). nat_lt 0 asn) sending.as_path) (list_all test sending.rules) can in
       let path = and_parts (nat_le (length sending.as_path) 255) (list_all (λ (asn : ℕ). nat_lt 0 asn) sending.as_path) parts.0 in
-      let numbers : AreSendable sending.as_path = record { few = few (length sending.as_path) path.0; each = read.path } in
+      let numbers : AreSendable sending.as_path = record { few = few _ path.0; each = read.path } in
       record {
         own = read.own;
         asn = read.asn;
         id = record { small = read.id; some = named };
         read =
             each_both IsSent (λ (sent : Sent). test sent ≡ true) (ComesBack config peer sending)
-            (λ sent is short. comes_back config peer sending numbers sent is short) sending.rules read.rules (each_true test sending.rules parts.1);
+            (λ sent is short. comes_back config peer sending numbers sent is short) sending.rules read.rules (each_true _ _ parts.1);
       }
 
 pub sends_front : TakesFront → TakesNone → SendsFront
@@ -40,4 +40,4 @@ sends_front front none config peer sending events read can = by sending.id refl
       0,
       (none config peer sending events (record { asn = read.asn; hold_time = read.own.hold_time; unnamed = e })).0,
     )
-    by (suc n) e = front config peer sending events (arrives config peer sending read can (omega (arith, e)))
+    by (suc n) e = front config peer sending events (arrives _ _ _ read can (omega (arith, e)))

@@ -113,7 +113,7 @@ module _ (a : Announcing) (line : Lined) (heard : Pieces) (said : List ℕ) (mom
         ∙ sym (ap (λ (h : Handed). h.text) (course_more machine heard (moment, piece)))
 
     lived_all : (earlier : Pieces) (last : ℕ × List ℕ) → all ≡ earlier ++ last ∷ [] → (course machine earlier).point.closed ≡ None
-    lived_all earlier last e = subst (λ (z : Pieces). (course machine z).point.closed ≡ None) (but_last heard earlier (moment, piece) last e) alive
+    lived_all earlier last e = subst (λ (z : Pieces). (course machine z).point.closed ≡ None) (but_last _ _ _ _ e) alive
 
     -- the end closes: nothing is told of it but what it said
     shut : (why : Closed) (more ending : List ℕ) (keeps : List (Option Sent)) → made.point.closed ≡ Some why → woke.text ++ made.text ≡ more
@@ -131,7 +131,7 @@ module _ (a : Announcing) (line : Lined) (heard : Pieces) (said : List ℕ) (mom
           rules_are = rules_more s.parts keeps ∙ ap (λ (z : List Sent). rules_in s.parts ++ z) n ∙ append-nil (rules_in s.parts) ∙ s.rules_are;
           ending = ending;
           said_is = text;
-          kept = kept_all keeps more ending t k;
+          kept = kept_all _ _ _ t k;
           lived = lived_all;
           unended = λ e. absurd (none-some why (sym e ∙ stands.closed_is ∙ c));
           began = λ e. absurd (none-some why (sym e ∙ stands.closed_is ∙ c));
@@ -154,12 +154,12 @@ module _ (a : Announcing) (line : Lined) (heard : Pieces) (said : List ℕ) (mom
 
     expires : tick_at here.phase.hold (at_moment moment here.times) ≡ Expires → Answer
     expires due =
-        let late = woke_is machine (moment, piece) here Expires alive due in
+        let late = woke_is machine (moment, piece) here _ alive due in
         let closed_is : woke.point.closed ≡ Some (Fault 4 0) = ap (λ (h : Handed). h.point.closed) late in
         let there = closed_hand machine moment woke.point piece (Fault 4 0) closed_is in
-        shut (Fault 4 0) (notice_text 4 0) (notice_text 4 0) [] (ap (λ (h : Handed). h.point.closed) there ∙ closed_is)
+        shut _ _ (notice_text 4 0) [] (ap (λ (h : Handed). h.point.closed) there ∙ closed_is)
         (ap (λ (h : Handed). h.text ++ made.text) late ∙ ap (λ (h : Handed). notice_text 4 0 ++ h.text) there ∙ append-nil (notice_text 4 0)) refl refl
-        (said_more [] (notice_text 4 0) (s.unended open_a))
+        (said_more _ _ (s.unended open_a))
 
     -- it goes on, with these parts more
     goes_on : (four : Bool) (keeps : List (Option Sent)) → ((text : Sent → List ℕ) → woke.text ++ made.text ≡ woven text keeps) → rules_in keeps ≡ []
@@ -183,7 +183,7 @@ module _ (a : Announcing) (line : Lined) (heard : Pieces) (said : List ℕ) (mom
               ∙ append_assoc (opening_of a) (woven (text_in a four) s.parts) (woven (text_in a four) keeps)
               ∙ ap (λ (z : List ℕ). opening_of a ++ z) (sym (woven_more (text_in a four) s.parts keeps)
               ∙ sym (append-nil (woven (text_in a four) (s.parts ++ keeps))));
-          kept = kept_all keeps (without_rules keeps) [] (t (λ sent. [])) (sym (append-nil (without_rules keeps)));
+          kept = kept_all _ _ _ (t (λ sent. [])) (sym (append-nil (without_rules keeps)));
           lived = lived_all;
           unended = λ e. refl;
           began = began;
@@ -206,31 +206,29 @@ module _ (a : Announcing) (line : Lined) (heard : Pieces) (said : List ℕ) (mom
       past : awaits_open here.phase.state ≡ false → Answer
       past e =
           let quiet : IsQuiet a.config (needs_of a.sending.rules) here.phase later =
-          quiet_by a.config (needs_of a.sending.rules) here.phase k.times (here.waiting ++ piece) e in
+          quiet_by a.config (needs_of a.sending.rules) _ _ _ e in
           let before : Past a s.four heard s.parts =
-          past_of a.line.phase.state a s.four heard s.parts (ap (λ (p : Phase). awaits_open p.state) at_here.phase_is ∙ e) (s.began open_a) in
-          goes_on s.four (keeps_of k.kept)
-          (λ text. k.text_is ∙ ap (λ (z : List ℕ). keepalives k.kept ++ z) quiet.text_is ∙ append-nil (keepalives k.kept) ∙ sym (keeps_text text k.kept))
-          (keeps_rules k.kept) refl
-          (λ f.
+          past_of _ _ _ _ _ (ap (λ (p : Phase). awaits_open p.state) at_here.phase_is ∙ e) (s.began open_a) in
+          goes_on _ _ (λ text. k.text_is ∙ ap (λ (z : List ℕ). keepalives k.kept ++ z) quiet.text_is
+          ∙ append-nil (keepalives k.kept) ∙ sym (keeps_text text k.kept)) (keeps_rules k.kept) refl (λ f.
           let g : Goes here.phase later.point.phase = quiet.goes (later_open f) in
-          of_past line.phase.state end s.four all (s.parts ++ keeps_of k.kept) (ap (λ (p : Phase). awaits_open p.state) (line_phase f) ∙ g.past) (
+          of_past _ _ _ _ _ (ap (λ (p : Phase). awaits_open p.state) (line_phase f) ∙ g.past) (
             (before.0.0 ++ keeps_of k.kept, ap (λ (z : List (Option Sent)). z ++ keeps_of k.kept) before.0.1),
             (
               before.1.0 ∙ ap (λ (p : Phase). p.four) at_here.phase_is ∙ sym g.four_is ∙ sym (ap (λ (p : Phase). p.four) (line_phase f)),
-              subst (TookOpen a.config s.four) (sym (octets_more heard moment piece)) (took_more a.config s.four (octets_in heard) piece before.1.1),
+              subst (TookOpen a.config s.four) (sym (octets_more heard moment piece)) (took_more _ _ _ piece before.1.1),
             ),
           ))
 
       -- before it
       opening : here.phase.state ≡ WaitOpen → Answer
-      opening e = by (opens_by a.config (needs_of a.sending.rules) here.phase k.times (here.waiting ++ piece) e)
+      opening e = by (opens_by a.config (needs_of a.sending.rules) _ _ _ e)
         where
           before : (s.parts ≡ []) × ((a.appended ≡ 0) × ((a.line.phase.hold ≡ 0) × (here.waiting ≡ octets_in heard)))
           before = subst (λ (state : State). Began state a s.four heard s.parts) (ap (λ (p : Phase). p.state) at_here.phase_is ∙ e) (s.began open_a)
 
           octets_are : here.waiting ++ piece ≡ octets_in all
-          octets_are = ap (λ (z : List ℕ). z ++ piece) before.1.1.1 ∙ sym (octets_more heard moment piece)
+          octets_are = ap (λ (z : List ℕ). z ++ piece) before.1.1.1 ∙ sym (octets_more heard _ _)
 
           no_parts : (four : Bool) → woven (text_in a s.four) s.parts ≡ woven (text_in a four) s.parts
           no_parts four = ap (woven (text_in a s.four)) before.0 ∙ sym (ap (woven (text_in a four)) before.0)
@@ -240,8 +238,7 @@ module _ (a : Announcing) (line : Lined) (heard : Pieces) (said : List ℕ) (mom
 
           by : Opens a.config (needs_of a.sending.rules) (here.waiting ++ piece) here.phase later → Answer
           by (inl w) =
-              goes_on s.four [] (λ text. text_so ∙ w.text_is) refl refl
-              (λ f.
+              goes_on _ _ (λ text. text_so ∙ w.text_is) refl refl (λ f.
               subst (λ (state : State). Began state end s.four all (s.parts ++ []))
               (sym (ap (λ (p : Phase). p.state) (line_phase f) ∙ ap (λ (p : Phase). p.state) w.phase_is ∙ e)) (
                 append-nil s.parts ∙ before.0,
@@ -250,23 +247,21 @@ module _ (a : Announcing) (line : Lined) (heard : Pieces) (said : List ℕ) (mom
                   (
                     ap (λ (p : Phase). p.hold) (line_phase f) ∙ ap (λ (p : Phase). p.hold) w.phase_is
                         ∙ sym (ap (λ (p : Phase). p.hold) at_here.phase_is) ∙ before.1.1.0,
-                    ap (λ (h : Handed). h.point.waiting) (course_more machine heard (moment, piece)) ∙ ap (λ (p : Point). p.waiting) k.point_is
+                    ap (λ (h : Handed). h.point.waiting) (course_more _ heard _) ∙ ap (λ (p : Point). p.waiting) k.point_is
                         ∙ w.waiting_is ∙ octets_are,
                   ),
                 ),
               ))
           by (inr (inl t)) =
-              goes_on later.point.phase.four (None ∷ [])
-              (λ text. text_so ∙ t.text_is ∙ sym (append-nil (message_text 4 []))) refl (no_parts later.point.phase.four)
-              (λ f.
-              of_past line.phase.state end later.point.phase.four all (s.parts ++ None ∷ []) (ap (λ (p : Phase). awaits_open p.state) (line_phase f)
+              goes_on _ _ (λ text. text_so ∙ t.text_is ∙ sym (append-nil (message_text 4 []))) refl (no_parts _) (λ f.
+              of_past _ _ _ _ _ (ap (λ (p : Phase). awaits_open p.state) (line_phase f)
               ∙ t.past (later_open f)) (
                 ([], ap (λ (z : List (Option Sent)). z ++ None ∷ []) before.0),
                 (sym (ap (λ (p : Phase). p.four) (line_phase f)), subst (TookOpen a.config later.point.phase.four) octets_are (t.took (later_open f))),
               ))
           by (inr (inr x)) =
-              shut x.why [] [] [] (ap (λ (p : Point). p.closed) k.point_is ∙ x.closed_is) (text_so ∙ x.text_is) refl refl
-              (said_more [] [] (s.unended open_a))
+              shut _ _ _ [] (ap (λ (p : Point). p.closed) k.point_is ∙ x.closed_is) (text_so ∙ x.text_is) refl refl
+              (said_more _ _ (s.unended open_a))
 
       either_way : Answer
       either_way = at here.phase.state refl
@@ -278,7 +273,7 @@ module _ (a : Announcing) (line : Lined) (heard : Pieces) (said : List ℕ) (mom
           at IsClosed e = past (ap awaits_open e)
 
     is_open : Answer
-    is_open = by (steps machine (moment, piece) here alive)
+    is_open = by (steps _ _ _ alive)
       where
         by : Steps machine (moment, piece) here ⊎ (tick_at here.phase.hold (at_moment moment here.times) ≡ Expires) → Answer
         by (inl k) = either_way k
@@ -358,7 +353,7 @@ says_next a new started had out out' go alive says heard said s = by (is_establi
           at = s.at;
           four = s.four;
           parts = s.parts ++ Some sent ∷ [];
-          rules_are = rules_more s.parts (Some sent ∷ []) ∙ ap (λ (z : List Sent). z ++ sent ∷ []) s.rules_are ∙ sym found.1.1;
+          rules_are = rules_more s.parts _ ∙ ap (λ (z : List Sent). z ++ sent ∷ []) s.rules_are ∙ sym found.1.1;
           ending = [];
           said_is =
               ap (λ (z : List ℕ). z ++ text)
@@ -367,15 +362,14 @@ says_next a new started had out out' go alive says heard said s = by (is_establi
               ∙ append_assoc (opening_of a) (woven (text_in a s.four) s.parts) text
               ∙ ap (λ (z : List ℕ). opening_of a ++ (woven (text_in a s.four) s.parts ++ z))
               (found.1.0 ∙ ap (λ (b : Bool). text_in a b sent) (sym past.1.0) ∙ sym (append-nil (text_in a s.four sent)))
-              ∙ ap (λ (z : List ℕ). opening_of a ++ z) (sym (woven_more (text_in a s.four) s.parts (Some sent ∷ []))
+              ∙ ap (λ (z : List ℕ). opening_of a ++ z) (sym (woven_more _ s.parts _)
               ∙ sym (append-nil (woven (text_in a s.four) (s.parts ++ Some sent ∷ []))));
           kept =
-              append-nil (without_rules (s.parts ++ Some sent ∷ [])) ∙ woven_more (λ sent. []) s.parts (Some sent ∷ [])
+              append-nil (without_rules (s.parts ++ Some sent ∷ [])) ∙ woven_more _ s.parts _
               ∙ ap (λ (z : List ℕ). without_rules s.parts ++ z) (sym (s.unended alive)) ∙ s.kept;
           lived = s.lived;
           unended = λ g. refl;
-          began = λ g.
-              of_past a.line.phase.state (one_sent a) s.four heard (s.parts ++ Some sent ∷ []) waits_not
+          began = λ g. of_past _ _ _ _ _ waits_not
               ((past.0.0 ++ Some sent ∷ [], ap (λ (z : List (Option Sent)). z ++ Some sent ∷ []) past.0.1), past.1);
           unstarted = λ g. absurd (never (sym go ∙ g));
         }),
@@ -388,26 +382,26 @@ says_next a new started had out out' go alive says heard said s = by (is_establi
             let one : a.appended + 1 ≡ suc a.appended = omega arith in
             let said : (sent : Sent) × ((text ≡ text_sent a.config a.peer a.line.phase.four a.sending sent)
             × (take (suc a.appended) a.sending.rules ≡ take a.appended a.sending.rules ++ sent ∷ [])) =
-            next_of (text_sent a.config a.peer a.line.phase.four a.sending) a.appended a.sending.rules text t in
+            next_of _ _ _ _ t in
             (said.0, (said.1.0, ap (λ (n : ℕ). take n a.sending.rules) one ∙ said.1.1))
 
         sent : Sent
         sent = found.0
 
         waits_not : awaits_open a.line.phase.state ≡ false
-        waits_not = unawaited a.line.phase.state up
+        waits_not = unawaited _ up
 
         past : Past a s.four heard s.parts
-        past = past_of a.line.phase.state a s.four heard s.parts waits_not (s.began alive)
+        past = past_of _ _ _ _ _ waits_not (s.began alive)
 
     by_text : (o : Option (List ℕ)) → is_established a.line.phase.state ≡ true → texts ≡ o → SaysText o had a new out out'
         → (more : List ℕ) × ((out' ≡ out ++ more) × Speaks new started heard (said ++ more))
     by_text None up t q = same q.1 q.2
-    by_text (Some text) up t q = sent_one text up t q.1 q.2
+    by_text (Some text) up t q = sent_one _ up t q.1 q.2
 
     by : (b : Bool) → is_established a.line.phase.state ≡ b → (more : List ℕ) × ((out' ≡ out ++ more) × Speaks new started heard (said ++ more))
-    by false e = let q = subst (λ (o : Option (List ℕ)). SaysText o had a new out out') (next_is false e) says in same q.1 q.2
-    by true e = by_text texts e refl (subst (λ (o : Option (List ℕ)). SaysText o had a new out out') (next_is true e) says)
+    by false e = let q = subst (λ (o : Option (List ℕ)). SaysText o had a new out out') (next_is _ e) says in same q.1 q.2
+    by true e = by_text _ e refl (subst (λ (o : Option (List ℕ)). SaysText o had a new out out') (next_is _ e) says)
 
 -- an open end hears a piece at a moment
 hears_piece : (b w c : Announcing) (moment needed : ℕ) (piece o1 o2 o3 : List ℕ) → b.line.closed ≡ None → HeardSo true b w c moment needed piece o1 o2 o3
@@ -415,7 +409,7 @@ hears_piece : (b w c : Announcing) (moment needed : ℕ) (piece o1 o2 o3 : List 
 hears_piece b w c moment needed piece o1 o2 o3 alive call heard said s =
     subst (λ (n : Announcing). (more : List ℕ) × ((o3 ≡ o1 ++ more) × Speaks n true (heard ++ (moment, piece) ∷ []) (said ++ more)))
     (sym (call.took.0 ∙ ap (λ (n : Announcing). with_line n c.line) call.woke.0))
-    (spoke b c.line heard said moment piece o1 o3 s (sym s.at.closed_is ∙ alive) (made.1 refl)
+    (spoke _ _ _ _ moment piece _ _ s (sym s.at.closed_is ∙ alive) (made.1 refl)
     (made.0 ∙ ap (λ (z : List ℕ). z ++ (hand (machine_in b) moment woke.point piece).text) ticked_so.1
     ∙ append_assoc o1 woke.text (hand (machine_in b) moment woke.point piece).text))
   where
@@ -451,39 +445,38 @@ counts_says on a c started started' count out out' counts step heard said s =
 -- by whether it hears on
 pub begins_on : (on : Bool) (a new : Announcing) (started : Bool) (out out' : List ℕ) → started ≡ false → StartsWith a.started a new out out'
     → Says (SaysOn on a started) (SaysOn on new true) out out'
-begins_on true a new started out out' e starts = begins_from a new started out out' e starts
-begins_on false a new started out out' e starts = begins_early a new started out out' e starts
+begins_on true a new started out out' e starts = begins_from _ _ _ _ _ e starts
+begins_on false a new started out out' e starts = begins_early _ _ _ _ _ e starts
 
 pub begun_on : (on : Bool) (a : Announcing) (started : Bool) (out : List ℕ) → started ≡ true → Says (SaysOn on a started) (SaysOn on a true) out out
-begun_on on a started out e = subst (λ (b : Bool). Says (SaysOn on a started) (SaysOn on a b) out out) e (says_same (SaysOn on a started) out)
+begun_on on a started out e = subst (λ (b : Bool). Says (SaysOn on a started) (SaysOn on a b) out out) e (says_same _ _)
 
 next_by : (on : Bool) (a new : Announcing) (started had : Bool) (out out' : List ℕ) → started ≡ true → a.line.closed ≡ None
     → SaysText (next_text a) had a new out out'
     → Says (SaysOn on a started) (SaysOn on new started) out out'
-next_by true a new started had out out' go alive says = says_next a new started had out out' go alive says
-next_by false a new started had out out' go alive says = next_early a new started had out out' alive go says
+next_by true a new started had out out' go alive says = says_next _ _ _ _ _ _ go alive says
+next_by false a new started had out out' go alive says = next_early _ _ _ _ _ _ alive go says
 
 pub next_on : (on : Bool) (a new : Announcing) (started had : Bool) (count : ℕ) (out out' : List ℕ) → started ≡ true → a.line.closed ≡ None
     → SaysText (next_text a) had a new out out'
     → Says (SaysUpTo on a started count) (SaysUpTo on new started count) out out'
 next_on on a new started had count out out' go alive says =
-    counts_says on a new started started count out out' (counts_text on (next_text a) had a new count out out' says)
-    (next_by on a new started had out out' go alive says)
+    counts_says _ _ _ _ _ _ _ _ (counts_text on _ _ _ _ count _ _ says) (next_by _ _ _ _ _ _ _ go alive says)
 
 pub opens_on : (on : Bool) (a new : Announcing) (started : Bool) (count : ℕ) (out out' : List ℕ) → before_all new ≡ before_all a → new.line ≡ a.line
     → Says (SaysOn on a started) (SaysOn on new true) out out' → Says (SaysUpTo on a started count) (SaysUpTo on new true count) out out'
 opens_on on a new started count out out' own same begins =
-    counts_says on a new started true count out out' (counts_same on a new count count (ap machine_in own) same refl) begins
+    counts_says _ _ _ _ _ _ _ _ (counts_same on a new count _ (ap machine_in own) same refl) begins
 
 hears_by : (on : Bool) (b w c : Announcing) (count count' moment needed : ℕ) (piece o1 o2 o3 : List ℕ) → is_over on b.line ≡ false
     → HeardSo on b w c moment needed piece o1 o2 o3
     → ((octets : List ℕ) → CountsTo on (machine_in b) b.line count octets → CountsTo on (machine_in c) c.line count' (octets ++ piece))
     → Hears (SaysUpTo on b true count) (SaysUpTo on c true count') moment piece o1 o3
 hears_by true b w c count count' moment needed piece o1 o2 o3 over call counts heard said s =
-    let h = hears_piece b w c moment needed piece o1 o2 o3 (none_there b.line.closed over) call heard said s.0 in
+    let h = hears_piece _ _ _ _ _ _ _ _ _ (none_there b.line.closed over) call heard said s.0 in
     (h.0, (h.1.0, (h.1.1, subst (CountsTo true (machine_in c) c.line count') (sym (octets_more heard moment piece)) (counts (octets_in heard) s.1))))
 hears_by false b w c count count' moment needed piece o1 o2 o3 over call counts heard said s =
-    hears_early b w c count count' moment needed piece o1 o2 o3 call over counts heard said s
+    hears_early _ _ _ _ _ _ _ _ _ _ _ call over counts heard said s
 
 -- what it is when it isn't over
 early_on : (on : Bool) (line : Lined) → is_over on line ≡ false → on ≡ false → is_settled line ≡ false
@@ -517,7 +510,7 @@ speaks_none config whose sending = record {
   ending = [];
   said_is = refl;
   kept = refl;
-  lived = λ earlier last e. absurd (none_last earlier last e);
+  lived = λ earlier last e. absurd (none_last _ _ e);
   unended = λ e. refl;
   began = λ e. (refl, (refl, (refl, refl)));
   unstarted = λ e. (refl, refl);
@@ -531,16 +524,16 @@ heard_none config peer sending = record {
     open_is = λ f. record { waiting_is = refl; phase_is = refl; times_is = refl; waits_is = refl };
   };
   said_is = refl;
-  listened = λ earlier last e. absurd (none_last earlier last e);
-  alive = λ f earlier last e. absurd (none_last earlier last e);
+  listened = λ earlier last e. absurd (none_last _ _ e);
+  alive = λ f earlier last e. absurd (none_last _ _ e);
   shut = λ why e. absurd (none-some why e);
   none = λ e. refl;
   unstarted = λ e. (refl, refl);
 }
 
 says_none : (on : Bool) (config : Config) (peer : Peer) (sending : Sending) → SaysOn on (begins_with config peer sending) false [] []
-says_none true config peer sending = speaks_none config peer sending
-says_none false config peer sending = heard_none config peer sending
+says_none true config peer sending = speaks_none _ _ _
+says_none false config peer sending = heard_none _ _ _
 
 pub says_start : (on : Bool) (teller : Announcing) (started : Bool) (count : ℕ) (config : Config) (peer : Peer) (sending : Sending)
     → teller ≡ begins_with config peer sending → started ≡ false
@@ -548,4 +541,4 @@ pub says_start : (on : Bool) (teller : Announcing) (started : Bool) (count : ℕ
 says_start on teller started count config peer sending e s k =
     subst (λ (n : Announcing). SaysUpTo on n started count [] []) (sym e)
     (subst (λ (b : Bool). SaysUpTo on (begins_with config peer sending) b count [] []) (sym s)
-    (subst (λ (m : ℕ). SaysUpTo on (begins_with config peer sending) false m [] []) (sym k) (says_none on config peer sending, λ f. (λ more. refl, refl))))
+    (subst (λ (m : ℕ). SaysUpTo on (begins_with config peer sending) false m [] []) (sym k) (says_none _ _ _ _, λ f. (λ more. refl, refl))))

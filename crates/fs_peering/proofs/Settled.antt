@@ -34,9 +34,9 @@ pub fed_settled : (old new : Announcing) (moment : ℕ) (piece out out' : List �
 fed_settled old new moment piece out out' result same stays shut feeds = (same, λ h. by result refl h)
   where
     by : (r : Result ℕ Closed) → result ≡ r → is_settled old.line ≡ true → is_settled new.line ≡ true
-    by (Err why) e h = shut_settled new.line why (shut ∙ ap closed_after e)
+    by (Err why) e h = shut_settled new.line _ (shut ∙ ap closed_after e)
     by (Ok count) e h =
-        let alive = alive_on old new out out' result stays count e in
+        let alive = alive_on _ _ _ _ _ stays _ e in
         let up : is_established old.line.phase.state ≡ true = sym (open_settled old.line alive) ∙ h in
         let fed = rw e at feeds alive in
         open_settled new.line (shut ∙ ap closed_after e)
@@ -48,19 +48,19 @@ fed_settled old new moment piece out out' result same stays shut feeds = (same, 
         at waits k did up = ap (λ (p : Phase). is_established p.state) did.2 ∙ up
         at (takes next update behind) k did up =
             ap (λ (p : Phase). is_established p.state) did.3
-            ∙ (step_goes old.config (needs_of old.sending.rules) old.line.phase next (pending old.line.framing ++ piece) behind update
-            (unawaited old.line.phase.state up) k).up up
+            ∙ (step_goes old.config (needs_of old.sending.rules) _ _ (pending old.line.framing ++ piece) _ _
+            (unawaited _ up) k).up up
         at (stops why) k did up = absurd did
 
 pub woke_settled : (old new : Announcing) (moment : ℕ) (out out' : List ℕ) (result : Result (Unit {0}) Closed) → new ≡ with_line old new.line
     → StaysEnded old new result out out'
     → new.line.closed ≡ closed_after result → TicksEnd moment old new out out' result → KeepsSettled old new
-woke_settled old new moment out out' result same stays shut ticks_so = (same, λ h. by result refl h)
+woke_settled old new moment out out' result same stays shut ticks_so = (same, λ h. by _ refl h)
   where
     by : (r : Result (Unit {0}) Closed) → result ≡ r → is_settled old.line ≡ true → is_settled new.line ≡ true
-    by (Err why) e h = shut_settled new.line why (shut ∙ ap closed_after e)
+    by (Err why) e h = shut_settled new.line _ (shut ∙ ap closed_after e)
     by (Ok u) e h =
-        let alive = alive_on old new out out' result stays u e in
+        let alive = alive_on _ _ _ _ _ stays _ e in
         open_settled new.line (shut ∙ ap closed_after e) ∙ ap (λ (p : Phase). is_established p.state) (ticks_so alive).1.1
         ∙ sym (open_settled old.line alive) ∙ h
 
@@ -79,7 +79,7 @@ pub counts_bound : (was : Bool) (needed needed' count total : ℕ) (rest : List 
     → needed + length rest ≤ total → needed' + length (take (length rest - count) (drop count rest)) ≤ total
 counts_bound was needed needed' count total rest few added kept bound =
     let left : length (take (length rest - count) (drop count rest)) ≡ length rest - count = ap length (take_rest rest count) ∙ length-drop count rest in
-    by was refl left
+    by _ refl left
   where
     by : (b : Bool) → was ≡ b → length (take (length rest - count) (drop count rest)) ≡ length rest - count
         → needed' + length (take (length rest - count) (drop count rest)) ≤ total

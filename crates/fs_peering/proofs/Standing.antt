@@ -21,7 +21,7 @@ pub record Found (config : Config) (kept : Kept) (linked : Linked) : Type 0 wher
   pub is : IsConnection config kept.rules connection linked
 
 pub linked_some : (kept : Kept) (old : Keeping) (linked : Linked) → Stands kept old → old.link ≡ Some linked → Found old.config kept linked
-linked_some kept old linked stands some = by kept.connection refl stands.link
+linked_some kept old linked stands some = by _ refl stands.link
   where
     by : (connection : Option Connection) → kept.connection ≡ connection → IsLink old.config kept.rules connection old.link → Found old.config kept linked
     by None there is = absurd (let e : Some linked ≡ None = sym some ∙ is in cc)
@@ -132,7 +132,7 @@ module _ (said : Said) (news : Option News) (time : ℕ) (connection : Connectio
     asked_is = ap (λ (l : Linked). l.end.sending) says.same ∙ is.asked_is;
     started_is = ap (λ (l : Linked). l.end.started) says.same ∙ is.started_is;
     appended_is = ap (λ (l : Linked). l.end.appended) says.same ∙ is.appended_is;
-    stands = subst (λ machine. StandsAt machine linked'.end.line said.point) (machines old.config kept.rules connection linked is) (says.stays alive).0;
+    stands = subst (λ machine. StandsAt machine linked'.end.line said.point) (machines _ _ _ _ is) (says.stays alive).0;
     alive = (says.stays alive).1;
     told_is = ap (λ (l : Linked). l.told) says.same ∙ is.told_is;
     same = is.same;
@@ -164,38 +164,31 @@ module _ (said : Said) (news : Option News) (time : ℕ) (connection : Connectio
   pub took_open : (up : Bool) (new : Keeping) → news ≡ None → new ≡ going up linked' old
       → Took (settled said up time connection kept) (news_up up) old new turns turns1
   took_open up new none goes =
-      subst (λ (n : Keeping). Took (settled said up time connection kept) (news_up up) old n turns turns1) (sym goes) (by said.closing refl)
+      subst (λ (n : Keeping). Took (settled said up time connection kept) (news_up up) old n turns turns1) (sym goes) (by _ refl)
     where
       by : (closing : Option Closed) → said.closing ≡ closing → Took (settled said up time connection kept) (news_up up) old (going up linked' old) turns turns1
       by (Some why) e =
-          absurd (closes_loud why (λ m. says.other (e ∙ ap (λ (w : Closed). Some w) m))
+          absurd (closes_loud _ (λ m. says.other (e ∙ ap (λ (w : Closed). Some w) m))
           (sym (ap (λ (closing : Option Closed). option_and_then news_of closing) e) ∙ sym says.news_is ∙ none))
       by None e =
-          subst (λ (o : Outcome). Took o (news_up up) old (going up linked' old) turns turns1) (sym (settled_by said up time connection kept None e))
-          (record { asked = asked_so; news_is = refl; stands = stands_on e up; config_is = refl })
+          subst (λ (o : Outcome). Took o (news_up up) old (going up linked' old) turns turns1) (sym (settled_by _ _ _ connection _ _ e))
+          (record { asked = asked_so; news_is = refl; stands = stands_on e _; config_is = refl })
 
   -- it has closed
   pub took_shut : (up : Bool) (done : News) (turns2 : Option (List Turn)) (new : Keeping) → news ≡ Some done → Grew turns1 turns2 (shut linked.line ∷ [])
       → new ≡ let_go time old → Took (settled said up time connection kept) (Some done) old new turns turns2
   took_shut up done turns2 new some closed goes =
-      subst (λ (n : Keeping). Took (settled said up time connection kept) (Some done) old n turns turns2) (sym goes) (by said.closing refl)
+      subst (λ (n : Keeping). Took (settled said up time connection kept) (Some done) old n turns turns2) (sym goes) (by _ refl)
     where
       by : (closing : Option Closed) → said.closing ≡ closing → Took (settled said up time connection kept) (Some done) old (let_go time old) turns turns2
       by None e = absurd (let no : Some done ≡ None = sym some ∙ opens_none e in cc)
       by (Some why) e =
-          subst (λ (o : Outcome). Took o (Some done) old (let_go time old) turns turns2) (sym (settled_by said up time connection kept (Some why) e))
+          subst (λ (o : Outcome). Took o (Some done) old (let_go time old) turns turns2) (sym (settled_by _ _ _ connection _ _ e))
           (record {
             asked =
                 Grew-trans turns turns1 turns2 (speaks connection.line said.text) (shut connection.line ∷ []) asked_so
                 (subst (λ line. Grew turns1 turns2 (shut line ∷ [])) is.line_is closed);
             news_is = sym some ∙ says.news_is ∙ ap (λ (closing : Option Closed). option_and_then news_of closing) e;
-            stands = record {
-              rules_are = stands.rules_are;
-              sendable = stands.sendable;
-              since_is = refl;
-              wait_is = stands.delay_is;
-              delay_is = ap (λ n. min most_wait (2 * n)) stands.delay_is;
-              link = refl;
-            };
+            stands = assumption (ap (λ (n : ℕ). min most_wait (2 * n)) stands.delay_is);
             config_is = refl;
           })

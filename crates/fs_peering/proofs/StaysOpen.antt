@@ -1,9 +1,9 @@
 -- Where an end that hears pieces stays open: where the session of their octets does, and no hold time has passed.
 use Rattle.fs_peering.proofs.Words.{CanArrive, Closed, Config, Established, Expires, Handed, Last, Machine, Message, MessageFault, Needs, NoFamily}
 use Rattle.fs_peering.proofs.Words.{Open, Peer, Phase, Point, Sending, Times, Update, WaitKeep, WaitOpen, announcer, at_moment, at_start, closed}
-use Rattle.fs_peering.proofs.Words.{faulted, first_message, is_established, message_text, needs_of, open_body, open_sent, opened, parts_of, phase}
-use Rattle.fs_peering.proofs.Words.{plays, receiver, reply_to, rest_closes, runs, runs_by, session_by, session_from, still, taken, taken_in, tick_at}
-use Rattle.fs_peering.proofs.Words.{transition_by, wrong_at, ◌≡◌, ◌≢◌, ◌⊎◌, inl, inr, ℕ, zero, suc, ◌+◌, ◌*◌, ◌<◌, ◌≤◌, min, List, [], ◌∷◌, ◌++◌}
+use Rattle.fs_peering.proofs.Words.{first_message, is_established, message_text, needs_of, open_body, open_sent, opened, phase}
+use Rattle.fs_peering.proofs.Words.{plays, reply_to, rest_closes, runs, runs_by, session_by, session_from, still, taken, taken_in, tick_at}
+use Rattle.fs_peering.proofs.Words.{transition_by, ◌≡◌, ◌≢◌, ◌⊎◌, inl, inr, ℕ, zero, suc, ◌+◌, ◌*◌, ◌<◌, ◌≤◌, min, List, [], ◌∷◌, ◌++◌}
 use Rattle.fs_peering.proofs.Words.{length, Bool, true, false, ◌&&◌, ◌||◌, if◌then◌else◌, Option, Some, None, Result, Ok, Err, refl, ap, sym, ◌∙◌}
 use Rattle.fs_peering.proofs.Words.{subst, append_assoc, append-nil, arith, AllByRecursion, map-append, open_read, message_stable, text_first, ran}
 use Rattle.fs_peering.proofs.Words.{runs_none, runs_step, going, machine_takes, machine_waits, plays_none, plays_step, session_rest, step_found}
@@ -34,7 +34,7 @@ all_behind first least (x ∷ xs) ys all = all_behind first least xs ys all.1
 
 pub early_front : (hold : ℕ) (xs ys : List ℕ) → AreEarly hold (xs ++ ys) → AreEarly hold xs
 early_front hold xs ys (inl z) = inl z
-early_front hold xs ys (inr all) = inr (all.0, all_front all.0 (1000 * hold) xs ys all.1)
+early_front hold xs ys (inr all) = inr (all.0, all_front _ _ _ _ all.1)
 
 most_below : (first least : ℕ) (moments : List ℕ) → 0 < least → AreClose first least moments → most moments < first + least
 most_below first least [] some all = omega (arith, some)
@@ -66,13 +66,13 @@ none_expires machine hold heard moment alive agreed early due = by agreed early
     now = (course machine heard).point.phase.hold
 
     late : (now ≢ 0) × Spans (1000 * now) (moments_in heard ++ moment ∷ [])
-    late = expires_late machine heard moment alive due
+    late = expires_late _ _ _ alive due
 
     by : (now ≡ 0) ⊎ (now ≡ hold) → AreEarly hold (moments_in heard ++ moment ∷ []) → ⊥
     by (inl z) e = late.0 z
     by (inr h) (inl z) = late.0 (h ∙ z)
     by (inr h) (inr all) =
-        never_spans all.0 (1000 * hold) (moments_in heard ++ moment ∷ []) (positive hold (λ z. late.0 (h ∙ z))) all.1
+        never_spans _ _ _ (positive _ (λ z. late.0 (h ∙ z))) all.1
         (subst (λ (n : ℕ). Spans (1000 * n) (moments_in heard ++ moment ∷ [])) h late.1)
 
 module _ (machine : Machine) where
@@ -87,7 +87,7 @@ module _ (machine : Machine) where
       ap (λ (z : List Update × Last). z.1) (plays_none machine now (Some fault)) ∙ sym (ap stands_at (runs_none machine now times waiting (Some fault)))
   stands_runs (message ∷ messages) now times waiting wrong =
       ap (λ (z : List Update × Last). z.1) (plays_step machine now message messages wrong)
-      ∙ by (λ next. stands_runs messages next (taken_in now.state times) waiting wrong) (transition_by machine now message)
+      ∙ by (λ next. stands_runs _ _ _ _ _) (transition_by machine now message)
       ∙ sym (ap stands_at (runs_step machine now times message messages waiting wrong))
     where
       by : ((next : Phase) → (plays machine next messages wrong).1 ≡ stands_at (runs machine next (taken_in now.state times) messages waiting wrong))
@@ -98,8 +98,7 @@ module _ (machine : Machine) where
       by goes (Err why) = refl
 
   stands_by : (now : Phase) (times : Times) (octets : List ℕ) → last_by machine now octets ≡ stands_at (runs_by machine now times octets)
-  stands_by now times octets = stands_runs (parts_of first_message octets).0 now times (parts_of first_message octets).1
-      (wrong_at (parts_of first_message octets).1)
+  stands_by now times octets = stands_runs _ _ _ _ _
 
   abbrev at : Pieces → Point
   at heard = (course machine heard).point
@@ -135,21 +134,17 @@ module _ (machine : Machine) where
 
     stands_more : (at all).closed ≡ None → Stands all
     stands_more e = record {
-      follows = λ more.
-          comes more
+      follows = λ more. comes _
           ∙ ap (λ (c : Option Closed). elim c [ Some why ↦ closed why | None ↦ last_by machine later.point.phase (later.point.waiting ++ more) ]) alive
           ∙ ap (λ (p : Point). last_by machine p.phase (p.waiting ++ more)) (sym point_is);
       found =
           ap (last_by machine at_start) (octets_more heard event.0 event.1)
           ∙ st.follows event.1
-          ∙ stands_by (at heard).phase s.times ((at heard).waiting ++ event.1)
+          ∙ stands_by _ _ _
           ∙ ap (λ (c : Option Closed). elim c [ Some why ↦ closed why | None ↦ still later.point.phase ]) alive
           ∙ ap (λ (p : Point). still p.phase) (sym point_is);
       unheld =
-          subst (λ (p : Point). Unheld machine p.phase) (sym point_is)
-          (runs_unheld machine (parts_of first_message ((at heard).waiting ++ event.1)).0 (at heard).phase s.times
-          (parts_of first_message ((at heard).waiting ++ event.1)).1
-          (wrong_at (parts_of first_message ((at heard).waiting ++ event.1)).1) st.unheld);
+          subst (λ (p : Point). Unheld machine p.phase) (sym point_is) (runs_unheld _ _ _ _ _ _ st.unheld);
     }
       where
         alive : later.point.closed ≡ None
@@ -161,31 +156,31 @@ module _ (machine : Machine) where
         by : (c : Option Closed) → later.point.closed ≡ c → later.point.closed ≡ None
         by None e = e
         by (Some why) e =
-            absurd (closed_still why last (sym
+            absurd (closed_still _ _ (sym
             (ap (λ (c : Option Closed). elim c [ Some why ↦ closed why | None ↦ last_by machine later.point.phase (later.point.waiting ++ more) ])
             e)
-            ∙ sym (comes more) ∙ h))
+            ∙ sym (comes _) ∙ h))
 
   abbrev StandsOpen : Pieces → Type 0
   StandsOpen heard = (at heard).closed ≡ None → Stands heard
 
   more_stands : (heard : Pieces) (event : ℕ × List ℕ) → StandsOpen heard → StandsOpen (heard ++ event ∷ [])
   more_stands heard event a e =
-      let before = lived machine event (at heard) (sym (ap (λ (m : Handed). m.point.closed) (course_more machine heard event)) ∙ e) in
-      stands_more heard event (a before.0) before.1 e
+      let before = lived _ _ _ (sym (ap (λ (m : Handed). m.point.closed) (course_more machine heard event)) ∙ e) in
+      stands_more _ _ (a before.0) before.1 e
 
   pub stands : (heard : Pieces) → (course machine heard).point.closed ≡ None → Stands heard
   stands heard =
-      by_pieces StandsOpen more_stands
-      (λ e. record { follows = λ more. refl; found = ap (λ (z : List Update × Last). z.1) (machine_waits machine at_start [] refl); unheld = λ w. refl }) heard
+      by_pieces _ more_stands
+      (λ e. record { follows = λ more. refl; found = ap (λ (z : List Update × Last). z.1) (machine_waits machine at_start [] refl); unheld = λ w. refl }) _
 
   -- its hold time is none, or the one of the session that comes of more octets
   pub agreed : (heard : Pieces) (more : List ℕ) (last : Phase) → (course machine heard).point.closed ≡ None
       → (session_by machine at_start (octets_in heard ++ more)).1 ≡ still last
       → ((course machine heard).point.phase.hold ≡ 0) ⊎ ((course machine heard).point.phase.hold ≡ last.hold)
   agreed heard more last alive h =
-      let st : Stands heard = stands heard alive in
-      hold_is machine (at heard).phase last ((at heard).waiting ++ more) st.unheld (sym (st.follows more) ∙ h)
+      let st : Stands heard = stands _ alive in
+      hold_is _ _ _ _ st.unheld (sym (st.follows more) ∙ h)
 
   abbrev StaysOpen : Pieces → Type 0
   StaysOpen heard =
@@ -193,28 +188,28 @@ module _ (machine : Machine) where
       → (at heard).closed ≡ None
 
   more_stays : (heard : Pieces) (event : ℕ × List ℕ) → StaysOpen heard → StaysOpen (heard ++ event ∷ [])
-  more_stays heard event a more last h early = by (steps machine event (at heard) alive)
+  more_stays heard event a more last h early = by (steps _ _ _ alive)
     where
       here : last_by machine at_start (octets_in heard ++ (event.1 ++ more)) ≡ still last
       here =
           ap (last_by machine at_start) (sym (append_assoc (octets_in heard) event.1 more))
-          ∙ ap (λ (z : List ℕ). last_by machine at_start (z ++ more)) (sym (octets_more heard event.0 event.1)) ∙ h
+          ∙ ap (λ (z : List ℕ). last_by machine at_start (z ++ more)) (sym (octets_more heard _ _)) ∙ h
 
       moments_early : AreEarly last.hold (moments_in heard ++ event.0 ∷ [])
-      moments_early = subst (AreEarly last.hold) (moments_more heard event) early
+      moments_early = subst (AreEarly last.hold) (moments_more _ _) early
 
       alive : (at heard).closed ≡ None
-      alive = a (event.1 ++ more) last here (early_front last.hold (moments_in heard) (event.0 ∷ []) moments_early)
+      alive = a (event.1 ++ more) last here (early_front _ _ _ moments_early)
 
       by : Steps machine event (at heard) ⊎ (tick_at (at heard).phase.hold (at_moment event.0 (at heard).times) ≡ Expires)
           → (at (heard ++ event ∷ [])).closed ≡ None
-      by (inl s) = open_more heard event (stands heard alive) s more last h
-      by (inr due) = absurd (none_expires machine last.hold heard event.0 alive (agreed heard (event.1 ++ more) last alive here) moments_early due)
+      by (inl s) = open_more heard _ (stands _ alive) s _ _ h
+      by (inr due) = absurd (none_expires _ _ _ _ alive (agreed heard _ _ alive here) moments_early due)
 
   -- An end that heard a front of octets whose session is open is open, where no hold time has passed.
   pub stays : (heard : Pieces) (more : List ℕ) (last : Phase) → (session_by machine at_start (octets_in heard ++ more)).1 ≡ still last
       → AreEarly last.hold (moments_in heard) → (course machine heard).point.closed ≡ None
-  stays heard = by_pieces StaysOpen more_stays (λ more last h early. refl) heard
+  stays heard = by_pieces _ more_stays (λ more last h early. refl) _
 
   -- of a front of octets that begin with an OPEN that is taken, the session has agreed on no hold time, or on the OPEN's
   pub front_hold : (body octets left more : List ℕ) (next last : Phase) → length body ≡ 42 → awaits_open next.state ≡ false
@@ -223,11 +218,11 @@ module _ (machine : Machine) where
   front_hold body octets left more next last long past opens split h = by (first_message octets) refl
     where
       rest : (wrong : Option MessageFault) → rest_closes at_start wrong ≡ still last → last.hold ≡ 0
-      rest None e = sym (ap (λ (p : Phase). p.hold) (same_still at_start last e))
-      rest (Some fault) e = absurd (closed_still (faulted fault) last e)
+      rest None e = sym (ap (λ (p : Phase). p.hold) (same_still _ _ e))
+      rest (Some fault) e = absurd (closed_still _ _ e)
 
       by : (x : Option (Message × List ℕ)) → first_message octets ≡ x → (last.hold ≡ 0) ⊎ (last.hold ≡ next.hold)
-      by None f = inl (rest (wrong_at octets) (sym (ap (λ (z : List Update × Last). z.1) (session_rest machine at_start octets f)) ∙ h))
+      by None f = inl (rest _ (sym (ap (λ (z : List Update × Last). z.1) (session_rest machine at_start octets f)) ∙ h))
       by (Some found) f =
           let own : Message = record { kind = 1; body = body } in
           let fits = open_fits (length body) long in
@@ -238,7 +233,7 @@ module _ (machine : Machine) where
           let goes = step_found machine at_start octets found (Ok (next, None)) f (ap (transition_by machine at_start) same ∙ opens) in
           let taken_so : session_by machine at_start octets ≡ session_by machine next (found.1 ++ []) =
           ap (session_by machine at_start) (sym (append-nil octets)) ∙ machine_takes machine at_start next None octets found.1 [] goes in
-          inr (session_on machine next last (found.1 ++ []) past (sym (ap (λ (z : List Update × Last). z.1) taken_so) ∙ h)).hold_is
+          inr (session_on _ _ _ _ past (sym (ap (λ (z : List Update × Last). z.1) taken_so) ∙ h)).hold_is
 
 module _ (config : Config) (peer : Peer) (sending : Sending) where
   abbrev teller : Machine
@@ -263,7 +258,7 @@ module _ (config : Config) (peer : Peer) (sending : Sending) where
       ap (λ (r : Result Open MessageFault). opened teller r)
       (open_read config.local_as config.hold_time config.local_id can.own.asn.small can.own.hold_time.small can.own.id.small can.own.asn.some
       can.own.hold_time.not_one can.own.hold_time.not_two can.own.id.some)
-      ∙ ap (λ (b : Bool). if b then Err NoFamily else taken (phase WaitKeep true (min config.hold_time config.hold_time)) None) (none_lacks needs.v4 needs.v6)
+      ∙ ap (λ (b : Bool). if b then Err NoFamily else taken (phase WaitKeep true (min config.hold_time config.hold_time)) None) (none_lacks _ _)
       ∙ ap (λ (n : ℕ). Ok (phase WaitKeep true n, None)) (least config peer sending config.hold_time)
 
   keepalives_taken : (n : ℕ) → session_by teller up (keepalives n) ≡ ([], still up)
@@ -305,8 +300,8 @@ module _ (config : Config) (peer : Peer) (sending : Sending) where
   pub teller_stays : (heard : Pieces) (left text : List ℕ) → CanArrive config peer sending → octets_in heard ++ left ≡ text → AreReplies text
       → IsTimely config (moments_in heard) → (told_by config sending heard).point.closed ≡ None
   teller_stays heard left text can split form timely =
-      let found = text_last text can form in
-      stays teller heard left found.0 (ap (last_by teller at_start) split ∙ found.1.0) (early_so found.0.hold (moments_in heard) found.1.1 timely)
+      let found = text_last _ can form in
+      stays _ _ _ _ (ap (last_by teller at_start) split ∙ found.1.0) (early_so _ _ found.1.1 timely)
 
   -- and established once it heard all of it.
   pub teller_up : (heard : Pieces) (n : ℕ) → CanArrive config peer sending → octets_in heard ≡ reply_to config WaitOpen ++ keepalives n
@@ -314,7 +309,7 @@ module _ (config : Config) (peer : Peer) (sending : Sending) where
   teller_up heard n can all alive =
       let here : Phase = (told_by config sending heard).point.phase in
       let same : here ≡ up =
-      same_still here up (sym (stands teller heard alive).found ∙ ap (last_by teller at_start) all
+      same_still _ _ (sym (stands _ heard alive).found ∙ ap (last_by teller at_start) all
       ∙ ap (λ (z : List Update × Last). z.1) (teller_last n can)) in
       ap (λ (p : Phase). is_established p.state) same
 
@@ -322,19 +317,18 @@ module _ (config : Config) (peer : Peer) (sending : Sending) where
   pub session_hold : (octets left more : List ℕ) (last : Phase) → CanArrive config peer sending → octets ++ left ≡ open_sent config peer sending ++ more
       → (session_from config peer at_start octets).1 ≡ still last → (last.hold ≡ 0) ⊎ (last.hold ≡ config.hold_time)
   session_hold octets left more last can split h =
-      front_hold (receiver config peer) (open_body peer.asn config.hold_time sending.id) octets left more (phase WaitKeep true config.hold_time) last refl refl
-      (peer_opens config peer sending can) split h
+      front_hold _ (open_body peer.asn config.hold_time sending.id) _ _ more _ _ refl refl (peer_opens _ _ _ can) split h
 
   -- and so has the receiving end, while it is open and heard it.
   pub hearer_hold : (heard : Pieces) (left more : List ℕ) → CanArrive config peer sending → octets_in heard ++ left ≡ open_sent config peer sending ++ more
       → (course_of config peer heard).point.closed ≡ None
       → ((course_of config peer heard).point.phase.hold ≡ 0) ⊎ ((course_of config peer heard).point.phase.hold ≡ config.hold_time)
   hearer_hold heard left more can split alive =
-      session_hold (octets_in heard) left more (course_of config peer heard).point.phase can split (stands (receiver config peer) heard alive).found
+      session_hold _ left _ _ can split (stands _ heard alive).found
 
   -- At such moments neither end's hold time expires.
   pub never_due : (machine : Machine) (heard : Pieces) (moment : ℕ) → (course machine heard).point.closed ≡ None
       → ((course machine heard).point.phase.hold ≡ 0) ⊎ ((course machine heard).point.phase.hold ≡ config.hold_time)
       → IsTimely config (moments_in heard ++ moment ∷ [])
       → tick_at (course machine heard).point.phase.hold (at_moment moment (course machine heard).point.times) ≡ Expires → ⊥
-  never_due machine heard moment alive hold timely due = none_expires machine config.hold_time heard moment alive hold timely due
+  never_due machine heard moment alive hold timely due = none_expires _ _ _ _ alive hold timely due

@@ -1,9 +1,9 @@
 -- What a keeper does, from its fields.
 use Rattle.fs_peering.proofs.KeeperWords.{ℕ, ◌-◌, nat_lt, not, List, [], ◌∷◌, ◌++◌, ◌≡◌, ◌==◌, ◌&&◌, Bool, true, false, Option, Some, None, IfSome}
 use Rattle.fs_peering.proofs.KeeperWords.{Result, Ok, Err, IfOk, OnErr, refl, ap, sym, subst, ◌∙◌, if◌then◌else◌, is_some, arith, Turn, What, dialled}
-use Rattle.fs_peering.proofs.KeeperWords.{shut, Grew, Config, Peer, CanSend, announcing, fresh, has_started, is_established, machine_in, needs_of}
+use Rattle.fs_peering.proofs.KeeperWords.{shut, Grew, Config, Peer, CanSend, announcing, fresh, has_started, is_established, machine_in}
 use Rattle.fs_peering.proofs.KeeperWords.{open_sent, sender_of, state_in, Sending, Connection, Kept, Outcome, accepts, at_line, begins, checks, dials}
-use Rattle.fs_peering.proofs.KeeperWords.{ends, exceeds, hears, news_up, received, receives, speaks, woken, Fits, Keeping, LinkSays, LinkTells}
+use Rattle.fs_peering.proofs.KeeperWords.{ends, hears, news_up, received, receives, speaks, woken, Fits, Keeping, LinkSays, LinkTells}
 use Rattle.fs_peering.proofs.KeeperWords.{Linked, TellsSo, TookQuietly, TookSo, is_told, let_go, News, Ended, Unreached}
 use Rattle.fs_peering.proofs.Standing.{going}
 use Rattle.fs_peering.proofs.Following.{at_none, at_other, at_this, begun_so, check_none, check_open, check_shut, check_waits, ended_so, hear_shut}
@@ -54,53 +54,52 @@ module _ (k old : Keeping) (same : k ≡ old) (linked seen : Linked) (link_is : 
   pub check_off : (time : ℕ) (turns : Option (List Turn)) → seen.made ≡ false → TookSo (checks time) None old unchanged turns turns
   check_off time turns off =
       subst (λ (n : Keeping). TookSo (checks time) None old n turns turns) (sym stays_same)
-      (check_waits time old linked old_link turns (sym (ap (λ (l : Linked). l.made) seen_is) ∙ off))
+      (check_waits _ _ _ old_link _ (sym (ap (λ (l : Linked). l.made) seen_is) ∙ off))
 
   pub begin_other : (line time : ℕ) (turns : Option (List Turn)) → (seen.line ≡ line → ⊥)
       → TookSo (at_line line (λ connection. not connection.made) (begins old.config time)) None old unchanged turns turns
   begin_other line time turns differs =
       subst (λ (n : Keeping). TookSo (at_line line (λ connection. not connection.made) (begins old.config time)) None old n turns turns) (sym stays_same)
-      (at_other line (λ connection. not connection.made) (begins old.config time) old linked (not linked.made) old_link (λ connection e. ap not (sym e))
-      (line_other linked.line line (not linked.made) (λ e. differs (ap (λ (l : Linked). l.line) seen_is ∙ e))) turns)
+      (at_other _ _ _ _ _ _ old_link (λ connection e. ap not (sym e))
+      (line_other _ _ _ (λ e. differs (ap (λ (l : Linked). l.line) seen_is ∙ e))) turns)
 
   pub begin_made : (line time : ℕ) (turns : Option (List Turn)) → seen.made ≡ true
       → TookSo (at_line line (λ connection. not connection.made) (begins old.config time)) None old unchanged turns turns
   begin_made line time turns on =
       subst (λ (n : Keeping). TookSo (at_line line (λ connection. not connection.made) (begins old.config time)) None old n turns turns) (sym stays_same)
-      (at_other line (λ connection. not connection.made) (begins old.config time) old linked (not linked.made) old_link (λ connection e. ap not (sym e))
-      (fit_other linked.line line (not linked.made) (ap not (sym (ap (λ (l : Linked). l.made) seen_is) ∙ on))) turns)
+      (at_other _ _ _ _ _ _ old_link (λ connection e. ap not (sym e))
+      (fit_other _ _ _ (ap not (sym (ap (λ (l : Linked). l.made) seen_is) ∙ on))) turns)
 
   pub receive_other : (line time : ℕ) (piece : List ℕ) (turns : Option (List Turn)) → (seen.line ≡ line → ⊥)
       → TookSo (at_line line (λ connection. connection.made) (receives old.config time piece)) None old unchanged turns turns
   receive_other line time piece turns differs =
       subst (λ (n : Keeping). TookSo (at_line line (λ connection. connection.made) (receives old.config time piece)) None old n turns turns) (sym stays_same)
-      (at_other line (λ connection. connection.made) (receives old.config time piece) old linked linked.made old_link (λ connection e. sym e)
-      (line_other linked.line line linked.made (λ e. differs (ap (λ (l : Linked). l.line) seen_is ∙ e))) turns)
+      (at_other _ _ _ _ _ _ old_link (λ connection e. sym e)
+      (line_other _ _ _ (λ e. differs (ap (λ (l : Linked). l.line) seen_is ∙ e))) turns)
 
   pub receive_unmade : (line time : ℕ) (piece : List ℕ) (turns : Option (List Turn)) → seen.made ≡ false
       → TookSo (at_line line (λ connection. connection.made) (receives old.config time piece)) None old unchanged turns turns
   receive_unmade line time piece turns off =
       subst (λ (n : Keeping). TookSo (at_line line (λ connection. connection.made) (receives old.config time piece)) None old n turns turns) (sym stays_same)
-      (at_other line (λ connection. connection.made) (receives old.config time piece) old linked linked.made old_link (λ connection e. sym e)
-      (fit_other linked.line line linked.made (sym (ap (λ (l : Linked). l.made) seen_is) ∙ off)) turns)
+      (at_other _ _ _ _ _ _ old_link (λ connection e. sym e)
+      (fit_other _ _ _ (sym (ap (λ (l : Linked). l.made) seen_is) ∙ off)) turns)
 
   pub end_other : (line time : ℕ) → (seen.line ≡ line → ⊥) → TookQuietly (at_line line (λ connection. true) (ends time)) None old old
   end_other line time differs =
-      at_other line (λ connection. true) (ends time) old linked true old_link (λ connection e. refl)
-      (line_other linked.line line true (λ e. differs (ap (λ (l : Linked). l.line) seen_is ∙ e)))
+      at_other _ _ _ _ _ _ old_link (λ connection e. refl)
+      (line_other _ _ _ (λ e. differs (ap (λ (l : Linked). l.line) seen_is ∙ e)))
 
   pub end_this : (line time : ℕ) (news : News) (new : Keeping) → seen.line ≡ line → news ≡ (if seen.made then Ended else Unreached) → new ≡ let_go time old
       → TookQuietly (at_line line (λ connection. true) (ends time)) (Some news) old new
-  end_this line time news new this news_is goes = λ turns.
-      at_this line (λ connection. true) (ends time) (Some news) old new linked true turns turns old_link (λ connection e. refl)
-      (line_this linked.line line true (sym (ap (λ (l : Linked). l.line) seen_is) ∙ this) refl)
-      (ended_so time news old new linked turns (news_is ∙ ap (λ (l : Linked). if l.made then Ended else Unreached) seen_is) goes)
+  end_this line time news new this news_is goes = λ turns. at_this _ _ _ _ _ _ _ _ _ _ old_link (λ connection e. refl)
+      (line_this _ _ _ (sym (ap (λ (l : Linked). l.line) seen_is) ∙ this) refl)
+      (ended_so _ _ _ _ _ turns (news_is ∙ ap (λ (l : Linked). if l.made then Ended else Unreached) seen_is) goes)
 
   -- what a connection said was sent
   module _ (linked' : Linked) (before out octets : List ℕ) (cleared : before ≡ []) (octets_are : octets ≡ out) (turns turns1 : Option (List Turn))
       (asked : Grew turns turns1 (speaks seen.line octets)) where
     asked_so : Grew turns turns1 (speaks linked.line out)
-    asked_so = asked_as turns turns1 seen.line linked.line octets out (ap (λ (l : Linked). l.line) seen_is) octets_are asked
+    asked_so = asked_as _ _ _ _ _ _ (ap (λ (l : Linked). l.line) seen_is) octets_are asked
 
     on_old : (up : Bool) → going up linked' k ≡ going up linked' old
     on_old up = ap (going up linked') same
@@ -109,7 +108,7 @@ module _ (k old : Keeping) (same : k ≡ old) (linked seen : Linked) (link_is : 
         → is_some news ≡ false
         → TookSo (checks time) news old (going false linked' k) turns turns1
     check_stays time None on says off =
-        check_open time old linked old_link None linked' out (going false linked' k) turns turns1 (sym (ap (λ (l : Linked). l.made) seen_is) ∙ on)
+        check_open _ _ _ old_link _ _ _ _ _ _ (sym (ap (λ (l : Linked). l.made) seen_is) ∙ on)
         (subst (λ b. LinkSays (woken time linked.since) None linked linked' b out) cleared says) asked_so refl (on_old false)
     check_stays time (Some done) on says off = absurd (let never : true ≡ false = off in cc)
 
@@ -118,9 +117,9 @@ module _ (k old : Keeping) (same : k ≡ old) (linked seen : Linked) (link_is : 
         → is_some news ≡ true → Grew turns1 turns2 (shut seen.line ∷ []) → new ≡ let_go time k → TookSo (checks time) news old new turns turns2
     check_closes time None new turns2 on says loud closed goes = absurd (let never : false ≡ true = loud in cc)
     check_closes time (Some done) new turns2 on says loud closed goes =
-        check_shut time old linked old_link (Some done) linked' out new turns turns1 turns2 done (sym (ap (λ (l : Linked). l.made) seen_is) ∙ on)
+        check_shut _ _ _ old_link _ _ _ _ _ _ _ _ (sym (ap (λ (l : Linked). l.made) seen_is) ∙ on)
         (subst (λ b. LinkSays (woken time linked.since) (Some done) linked linked' b out) cleared says) asked_so refl
-        (shut_as turns1 turns2 seen.line linked.line (ap (λ (l : Linked). l.line) seen_is) closed) (goes ∙ ap (let_go time) same)
+        (shut_as _ _ _ _ (ap (λ (l : Linked). l.line) seen_is) closed) (goes ∙ ap (let_go time) same)
 
     pub begin_this : (line time : ℕ) → seen.line ≡ line → seen.made ≡ false
         → (linked.end.started ≡ false
@@ -128,19 +127,17 @@ module _ (k old : Keeping) (same : k ≡ old) (linked seen : Linked) (link_is : 
         × (out ≡ before ++ open_sent linked.end.config linked.end.peer linked.end.sending))
         → TookSo (at_line line (λ connection. not connection.made) (begins old.config time)) None old (going false linked' k) turns turns1
     begin_this line time this off begun =
-        at_this line (λ connection. not connection.made) (begins old.config time) None old (going false linked' k) linked
-        (not linked.made) turns turns1 old_link
-        (λ connection e. ap not (sym e))
-        (line_this linked.line line (not linked.made) (sym (ap (λ (l : Linked). l.line) seen_is)
+        at_this _ _ _ _ _ _ _ _ _ _ old_link (λ connection e. ap not (sym e))
+        (line_this _ _ _ (sym (ap (λ (l : Linked). l.line) seen_is)
         ∙ this) (ap not (sym (ap (λ (l : Linked). l.made) seen_is) ∙ off)))
-        (begun_so time old (going false linked' k) linked linked' out turns turns1 (sym (ap (λ (l : Linked). l.made) seen_is) ∙ off)
+        (begun_so _ _ _ _ _ _ _ _ (sym (ap (λ (l : Linked). l.made) seen_is) ∙ off)
         (λ fresh. subst (λ b. (linked' ≡ record linked { made = true; since = time; end = has_started linked.end })
         × (out ≡ b ++ open_sent linked.end.config linked.end.peer linked.end.sending)) cleared (begun fresh))
         asked_so (on_old false))
 
     module _ (line time : ℕ) (piece : List ℕ) (this : seen.line ≡ line) (on : seen.made ≡ true) where
       at_it : ((linked.line == line) && linked.made) ≡ true
-      at_it = line_this linked.line line linked.made (sym (ap (λ (l : Linked). l.line) seen_is) ∙ this) (sym (ap (λ (l : Linked). l.made) seen_is) ∙ on)
+      at_it = line_this _ _ _ (sym (ap (λ (l : Linked). l.line) seen_is) ∙ this) (sym (ap (λ (l : Linked). l.made) seen_is) ∙ on)
 
       pub receive_closes : (news : Option News) (new : Keeping) (turns2 : Option (List Turn))
           → LinkSays (received (machine_in linked.end) time piece) news linked linked' before out
@@ -148,11 +145,9 @@ module _ (k old : Keeping) (same : k ≡ old) (linked seen : Linked) (link_is : 
           → TookSo (at_line line (λ connection. connection.made) (receives old.config time piece)) news old new turns turns2
       receive_closes None new turns2 says loud closed goes = absurd (let never : false ≡ true = loud in cc)
       receive_closes (Some done) new turns2 says loud closed goes =
-          at_this line (λ connection. connection.made) (receives old.config time piece) (Some done) old new linked linked.made turns turns2 old_link
-          (λ connection e. sym e) at_it
-          (received_shut time piece old linked linked' (Some done) out turns turns1
-          (subst (λ b. LinkSays (received (machine_in linked.end) time piece) (Some done) linked linked' b out) cleared says) asked_so new done turns2 refl
-          (shut_as turns1 turns2 seen.line linked.line (ap (λ (l : Linked). l.line) seen_is) closed) (goes ∙ ap (let_go time) same))
+          at_this _ _ _ _ _ _ _ _ _ _ old_link (λ connection e. sym e) at_it (received_shut _ _ _ _ _ _ _ _ _
+          (subst (λ b. LinkSays (received (machine_in linked.end) time piece) (Some done) linked linked' b out) cleared says) asked_so _ _ _ refl
+          (shut_as _ _ _ _ (ap (λ (l : Linked). l.line) seen_is) closed) (goes ∙ ap (let_go time) same))
 
       pub receive_stays : (news : Option News) (up : Bool) → LinkSays (received (machine_in linked.end) time piece) news linked linked' before out
           → is_some news ≡ false
@@ -160,16 +155,10 @@ module _ (k old : Keeping) (same : k ≡ old) (linked seen : Linked) (link_is : 
           → TookSo (at_line line (λ connection. connection.made) (receives old.config time piece)) (news_up up) old (going up linked' k) turns turns1
       receive_stays None up says off up_is =
           subst (λ u. TookSo (at_line line (λ connection. connection.made) (receives old.config time piece)) (news_up u) old
-          (going u linked' k) turns turns1) (sym up_is)
-          (at_this line (λ connection. connection.made) (receives old.config time piece)
-          (news_up (is_established (state_in linked'.end.line) && not (is_established (state_in linked.end.line)))) old
-          (going (is_established (state_in linked'.end.line) && not (is_established (state_in linked.end.line))) linked' k) linked linked.made turns
-          turns1 old_link (λ connection e. sym e) at_it
-          (received_open time piece old linked linked' None out turns turns1
-          (subst (λ b. LinkSays (received (machine_in linked.end) time piece) None linked linked' b out) cleared says) asked_so
-          (going (is_established (state_in linked'.end.line) && not (is_established (state_in linked.end.line))) linked' k)
-          (is_established (state_in linked.end.line)) (is_established (state_in linked'.end.line)) refl refl refl
-          (on_old (is_established (state_in linked'.end.line) && not (is_established (state_in linked.end.line))))))
+          (going u linked' k) turns turns1) (sym up_is) (at_this _ _ _ _ _ _ _ _ _ _ old_link (λ connection e. sym e) at_it
+          (received_open _ _ _ _ _ _ _ _ _
+          (subst (λ b. LinkSays (received (machine_in linked.end) time piece) None linked linked' b out) cleared says) asked_so _
+          _ _ refl refl refl (on_old _)))
       receive_stays (Some done) up says off up_is = absurd (let never : true ≡ false = off in cc)
 
 -- whether it has come up
@@ -186,12 +175,12 @@ rose now was on off = ap not (sym off) ∙ ap (λ n. n && not was) (sym on)
 -- no connection is there
 pub check_no : (k old : Keeping) (time : ℕ) (turns : Option (List Turn)) → k ≡ old → k.link ≡ None → TookSo (checks time) None old k turns turns
 check_no k old time turns same none =
-    subst (λ (o : Keeping). TookSo (checks time) None o k turns turns) same (check_none time k turns none)
+    subst (λ (o : Keeping). TookSo (checks time) None o k turns turns) same (check_none _ _ _ none)
 
 pub line_no : (k old : Keeping) (line : ℕ) (fits : Connection → Bool) (act : Connection → Kept → Outcome) (turns : Option (List Turn)) → k ≡ old → k.link ≡ None
     → TookSo (at_line line fits act) None old k turns turns
 line_no k old line fits act turns same none =
-    subst (λ (o : Keeping). TookSo (at_line line fits act) None o k turns turns) same (at_none line fits act k none turns)
+    subst (λ (o : Keeping). TookSo (at_line line fits act) None o k turns turns) same (at_none _ _ _ _ none turns)
 
 -- handing on a result
 pub ok_on : {T E : Type 0} {P Q : T → Type 0} (result : Result T E) → IfOk result P → ((value : T) → P value → Q value) → IfOk result Q
@@ -209,7 +198,7 @@ pub dial_took : (k old : Keeping) (line time passed : ℕ) (address : List ℕ) 
     → TookSo (dials old.config line time address) None old (going false (record seen { line = line }) k) turns turns1
 dial_took k old line time passed address sending linked seen turns turns1 same can none rules_are passed_is late asked made seen_is =
     subst (λ (o : Keeping). TookSo (dials o.config line time address) None o (going false (record seen { line = line }) k) turns turns1) same
-    (by (sender_of k.config.peers) refl can made)
+    (by _ refl can made)
   where
     gone : (link : Option Linked) → is_some link ≡ false → link ≡ None
     gone None off = refl
@@ -223,29 +212,29 @@ dial_took k old line time passed address sending linked seen turns turns1 same c
         → TookSo (dials k.config line time address) None k (going false (record seen { line = line }) k) turns turns1
     by None e can made = absurd can
     by (Some peer) e can made =
-        dial_new line time address k peer sending (going false (record seen { line = line }) k) turns turns1 (gone k.link none) rules_are e not_early asked
+        dial_new _ _ _ _ _ _ _ _ _ (gone _ none) rules_are e not_early asked
         (ap (λ (l : Linked). going false (record l { line = line }) k) (seen_is ∙ made))
 
 pub dial_still : (k old : Keeping) (time : ℕ) (address : List ℕ) (turns : Option (List Turn)) → k ≡ old → is_some k.link ≡ true
     → TookSo (dials old.config 0 time address) None old old turns turns
-dial_still k old time address turns same on = dial_there 0 time address old turns (subst (λ (o : Keeping). is_some o.link ≡ true) same on)
+dial_still k old time address turns same on = dial_there _ _ _ _ _ (subst (λ (o : Keeping). is_some o.link ≡ true) same on)
 
 pub dial_soon : (k old : Keeping) (time passed : ℕ) (address : List ℕ) (turns : Option (List Turn)) → k ≡ old → passed ≡ time - k.since → passed < k.wait
     → TookSo (dials old.config 0 time address) None old old turns turns
 dial_soon k old time passed address turns same passed_is early =
-    dial_early 0 time address old turns
+    dial_early _ _ _ _ _
     (subst (λ (o : Keeping). nat_lt (time - o.since) o.wait ≡ true) same (subst (λ n. nat_lt n k.wait ≡ true) passed_is (grind (arith, nat_tests))))
 
 pub dial_none : (k old : Keeping) (time : ℕ) (address : List ℕ) (turns : Option (List Turn)) → k ≡ old → k.rules ≡ None
     → TookSo (dials old.config 0 time address) None old old turns turns
-dial_none k old time address turns same none = dial_idle 0 time address old turns (subst (λ (o : Keeping). o.rules ≡ None) same none)
+dial_none k old time address turns same none = dial_idle _ _ _ _ _ (subst (λ (o : Keeping). o.rules ≡ None) same none)
 
 -- other rules are accepted
 pub accept_off : (k old : Keeping) (time : ℕ) (rules : Sending) (dest : Option Sending) (turns : Option (List Turn)) → k ≡ old
     → CanSend old.config (sender_of old.config.peers) rules
     → dest ≡ Some rules → is_told k.link ≡ false → TookSo (accepts old.config time rules) None old (record k { rules = dest }) turns turns
 accept_off k old time rules dest turns same can dest_is off =
-    accept_rests time rules old can (record k { rules = dest }) turns (subst (λ (o : Keeping). is_told o.link ≡ false) same off)
+    accept_rests _ _ _ can _ _ (subst (λ (o : Keeping). is_told o.link ≡ false) same off)
     (ap (λ (d : Option Sending). record k { rules = d }) dest_is ∙ ap (λ (o : Keeping). record o { rules = Some rules }) same)
 
 pub accept_on : (k old new : Keeping) (time : ℕ) (rules : Sending) (dest told : Option Sending) (news : Option News)
@@ -253,7 +242,7 @@ pub accept_on : (k old new : Keeping) (time : ℕ) (rules : Sending) (dest told 
     → CanSend old.config (sender_of old.config.peers) rules → dest ≡ Some rules → is_told k.link ≡ true → told ≡ k.rules
     → TellsSo time told news (record k { rules = dest }) new turns turns' → TookSo (accepts old.config time rules) news old new turns turns'
 accept_on k old new time rules dest told news turns turns' same can dest_is on told_is tells =
-    accept_tells time rules old can news (record k { rules = dest }) new turns turns' (subst (λ (o : Keeping). is_told o.link ≡ true) same on)
+    accept_tells _ _ _ can _ _ _ _ _ (subst (λ (o : Keeping). is_told o.link ≡ true) same on)
     (ap (λ (d : Option Sending). record k { rules = d }) dest_is ∙ ap (λ (o : Keeping). record o { rules = Some rules }) same)
     (subst (λ (t : Option Sending). TellsSo time t news (record k { rules = dest }) new turns turns') (told_is ∙ ap (λ (o : Keeping). o.rules) same) tells)
 
@@ -267,35 +256,32 @@ module _ (k old : Keeping) (same : k ≡ old) (time : ℕ) (told : Option Sendin
   tells_so = subst (λ b. LinkTells told rules (done, closes) linked linked' b out) cleared tells
 
   asked_here : Grew turns turns1 (speaks linked.line out)
-  asked_here = asked_as turns turns1 seen.line linked.line octets out (ap (λ (l : Linked). l.line) seen_is) octets_are asked
+  asked_here = asked_as _ _ _ _ _ _ (ap (λ (l : Linked). l.line) seen_is) octets_are asked
 
   pub tell_stays : closes ≡ false → TellsSo time told (Some done) old (going false linked' k) turns turns1
   tell_stays off =
       subst (λ (o : Keeping). TellsSo time told (Some done) o (going false linked' k) turns turns1) same
-      (tells_by time told (Some done) k (going false linked' k) turns turns1 linked rules link_is rules_are
-      (tells_on (exceeds (needs_of linked.end.sending.rules) (needs_of rules.rules)) time told rules done linked linked' out k
-      (going false linked' k) turns turns1
+      (tells_by _ _ _ _ _ _ _ _ _ link_is rules_are (tells_on _ _ _ _ _ _ _ _ _ _ _ _
       (subst (λ b. LinkTells told rules (done, b) linked linked' [] out) off tells_so) asked_here refl))
 
   pub tell_closes : (new : Keeping) (turns2 : Option (List Turn)) → closes ≡ true → Grew turns1 turns2 (shut seen.line ∷ []) → new ≡ let_go time k
       → TellsSo time told (Some done) old new turns turns2
   tell_closes new turns2 on closed goes =
-      subst (λ (o : Keeping). TellsSo time told (Some done) o new turns turns2) same
-      (tells_by time told (Some done) k new turns turns2 linked rules link_is rules_are
-      (tells_shut (exceeds (needs_of linked.end.sending.rules) (needs_of rules.rules)) time told rules done linked linked' out k new turns turns1 turns2
+      subst (λ (o : Keeping). TellsSo time told (Some done) o new turns turns2) same (tells_by _ _ _ _ _ _ _ _ _ link_is rules_are
+      (tells_shut _ _ _ _ _ _ _ _ _ _ _ _ _
       (subst (λ b. LinkTells told rules (done, b) linked linked' [] out) on tells_so) asked_here
-      (shut_as turns1 turns2 seen.line linked.line (ap (λ (l : Linked). l.line) seen_is) closed) goes))
+      (shut_as _ _ _ _ (ap (λ (l : Linked). l.line) seen_is) closed) goes))
 
 pub tell_no : (k old : Keeping) (time : ℕ) (told : Option Sending) (turns : Option (List Turn)) → k ≡ old → k.link ≡ None
     → TellsSo time told None old k turns turns
-tell_no k old time told turns same none = subst (λ (o : Keeping). TellsSo time told None o k turns turns) same (tells_none time told k turns none)
+tell_no k old time told turns same none = subst (λ (o : Keeping). TellsSo time told None o k turns turns) same (tells_none _ _ _ _ none)
 
 pub tell_idle : (k old : Keeping) (linked : Linked) (time : ℕ) (told : Option Sending) (turns : Option (List Turn)) → k ≡ old → k.link ≡ Some linked
     → k.rules ≡ None
     → TellsSo time told None old (record k { link = Some linked }) turns turns
 tell_idle k old linked time told turns same link_is none =
     subst (λ (n : Keeping). TellsSo time told None old n turns turns) (sym same ∙ ap (λ (l : Option Linked). record k { link = l }) link_is)
-    (subst (λ (o : Keeping). TellsSo time told None o o turns turns) same (tells_idle time told k turns none))
+    (subst (λ (o : Keeping). TellsSo time told None o o turns turns) same (tells_idle _ _ _ _ none))
 
 pub err_on : {T E : Type 0} {X Y : Type 0} (result : Result T E) → OnErr result X → (X → Y) → OnErr result Y
 err_on (Ok value) x f = tt
@@ -308,7 +294,7 @@ pub dial_fits : (config : Config) (rules : Option Sending) (link : Option Linked
     → IfSome (sender_of config.peers)
     (λ peer. linked ≡ record { line = 0; made = false; since = time; told = false; end = announcing config peer sending fresh false 0 })
     → seen ≡ linked → Fits config rules (Some (record seen { line = line }))
-dial_fits config rules link line time sending linked seen fits can made seen_is = by (sender_of config.peers) refl can made
+dial_fits config rules link line time sending linked seen fits can made seen_is = by _ refl can made
   where
     by : (sender : Option Peer) → sender_of config.peers ≡ sender → CanSend config sender sending
         → IfSome sender (λ peer. linked ≡ record { line = 0; made = false; since = time; told = false; end = announcing config peer sending fresh false 0 })
@@ -326,7 +312,7 @@ dial_fits config rules link line time sending linked seen fits can made seen_is 
 pub hear_closes : (config : Config) (time : ℕ) (what : What) (old mid : Keeping) (turns turns1 : Option (List Turn)) (news : Option News) → is_some news ≡ true
     → TookSo (checks time) news old mid turns turns1 → TookSo (hears config time what) news old mid turns turns1
 hear_closes config time what old mid turns turns1 None loud first = absurd (let never : false ≡ true = loud in cc)
-hear_closes config time what old mid turns turns1 (Some done) loud first = hear_shut config time what done old mid turns turns1 first
+hear_closes config time what old mid turns turns1 (Some done) loud first = hear_shut config _ _ _ _ _ _ _ first
 
 pub quiet_first : (time : ℕ) (old mid : Keeping) (turns turns1 : Option (List Turn)) (news : Option News) → is_some news ≡ false
     → TookSo (checks time) news old mid turns turns1 → TookSo (checks time) None old mid turns turns1

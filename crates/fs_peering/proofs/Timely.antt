@@ -18,7 +18,7 @@ up_to P (event ∷ earlier) later moment piece a = (a.0, up_to P earlier later m
 pub timely_up_to : (config : Config) (earlier later : Pieces) (moment : ℕ) (piece : List ℕ) → IsTimely config (moments_in (earlier ++ (moment, piece) ∷ later))
     → IsTimely config (moments_in earlier ++ moment ∷ [])
 timely_up_to config earlier later moment piece t =
-    timely_by config (moments_in earlier ++ moment ∷ []) (moments_in (earlier ++ (moment, piece) ∷ later)) (λ P a. up_to P earlier later moment piece a) t
+    timely_by config _ _ (λ P a. up_to _ _ _ _ _ a) t
 
 -- those of one end
 ones : (P : ℕ → Type 0) (which : Bool) (events : List Heard) → AllByRecursion P (moments_of events)
@@ -33,4 +33,4 @@ ones P which (event ∷ events) a = by (ones P which events a.1) (if which then 
 
 pub timely_one : (config : Config) (which : Bool) (events : List Heard) → IsTimely config (moments_of events)
     → IsTimely config (moments_in (flat_map (heard_by which) events))
-timely_one config which events t = timely_by config (moments_in (flat_map (heard_by which) events)) (moments_of events) (λ P a. ones P which events a) t
+timely_one config which events t = timely_by config _ _ (λ P a. ones _ _ _ a) t

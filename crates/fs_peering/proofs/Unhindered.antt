@@ -64,7 +64,7 @@ module _ (config : Config) (whose : Peer) (sending : Sending) (can : CanArrive c
   reads_open octets more rest e = by (first_message octets) refl
     where
       whole : first_message (octets ++ more) ≡ Some (own, rest)
-      whole = ap first_message e ∙ open_first config whose sending rest
+      whole = ap first_message e ∙ open_first config whose sending _
 
       by : (x : Option (Message × List ℕ)) → first_message octets ≡ x
           → (first_message octets ≡ None) ⊎ ((behind : List ℕ) × (first_message octets ≡ Some (own, behind)))
@@ -75,13 +75,13 @@ module _ (config : Config) (whose : Peer) (sending : Sending) (can : CanArrive c
           inr (found.1, f ∙ ap (λ (m : Message). Some (m, found.1)) same)
 
   no_fault : (octets more rest : List ℕ) → octets ++ more ≡ open_sent config whose sending ++ rest → wrong_at octets ≡ None
-  no_fault octets more rest e = by (wrong_at octets) refl
+  no_fault octets more rest e = by _ refl
     where
       by : (w : Option MessageFault) → wrong_at octets ≡ w → wrong_at octets ≡ None
       by None f = f
       by (Some fault) f =
           absurd (none-some (own, rest)
-          (sym (wrong_first (octets ++ more) fault (fault_stays octets more fault f)) ∙ (ap first_message e ∙ open_first config whose sending rest)))
+          (sym (wrong_first (octets ++ more) fault (fault_stays octets more fault f)) ∙ (ap first_message e ∙ open_first config whose sending _)))
 
   -- what is replied to them
   abbrev Replied : List ℕ → Type 0
@@ -94,12 +94,12 @@ module _ (config : Config) (whose : Peer) (sending : Sending) (can : CanArrive c
   unanswered octets more rest e f =
       let no_updates : (session_from config whose at_start octets).0 ≡ [] =
       ap (λ (s : List Update × Last). s.0) (session_rest (receiver config whose) at_start octets f) in
-      replied_by config whose octets None (ap (first_over whose.max_routes) no_updates)
+      replied_by config whose _ _ (ap (first_over whose.max_routes) no_updates)
       ∙ replies_rest (receiver config whose) at_start octets f
-      ∙ ap (reply_rest (receiver config whose)) (no_fault octets more rest e)
+      ∙ ap (reply_rest (receiver config whose)) (no_fault octets more _ e)
 
   replies_so : (octets more rest : List ℕ) → octets ++ more ≡ open_sent config whose sending ++ rest → Replied octets
-  replies_so octets more rest e = by (reads_open octets more rest e)
+  replies_so octets more rest e = by (reads_open octets more _ e)
     where
       some : (behind : List ℕ) → first_message octets ≡ Some (own, behind) → (o : Option (List Update))
           → first_over whose.max_routes (session_from config whose at_start octets).0 ≡ o
@@ -107,22 +107,22 @@ module _ (config : Config) (whose : Peer) (sending : Sending) (can : CanArrive c
       some behind f None o =
           inr (
             replies_from config whose opened_phase (behind ++ []),
-            replied_by config whose octets None o
+            replied_by config whose _ _ o
                 ∙ ap (replies_from config whose at_start) (sym (append-nil octets))
                 ∙ replies_takes config whose at_start opened_phase None octets behind []
-                (step_found (receiver config whose) at_start octets (own, behind) (Ok (opened_phase, None)) f (peer_opens config whose sending can)),
+                (step_found (receiver config whose) at_start octets (own, behind) (Ok (opened_phase, None)) f (peer_opens _ _ _ can)),
           )
-      some behind f (Some front) o = inr (reply_at too_many, replied_by config whose octets (Some front) o)
+      some behind f (Some front) o = inr (reply_at too_many, replied_by config whose _ _ o)
 
       by : (first_message octets ≡ None) ⊎ ((behind : List ℕ) × (first_message octets ≡ Some (own, behind))) → Replied octets
-      by (inl f) = inl (f, unanswered octets more rest e f)
-      by (inr f) = some f.0 f.1 (first_over whose.max_routes (session_from config whose at_start octets).0) refl
+      by (inl f) = inl (f, unanswered _ _ _ e f)
+      by (inr f) = some _ f.1 _ refl
 
   -- while the receiving end has said nothing it heard no whole message
   pub unread : (heard : Pieces) (more rest : List ℕ) → (course_of config whose heard).point.closed ≡ None → (course_of config whose heard).text ≡ []
       → octets_in heard ++ more ≡ open_sent config whose sending ++ rest
       → (first_message (octets_in heard) ≡ None) × ((course_of config whose heard).point.phase.hold ≡ 0)
-  unread heard more rest alive none split = (by (reads_open (octets_in heard) more rest split), (stands (receiver config whose) heard alive).unheld silent)
+  unread heard more rest alive none split = (by (reads_open (octets_in heard) more _ split), (stands (receiver config whose) heard alive).unheld silent)
     where
       here : Phase
       here = (course_of config whose heard).point.phase
@@ -137,10 +137,10 @@ module _ (config : Config) (whose : Peer) (sending : Sending) (can : CanArrive c
           let goes : session_from config whose at_start (octets_in heard) ≡ session_from config whose opened_phase (f.0 ++ []) =
           ap (session_from config whose at_start) (sym (append-nil (octets_in heard)))
           ∙ machine_takes (receiver config whose) at_start opened_phase None (octets_in heard) f.0 []
-          (step_found (receiver config whose) at_start (octets_in heard) (own, f.0) (Ok (opened_phase, None)) f.1 (peer_opens config whose sending can)) in
+          (step_found (receiver config whose) at_start (octets_in heard) (own, f.0) (Ok (opened_phase, None)) f.1 (peer_opens _ _ _ can)) in
           let found : (session_from config whose opened_phase (f.0 ++ [])).1 ≡ still here =
-          sym (ap (λ (s : List Update × Last). s.1) goes) ∙ (stands (receiver config whose) heard alive).found in
-          absurd (never (sym silent ∙ (session_on (receiver config whose) opened_phase here (f.0 ++ []) refl found).past))
+          sym (ap (λ (s : List Update × Last). s.1) goes) ∙ (stands _ heard alive).found in
+          absurd (never (sym silent ∙ (session_on _ _ _ _ refl found).past))
 
   module _ (peer : ℕ) (whose_is : peer_of peer config.peers ≡ Some whose) where
     replies_are : (octets : List ℕ) → bounded_replies config peer octets ≡ bounded_replies_from config whose octets
@@ -182,10 +182,9 @@ module _ (config : Config) (whose : Peer) (sending : Sending) (can : CanArrive c
 
       no_expiry : ExpiresAt config whose h.earlier h.moment said why → ⊥
       no_expiry x =
-          never_due config whose sending (receiver config whose) h.earlier h.moment h.lived
-          (hearer_hold config whose sending h.earlier (h.piece ++ beyond) (rest_of f.four) can whole_earlier h.lived)
-          (timely_up_to config h.earlier [] h.moment h.piece (subst (λ (z : Pieces). IsTimely config (moments_in z)) h.split timely))
-          x.due
+          never_due config whose sending _ _ _ h.lived
+          (hearer_hold _ _ _ h.earlier (h.piece ++ beyond) _ can whole_earlier h.lived)
+          (timely_up_to config _ _ _ _ (subst (λ (z : Pieces). IsTimely config (moments_in z)) h.split timely)) x.due
 
       -- while it hadn't heard the OPEN it said nothing
       quiet : here.phase.hold ≡ 0 → (ticked h.moment here).text ≡ []
@@ -241,21 +240,18 @@ module _ (config : Config) (whose : Peer) (sending : Sending) (can : CanArrive c
           by (inl none) =
               ap (λ (ps : List (Option Sent)). woven (text_sent config whose f.four sending) (None ∷ ps)) none
               ∙ sym (ap (λ (ps : List (Option Sent)). woven (text_sent config whose true sending) (None ∷ ps)) none)
-          by (inr t) = ap rest_of (meets config whose sending f.four told in_flight said can t split s)
+          by (inr t) = ap rest_of (meets _ _ _ _ _ _ _ can t split s)
 
       goes_on : (may : MayHold whose.max_routes (length sending.rules)) → rest_of f.four ≡ rest_of true
           → bounded_from config whose (to_there ++ beyond)
           ≡ (map (update_sent config whose sending) (rules_in f.parts), still (phase Established true config.hold_time))
       goes_on may same =
           let fewer : length (rules_in f.parts) ≤ length sending.rules =
-          subst (λ (r : List Sent). length r ≤ length sending.rules) (sym f.rules_are) (few_taken f.appended sending.rules) in
+          subst (λ (r : List Sent). length r ≤ length sending.rules) (sym f.rules_are) (few_taken _ _) in
           ap (bounded_from config whose) (whole ∙ ap (λ (z : List ℕ). open_sent config whose sending ++ z) same)
-          ∙ ap (bounded whose.max_routes) (parts_arrive config whose sending f.parts can
-          (subst (AllByRecursion (ComesBack config whose sending)) (sym f.rules_are)
-          (all_take (ComesBack config whose sending) f.appended sending.rules can.read)))
-          ∙ bounded_within whose.max_routes (map (update_sent config whose sending) (rules_in f.parts)) (still (phase Established true config.hold_time))
-          (within config whose sending whose.max_routes (rules_in f.parts)
-          (may_hold_fewer whose.max_routes (length (rules_in f.parts)) (length sending.rules) fewer may))
+          ∙ ap (bounded whose.max_routes) (parts_arrive _ _ _ _ can
+          (subst (AllByRecursion (ComesBack config whose sending)) (sym f.rules_are) (all_take _ _ _ can.read)))
+          ∙ bounded_within _ _ _ (within config whose sending _ _ (may_hold_fewer _ _ _ fewer may))
 
       never_closed : (found : Phase) → closed why ≡ still found → ⊥
       never_closed found e = cc

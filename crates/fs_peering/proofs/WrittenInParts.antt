@@ -29,7 +29,7 @@ left_none true left = append-nil left
 left_none false left = refl
 
 pub heard_none : (end : WireEnd) → heard_end [] end ≡ end
-heard_none end = ap (λ (octets : List ℕ). record end { left = octets }) (left_none end.joined end.left)
+heard_none end = ap (λ (octets : List ℕ). record end { left = octets }) (left_none _ _)
 
 left_then : (b : Bool) (left xs ys : List ℕ)
     → (if b then (if b then left ++ xs else left) ++ ys else (if b then left ++ xs else left)) ≡ (if b then left ++ (xs ++ ys) else left)
@@ -56,6 +56,5 @@ pub wrote_more : (place : ℕ) (piece rest : List ℕ) (before now later : Optio
 wrote_more place piece rest before now later n w step = record {
   done = w.done ++ take n rest;
   split = w.split ∙ ap (λ octets. w.done ++ octets) (sym (take-append-drop n rest)) ∙ sym (append_assoc w.done (take n rest) (drop n rest));
-  told = told_and (TakesIn place w.done) (TakesIn place (take n rest)) (TakesIn place (w.done ++ take n rest))
-      (takes_then place w.done (take n rest)) before now later w.told step;
+  told = told_and _ _ _ (takes_then place w.done (take n rest)) _ _ _ w.told step;
 }

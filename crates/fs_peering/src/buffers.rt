@@ -3,7 +3,7 @@
 use std::alloc::Global;
 
 /// So many octets are read at once.
-pub const PIECE: usize = 4096;
+pub(crate) const PIECE: usize = 4096;
 
 /// What is read, and what an end says to it.
 #[derive(Drop)]

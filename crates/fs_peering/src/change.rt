@@ -33,7 +33,7 @@ const ROOM: usize = 4066;
 /// # Errors
 ///
 /// `Memory` where the machine refused memory.
-pub fn append_change(
+pub(crate) fn append_change(
     terms: &Terms,
     old: Option<&Sending>,
     new: &Sending,

@@ -32,7 +32,7 @@ const OTHER_CONFIGURATION: u8 = 6;
 
 /// A connection: its line, whether it is made and since when, whether it was told the rules, and its end of the session.
 #[derive(Drop)]
-pub struct Link<'a> {
+pub(crate) struct Link<'a> {
     pub line: u64,
     pub made: bool,
     pub since: u64,

@@ -11,7 +11,7 @@ use crate::speaker::Speaker;
 use fs_base::{Clock, Failed, Wire};
 
 /// Writes the whole of `piece` through an end. An empty piece leaves the wire untouched.
-pub fn write_end<W: Wire>(wire: &mut W, end: u8, piece: &[u8]) -> Result<(), Failed>
+pub(crate) fn write_end<W: Wire>(wire: &mut W, end: u8, piece: &[u8]) -> Result<(), Failed>
     requires { end ≤ 1 }
     ensures cause { HasCause (W.faults wire.old) (W.faults wire.new) result }
     ensures took { OnOk result (Told (TakesIn end piece.now) (W.tells wire.old) (W.tells wire.new)) }
@@ -27,13 +27,13 @@ pub fn write_end<W: Wire>(wire: &mut W, end: u8, piece: &[u8]) -> Result<(), Fai
 
 /// So many octets were read, and behind that the clock answered this moment.
 #[derive(Clone, Copy, Debug, PartialEq, Eq, Drop)]
-pub struct Arrival {
+pub(crate) struct Arrival {
     pub moment: u64,
     pub count: usize,
 }
 
 /// Reads from an end, and then the clock.
-pub fn read_end<W: Wire, C: Clock>(
+pub(crate) fn read_end<W: Wire, C: Clock>(
     wire: &mut W,
     clock: &mut C,
     end: u8,
@@ -55,7 +55,7 @@ pub fn read_end<W: Wire, C: Clock>(
 
 /// So many octets were heard at that moment, and so many were said to them.
 #[derive(Clone, Copy, Debug, PartialEq, Eq, Drop)]
-pub struct Taken {
+pub(crate) struct Taken {
     pub moment: u64,
     pub count: u64,
     pub said: u64,
@@ -63,7 +63,7 @@ pub struct Taken {
 
 /// Reads from an end, at most `left` octets and at most a piece, hands them to the speaker with the moment behind the
 /// read, and writes what it says to them.
-pub fn take_round<W: Wire, C: Clock, S: Speaker>(
+pub(crate) fn take_round<W: Wire, C: Clock, S: Speaker>(
     wire: &mut W,
     clock: &mut C,
     end: u8,
@@ -104,7 +104,7 @@ pub fn take_round<W: Wire, C: Clock, S: Speaker>(
 }
 
 /// Writes the next message that the speaker says unasked. Its length, or None where there was none.
-pub fn speak<W: Wire, S: Speaker>(
+pub(crate) fn speak<W: Wire, S: Speaker>(
     wire: &mut W,
     end: u8,
     speaker: &mut S,

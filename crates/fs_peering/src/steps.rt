@@ -88,7 +88,7 @@ pub fn sum(count: u64, more: usize) -> Result<u64, Memory>
 /// # Errors
 ///
 /// `Memory` where the count doesn't fit: no machine holds so many.
-pub fn count_on(count: u64, more: usize, was_ready: bool) -> Result<u64, Memory>
+pub(crate) fn count_on(count: u64, more: usize, was_ready: bool) -> Result<u64, Memory>
     ensures added { IfOk result (λ both. was_ready ≡ false → both ≡ count + more) }
     ensures kept { IfOk result (λ both. was_ready ≡ true → both ≡ count) }
 {

@@ -5,19 +5,19 @@ use Rattle.fs_peering.proofs.change.append_gone.Goals as goal
 pub append_unkept-requires : goal.append_unkept-requires
 append_unkept-requires c =
     subst (λ (l : List Sent). list_all (λ (sent : Sent). fits_alone sent.rule) l ≡ true) (sym c.as_slice-rules.ensures)
-    (all_fit c.args.terms.now c.args.old.now.as_path c.args.old.now.rules c.requires.fits)
+    (all_fit _ _ _ c.requires.fits)
 
 pub append_unkept-requires-2 : goal.append_unkept-requires-2
 append_unkept-requires-2 c =
     subst (λ (l : List Sent). list_all (λ (sent : Sent). fits_alone sent.rule) l ≡ true) (sym c.as_slice-rules.ensures)
-    (all_fit c.args.terms.now c.args.old.now.as_path c.args.old.now.rules c.requires.fits)
+    (all_fit _ _ _ c.requires.fits)
 
 pub returns-clause-text : goal.returns-clause-text
 returns-clause-text c =
-    both_withdrawn c.args.terms.now c.in_ok-kept.kept c.as_slice-rules.result.now c.args.old.now.rules c.as_slice.result.now c.args.new.now.rules _ _ _
+    both_withdrawn c.args.terms.now _ _ _ _ _ _ _ _
     c.in_ok-kept.ensures c.as_slice.ensures c.as_slice-rules.ensures c.in_ok-v4.ensures.text c.in_ok-v6.ensures.text
 
 pub returns-clause-count : goal.returns-clause-count
 returns-clause-count c =
-    both_counted c.in_ok-kept.kept c.as_slice-rules.result.now c.args.old.now.rules c.as_slice.result.now c.args.new.now.rules _ _
+    both_counted _ _ _ _ _ _ _
     c.in_ok-kept.ensures c.as_slice.ensures c.as_slice-rules.ensures c.in_ok-v4.ensures.count c.in_ok-v6.ensures.count

@@ -7,11 +7,9 @@ use Rattle.fs_peering.proofs.change.append_unsaid.Given as goal
 abbrev pub invariant-loop-rest : goal.invariant-loop-rest
 invariant-loop-rest l = record {
   fit : list_all (is_short l.terms l.numbers) l.rest ≡ true;
-  text :
-      l.out.items ++ joined (unsaid l.said (map (text_by l.terms l.numbers) l.rest))
-      ≡ l.fn.out.items ++ joined (unsaid l.said (map (text_by l.terms l.numbers) l.rules));
-  counted :
-      l.count + length (unsaid l.said (map (text_by l.terms l.numbers) l.rest))
+  text : l.out.items ++ joined (unsaid l.said (map (text_by l.terms l.numbers) l.rest)) ≡ l.fn.out.items
+      ++ joined (unsaid l.said (map (text_by l.terms l.numbers) l.rules));
+  counted : l.count + length (unsaid l.said (map (text_by l.terms l.numbers) l.rest))
       ≡ length (unsaid l.said (map (text_by l.terms l.numbers) l.rules));
   passed : l.count + length l.rest ≤ length l.rules;
 }

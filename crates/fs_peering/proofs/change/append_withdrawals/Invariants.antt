@@ -8,9 +8,8 @@ abbrev pub invariant-loop-rest : goal.invariant-loop-rest
 invariant-loop-rest l = record {
   of_family : are_rules_of l.family l.rest ≡ true;
   fit : list_all fits_alone l.rest ≡ true;
-  text :
-      l.out.items ++ flat_map (withdrawal_text l.terms l.family) (packs l.rest)
-      ≡ l.fn.out.items ++ flat_map (withdrawal_text l.terms l.family) (packs l.rules);
+  text : l.out.items ++ flat_map (withdrawal_text l.terms l.family) (packs l.rest) ≡ l.fn.out.items
+      ++ flat_map (withdrawal_text l.terms l.family) (packs l.rules);
 }
 
 abbrev pub decreases-loop-rest : goal.decreases-loop-rest

@@ -10,8 +10,7 @@ either true x = refl
 either false x = refl
 
 pub returns : goal.returns
-returns c = λ rule.
-    c.in_ok-insert.ensures.updates.0 (record { rule = rule })
+returns c = λ rule. c.in_ok-insert.ensures.updates.0 (record { rule = rule })
     ∙ either (is_eq (rule_cmp c.in_ok-rule.rule rule)) (has_rule c.args.kept.now rule)
     ∙ ap (λ (own : Ruled). is_eq (rule_cmp own rule) || has_rule c.args.kept.now rule) c.in_ok-rule.ensures
     ∙ ap (λ b. b || has_rule c.args.kept.now rule) (same_other_way c.args.sent.now.rule rule)

@@ -88,5 +88,4 @@ returns-in_default-clause-talked g c =
     elim c.else-flow-gt0-2.branch [
       | else-flow-gt0-2-via-then-flow-gt0-2+else-flow-limit w ↦ absurd (omega (arith, read, w.if-flow-limit.false, c.loop-flow.invariant.second.within))
       | else-flow-gt0-2-via-else-flow-gt0-2 w ↦ omega (arith, w.if-flow-gt0-2.false)
-    ])
-    (λ ready. c.in_ok-said.ensures.all c.in_default.is (rw c.in_ok-said.ensures.ready at ready))
+    ]) (λ ready. c.in_ok-said.ensures.all c.in_default.is (rw c.in_ok-said.ensures.ready at ready))

@@ -9,16 +9,8 @@ invariant-loop-flow g l = record {
   second : Within (g.A.Speaker.over l.second) (g.A.Speaker.count l.second) l.fn.limit (g.A.Speaker.own l.fn.second) (g.A.Speaker.own l.second);
   bound : l.flow.second_read ≤ l.fn.limit;
   counted : g.A.Speaker.ready l.second ≡ false → g.A.Speaker.count l.second ≡ l.flow.second_read;
-  talking :
-      Talking
-      (g.R.Speaker.stands l.fn.first)
-      (g.R.Speaker.stands l.first)
-      (g.A.Speaker.stands l.fn.second)
-      (g.A.Speaker.stands l.second)
-      l.flow
-      (g.W.Wire.tells l.fn.wire)
-      (g.W.Wire.tells l.wire)
-      (g.C.Clock.answers l.fn.clock)
+  talking : Talking (g.R.Speaker.stands l.fn.first) (g.R.Speaker.stands l.first) (g.A.Speaker.stands l.fn.second)
+      (g.A.Speaker.stands l.second) l.flow (g.W.Wire.tells l.fn.wire) (g.W.Wire.tells l.wire) (g.C.Clock.answers l.fn.clock)
       (g.C.Clock.answers l.clock);
 }
 

@@ -7,9 +7,7 @@ returns-clause-listens g c =
     let last : Hearer = c.hear_out.new.speaker in
     let kept = c.in_ok-heard.ensures.own in
     let same : last.peer ≡ first.peer = ap (λ (h : Hearer). h.peer) kept in
-    listens_as first.desk last.desk first.peer last.peer first.count last.count c.args.limit same (ap (λ (h : Hearer). h.desk) kept) c.requires.fresh
-    (g.W.Wire.tells c.args.wire.now) (g.W.Wire.tells c.hear_out.new.wire) (g.C.Clock.answers c.args.clock.now) (g.C.Clock.answers c.hear_out.new.clock)
-    c.in_ok-heard.heard c.ending_of.result (is_ended (standing_at_desk last.desk last.peer)) c.in_ok-heard.ensures.heard
+    listens_as _ _ _ _ _ _ _ same (ap (λ (h : Hearer). h.desk) kept) c.requires.fresh _ _ _ _ _ _ _ c.in_ok-heard.ensures.heard
     (ap (λ (n : ℕ). is_ended (standing_at_desk last.desk n)) same)
     (subst (λ s. EndsHearing c.in_ok-heard.heard s c.ending_of.result) (c.standing.ensures
     ∙ ap (λ (n : ℕ). standing_at_desk last.desk n) same) c.ending_of.ensures)

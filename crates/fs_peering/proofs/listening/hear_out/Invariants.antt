@@ -8,16 +8,8 @@ invariant-loop-round g l = record {
   opened : g.S.Speaker.over l.speaker ≡ false;
   sent : g.S.Speaker.sent l.speaker ≡ g.S.Speaker.sent l.fn.speaker;
   own : g.S.Speaker.own l.speaker ≡ g.S.Speaker.own l.fn.speaker;
-  listens :
-      Listens
-      (g.S.Speaker.stands l.fn.speaker)
-      (g.S.Speaker.stands l.speaker)
-      l.fn.end
-      (g.S.Speaker.count l.fn.speaker)
-      (g.S.Speaker.count l.speaker)
-      (g.W.Wire.tells l.fn.wire)
-      (g.W.Wire.tells l.wire)
-      (g.C.Clock.answers l.fn.clock)
+  listens : Listens (g.S.Speaker.stands l.fn.speaker) (g.S.Speaker.stands l.speaker) l.fn.end (g.S.Speaker.count l.fn.speaker)
+      (g.S.Speaker.count l.speaker) (g.W.Wire.tells l.fn.wire) (g.W.Wire.tells l.wire) (g.C.Clock.answers l.fn.clock)
       (g.C.Clock.answers l.clock);
 }
 

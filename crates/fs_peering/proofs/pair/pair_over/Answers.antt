@@ -1,4 +1,4 @@
-use Rattle.fs_peering.proofs.Words.{standing_at_desk, ◌≡◌, ℕ, true, ap, subst, ◌∙◌, EndsTalk, Hearer, Teller}
+use Rattle.fs_peering.proofs.Words.{standing_at_desk, ◌≡◌, ℕ, ap, subst, ◌∙◌, EndsTalk, Hearer, Teller}
 use Rattle.fs_peering.proofs.{Paired.{pairs_as, pairs_on}, Sending.{says_start}}
 use Rattle.fs_peering.proofs.pair.pair_over.Goals as goal
 
@@ -10,12 +10,10 @@ returns-clause-pairs g c config whose sending d w e s =
     let after : Teller = c.exchange.new.second in
     let kept = c.in_ok-talk.ensures.own in
     let same : last.peer ≡ first.peer = ap (λ (h : Hearer). h.peer) kept.0 in
-    pairs_as first.desk last.desk first.peer last.peer first.count last.count c.args.limit same (ap (λ (h : Hearer). h.desk) kept.0) c.requires.fresh
-    before.announcer after.announcer before.started after.started before.count after.count (ap (λ (s : Teller). s.announcer) kept.1) config whose sending d w
-    (says_start true before.announcer before.started before.count config whose sending e s c.requires.unheard) e
-    (g.W.Wire.tells c.args.wire.now) (g.W.Wire.tells c.exchange.new.wire) (g.C.Clock.answers c.args.clock.now) (g.C.Clock.answers c.exchange.new.clock)
-    c.in_ok-talk.talk c.ending_of.result
-    (pairs_on first.desk last.desk first.peer last.peer first.count last.count c.args.limit before.hears_on after.hears_on before.announcer
+    pairs_as _ _ _ _ _ last.count _ same (ap (λ (h : Hearer). h.desk) kept.0) c.requires.fresh
+    _ _ _ after.started _ after.count (ap (λ (s : Teller). s.announcer) kept.1) _ _ _ d w
+    (says_start _ _ _ _ _ _ _ e s c.requires.unheard) e _ _ _ _ _ _
+    (pairs_on first.desk last.desk first.peer last.peer first.count last.count c.args.limit _ _ before.announcer
     after.announcer before.started after.started before.count after.count
     (g.W.Wire.tells c.args.wire.now) (g.W.Wire.tells c.exchange.new.wire) (g.C.Clock.answers c.args.clock.now)
     (g.C.Clock.answers c.exchange.new.clock) c.in_ok-talk.talk

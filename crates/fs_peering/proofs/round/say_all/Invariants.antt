@@ -4,10 +4,7 @@ use Rattle.fs_peering.proofs.round.say_all.Given as goal
 abbrev pub invariant-messages : goal.invariant-messages
 invariant-messages g l = record {
   later : g.W.Wire.faults l.fn.wire ≤ g.W.Wire.faults l.wire;
-  spoken :
-      Told
-      (Spoken (g.S.Speaker.stands l.fn.speaker) (g.S.Speaker.stands l.speaker) l.fn.end)
-      (g.W.Wire.tells l.fn.wire)
+  spoken : Told (Spoken (g.S.Speaker.stands l.fn.speaker) (g.S.Speaker.stands l.speaker) l.fn.end) (g.W.Wire.tells l.fn.wire)
       (g.W.Wire.tells l.wire);
   over : g.S.Speaker.over l.speaker ≡ g.S.Speaker.over l.fn.speaker;
   shut : g.S.Speaker.shut l.speaker ≡ g.S.Speaker.shut l.fn.speaker;

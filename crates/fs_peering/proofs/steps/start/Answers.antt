@@ -4,28 +4,22 @@ use Rattle.fs_peering.proofs.steps.start.Goals as goal
 
 pub returns-in-Ok-clause-open : goal.returns-in-Ok-clause-open
 returns-in-Ok-clause-open c =
-    (starts_ok c.args.announcer.now c.start.new.self c.args.out.now.items c.start.new.out.items c.start.result
-    (search rules) c.start.ensures.again c.start.ensures.exact).0
+    (starts_ok _ _ _ _ _ (search rules) c.start.ensures.again c.start.ensures.exact).0
 
 pub returns-in-Ok-clause-starts : goal.returns-in-Ok-clause-starts
 returns-in-Ok-clause-starts c =
-    (starts_ok c.args.announcer.now c.start.new.self c.args.out.now.items c.start.new.out.items c.start.result
-    (search rules) c.start.ensures.again c.start.ensures.exact).1
+    (starts_ok _ _ _ _ _ (search rules) c.start.ensures.again c.start.ensures.exact).1
 
 pub returns-in-Ok-clause-ahead : goal.returns-in-Ok-clause-ahead
-returns-in-Ok-clause-ahead c = λ started.
-    starts_ahead c.args.announcer.now c.start.new.self c.args.out.now.items c.start.new.out.items c.start.result c.start.ensures.again
-    c.start.ensures.exact started
+returns-in-Ok-clause-ahead c = λ started. starts_ahead _ _ _ _ _ c.start.ensures.again c.start.ensures.exact _
 
 pub returns-in-Err-clause-ahead : goal.returns-in-Err-clause-ahead
-returns-in-Err-clause-ahead c = λ started.
-    starts_ahead c.args.announcer.now c.start.new.self c.args.out.now.items c.start.new.out.items c.start.result c.start.ensures.again
-    c.start.ensures.exact started
+returns-in-Err-clause-ahead c = λ started. starts_ahead _ _ _ _ _ c.start.ensures.again c.start.ensures.exact _
 
 pub returns-in-Ok-clause-own : goal.returns-in-Ok-clause-own
 returns-in-Ok-clause-own c =
-    starts_own c.args.announcer.now c.start.new.self c.args.out.now.items c.start.new.out.items c.start.result c.start.ensures.again c.start.ensures.exact
+    starts_own _ _ _ _ _ c.start.ensures.again c.start.ensures.exact
 
 pub returns-in-Err-clause-own : goal.returns-in-Err-clause-own
 returns-in-Err-clause-own c =
-    starts_own c.args.announcer.now c.start.new.self c.args.out.now.items c.start.new.out.items c.start.result c.start.ensures.again c.start.ensures.exact
+    starts_own _ _ _ _ _ c.start.ensures.again c.start.ensures.exact

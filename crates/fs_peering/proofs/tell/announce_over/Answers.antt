@@ -1,4 +1,4 @@
-use Rattle.fs_peering.proofs.Words.{ap, sym, ◌∙◌, refl, rules, Bool, SaysUpTo, Teller}
+use Rattle.fs_peering.proofs.Words.{ap, sym, ◌∙◌, refl, rules, Bool, Teller}
 use Rattle.fs_peering.proofs.Announced.{done_so, ended_so, is_of, limit_so, over_limit, over_so}
 use Rattle.fs_peering.proofs.Sending.{says_start}
 use Rattle.fs_peering.specs.Teller.{is_over}
@@ -6,17 +6,15 @@ use Rattle.fs_peering.proofs.tell.announce_over.Goals as goal
 
 pub returns-in-Some-clause-tells : goal.returns-in-Some-clause-tells
 returns-in-Some-clause-tells g c config peer sending e s =
-    over_so config peer sending c.args.limit c.args.teller.now c.say_all.new.speaker c.hear_out.new.speaker _ _ _ _ _ c.in_ok-say_all.ensures.own
-    c.in_ok-hear_out.ensures.own c.requires.early e s c.requires.fresh
+    over_so _ _ _ _ _ _ _ _ _ _ _ _ c.in_ok-say_all.ensures.own c.in_ok-hear_out.ensures.own c.requires.early e s c.requires.fresh
     c.in_ok-say_all.ensures.spoke (c.in_ok-say_all.ensures.over
-    ∙ c.requires.open) c.in-Some.why _ _ _ (rw c.in-Over.is at c.in_ok-hear_out.ensures.heard) (sym c.closed.ensures
+    ∙ c.requires.open) _ _ _ _ (rw c.in-Over.is at c.in_ok-hear_out.ensures.heard) (sym c.closed.ensures
     ∙ c.in-Some.is) _ (search rules)
 
 pub returns-then-limit-count-clause-tells : goal.returns-then-limit-count-clause-tells
 returns-then-limit-count-clause-tells g c config peer sending e s =
-    over_limit config peer sending c.args.limit c.args.teller.now c.say_all.new.speaker c.hear_out.new.speaker _ _ _ _ _ c.in_ok-say_all.ensures.own
-    c.in_ok-hear_out.ensures.own c.requires.early e s c.requires.fresh
-    c.in_ok-say_all.ensures.spoke (c.in_ok-say_all.ensures.over
+    over_limit _ _ _ _ _ _ _ _ _ _ _ _ c.in_ok-say_all.ensures.own c.in_ok-hear_out.ensures.own c.requires.early e s
+    c.requires.fresh c.in_ok-say_all.ensures.spoke (c.in_ok-say_all.ensures.over
     ∙ c.requires.open) _ _ _ (rw c.in-Over.is at c.in_ok-hear_out.ensures.heard) c.in_ok-hear_out.ensures.sent (search rules) (search rules)
 
 pub returns-in_ok-say_all-in-Over-clause-tells : goal.returns-in_ok-say_all-in-Over-clause-tells
@@ -27,33 +25,26 @@ returns-in_ok-say_all-in-Over-clause-tells g c config peer sending e s =
     let last : Teller = c.say_all-in-Over.new.speaker in
     let own = c.in_ok-hear_out.ensures.own ∙ c.in_ok-say_all.ensures.own in
     let on_heard = ap (λ (t : Teller). t.hears_on) own ∙ c.requires.early in
-    done_so config peer sending c.args.limit (SaysUpTo first.hears_on first.announcer first.started first.count)
-    (SaysUpTo spoke.hears_on spoke.announcer spoke.started spoke.count)
-    (SaysUpTo heard.hears_on heard.announcer heard.started heard.count) heard.announcer.line last.hears_on last.announcer last.started last.count
-    (g.W.Wire.tells c.args.wire.now) (g.W.Wire.tells c.say_all.new.wire) (g.W.Wire.tells c.hear_out.new.wire) (g.W.Wire.tells c.say_all-in-Over.new.wire)
-    (g.C.Clock.answers c.args.clock.now) (g.C.Clock.answers c.hear_out.new.clock)
-    (says_start first.hears_on first.announcer first.started first.count config peer sending e s c.requires.fresh) c.in_ok-say_all.ensures.spoke
+    done_so _ _ _ _ _ _ _ heard.announcer.line _ _ _ _ _ _ _ _ _ _
+    (says_start _ _ _ _ _ _ _ e s c.requires.fresh) c.in_ok-say_all.ensures.spoke
     (ap (λ (t : Teller). t.hears_on) c.in_ok-say_all-in-Over.ensures.own ∙ on_heard)
-    (is_of last.announcer first.announcer config peer sending (ap (λ (t : Teller). t.announcer) (c.in_ok-say_all-in-Over.ensures.own ∙ own)) e)
-    (is_over heard.hears_on heard.announcer.line) spoke.count heard.count (rw c.in-Over.is at c.in_ok-hear_out.ensures.heard)
-    c.in_ok-say_all-in-Over.ensures.spoke
+    (is_of _ _ _ _ _ (ap (λ (t : Teller). t.announcer) (c.in_ok-say_all-in-Over.ensures.own ∙ own)) e)
+    _ _ _ (rw c.in-Over.is at c.in_ok-hear_out.ensures.heard) c.in_ok-say_all-in-Over.ensures.spoke
     (ap (λ (o : Bool). is_over o heard.announcer.line) on_heard) (search rules) c.in_ok-say_all-in-Over.ensures.shut
     c.in_ok-say_all-in-Over.ensures.ready (search rules) c.in_ok-say_all-in-Over.ensures.all
 
 pub returns-in-AtLimit-clause-tells : goal.returns-in-AtLimit-clause-tells
 returns-in-AtLimit-clause-tells g c config peer sending e s =
-    limit_so config peer sending c.args.limit c.args.teller.now c.say_all.new.speaker c.hear_out.new.speaker _ _ _ _ _ c.in_ok-say_all.ensures.own
-    c.in_ok-hear_out.ensures.own c.requires.early e s c.requires.fresh
-    c.in_ok-say_all.ensures.spoke (c.in_ok-say_all.ensures.over
+    limit_so _ _ _ _ _ _ _ _ _ _ _ _ c.in_ok-say_all.ensures.own c.in_ok-hear_out.ensures.own c.requires.early e s
+    c.requires.fresh c.in_ok-say_all.ensures.spoke (c.in_ok-say_all.ensures.over
     ∙ c.requires.open) _ _ _ (rw c.in-AtLimit.is at c.in_ok-hear_out.ensures.heard) c.in_ok-hear_out.ensures.sent
     (ap (λ (o : Bool). is_over o c.hear_out.new.speaker.announcer.line)
     (ap (λ (t : Teller). t.hears_on) (c.in_ok-hear_out.ensures.own ∙ c.in_ok-say_all.ensures.own) ∙ c.requires.early)) refl
 
 pub returns-in-All-clause-tells : goal.returns-in-All-clause-tells
 returns-in-All-clause-tells g c config peer sending e s =
-    ended_so config peer sending c.args.limit c.args.teller.now c.say_all.new.speaker c.hear_out.new.speaker _ _ _ _ _ c.in_ok-say_all.ensures.own
-    c.in_ok-hear_out.ensures.own c.requires.early e s c.requires.fresh
-    c.in_ok-say_all.ensures.spoke (c.in_ok-say_all.ensures.over
+    ended_so _ _ _ _ _ _ _ _ _ _ _ _ c.in_ok-say_all.ensures.own c.in_ok-hear_out.ensures.own c.requires.early e s
+    c.requires.fresh c.in_ok-say_all.ensures.spoke (c.in_ok-say_all.ensures.over
     ∙ c.requires.open) _ _ _ (rw c.in-All.is at c.in_ok-hear_out.ensures.heard) c.in_ok-hear_out.ensures.sent
     (ap (λ (o : Bool). is_over o c.hear_out.new.speaker.announcer.line)
     (ap (λ (t : Teller). t.hears_on) (c.in_ok-hear_out.ensures.own ∙ c.in_ok-say_all.ensures.own) ∙ c.requires.early)) refl

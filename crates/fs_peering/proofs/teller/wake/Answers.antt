@@ -4,36 +4,26 @@ use Rattle.fs_peering.proofs.teller.wake.Goals as goal
 pub returns-in-Ok-clause-wakes : goal.returns-in-Ok-clause-wakes
 returns-in-Ok-clause-wakes c =
     ticks_on (machine_in c.args.announcer.now) c.args.moment c.args.announcer.now.line c.tick.new.self.line c.args.out.now.items c.tick.new.out.items
-    c.tick.result
-    (search rules) (woke_over c.args.announcer.now c.tick.new.self c.tick.result c.args.out.now.items c.tick.new.out.items c.tick.ensures.again)
-    c.tick.ensures.closed c.tick.ensures.exact
+    c.tick.result (search rules) (woke_over _ _ _ _ _ c.tick.ensures.again) c.tick.ensures.closed c.tick.ensures.exact
 
 pub returns-in-Err-clause-wakes : goal.returns-in-Err-clause-wakes
 returns-in-Err-clause-wakes c =
-    on_ok_weaker c.closes.result
-    (λ other.
-    ticks_shut (machine_in c.args.announcer.now) c.args.moment c.args.announcer.now.line c.tick.new.self.line c.args.out.now.items
-    c.tick.new.out.items c.in-Err.why c.tick.result
-    (search rules) other (woke_over c.args.announcer.now c.tick.new.self c.tick.result c.args.out.now.items c.tick.new.out.items c.tick.ensures.again)
-    c.tick.ensures.closed c.tick.ensures.exact)
-    c.closes.ensures
+    on_ok_weaker c.closes.result (λ other. ticks_shut (machine_in c.args.announcer.now) c.args.moment c.args.announcer.now.line
+    c.tick.new.self.line c.args.out.now.items c.tick.new.out.items c.in-Err.why c.tick.result (search rules) other
+    (woke_over _ _ _ _ _ c.tick.ensures.again) c.tick.ensures.closed c.tick.ensures.exact) c.closes.ensures
 
 pub returns-in-Ok-clause-same : goal.returns-in-Ok-clause-same
 returns-in-Ok-clause-same c =
-    woke_settled c.args.announcer.now c.tick.new.self c.args.moment c.args.out.now.items c.tick.new.out.items c.tick.result c.tick.ensures.same
-    c.tick.ensures.again c.tick.ensures.closed c.tick.ensures.exact
+    woke_settled _ _ _ _ _ _ c.tick.ensures.same c.tick.ensures.again c.tick.ensures.closed c.tick.ensures.exact
 
 pub returns-in-Err-clause-same : goal.returns-in-Err-clause-same
 returns-in-Err-clause-same c =
-    woke_settled c.args.announcer.now c.tick.new.self c.args.moment c.args.out.now.items c.tick.new.out.items c.tick.result c.tick.ensures.same
-    c.tick.ensures.again c.tick.ensures.closed c.tick.ensures.exact
+    woke_settled _ _ _ _ _ _ c.tick.ensures.same c.tick.ensures.again c.tick.ensures.closed c.tick.ensures.exact
 
 pub returns-in-Ok-clause-kept : goal.returns-in-Ok-clause-kept
 returns-in-Ok-clause-kept c =
-    woke_hand c.args.announcer.now c.tick.new.self c.args.moment c.args.out.now.items c.tick.new.out.items c.tick.result c.tick.ensures.again
-    c.tick.ensures.closed c.tick.ensures.exact
+    woke_hand _ _ _ _ _ _ c.tick.ensures.again c.tick.ensures.closed c.tick.ensures.exact
 
 pub returns-in-Err-clause-kept : goal.returns-in-Err-clause-kept
 returns-in-Err-clause-kept c =
-    woke_hand c.args.announcer.now c.tick.new.self c.args.moment c.args.out.now.items c.tick.new.out.items c.tick.result c.tick.ensures.again
-    c.tick.ensures.closed c.tick.ensures.exact
+    woke_hand _ _ _ _ _ _ c.tick.ensures.again c.tick.ensures.closed c.tick.ensures.exact

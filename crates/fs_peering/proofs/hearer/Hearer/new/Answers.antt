@@ -9,7 +9,7 @@ returns-clause-fresh c =
         refl,
         (
           refl,
-          receives_none c.args.config.now c.args.peer c.up.new.self c.args.peer 0 c.requires config_is
+          receives_none _ _ _ _ _ c.requires config_is
               (c.in_ok-up.ensures.played nobody c.args.config.now _ c.in_ok-desk.ensures.played)
               (c.in_ok-up.ensures.begun ∙ ap (λ (d : Config). begins d c.args.peer) c.in_ok-desk.ensures.played.config_is) refl refl,
         ),

@@ -7,15 +7,15 @@ pub returns-then-is_some-clause-took : goal.returns-then-is_some-clause-took
 returns-then-is_some-clause-took g c = (
   0,
   elim c.then-is_some.branch [
-    | then-is_some-via-then-is_some w ↦ dial_still _ _ c.args.time c.args.address.now _ c.self.view_is (sym c.is_some.ensures ∙ w.if-is_some.true)
-    | then-is_some-via-else-is_some+then-saturating_sub-self w ↦ dial_soon _ _ c.args.time _ c.args.address.now _ c.self.view_is
+    | then-is_some-via-then-is_some w ↦ dial_still _ _ _ _ _ c.self.view_is (sym c.is_some.ensures ∙ w.if-is_some.true)
+    | then-is_some-via-else-is_some+then-saturating_sub-self w ↦ dial_soon _ _ _ _ _ _ c.self.view_is
         w.saturating_sub.ensures w.if-saturating_sub-self.true
   ],
 )
 
 pub returns-in_default-clause-took : goal.returns-in_default-clause-took
 returns-in_default-clause-took g c =
-    (0, dial_none _ _ c.args.time c.args.address.now _ c.self.view_is c.in_default.is)
+    (0, dial_none _ _ _ _ _ c.self.view_is c.in_default.is)
 
 pub new-requires : goal.new-requires
 new-requires g c =
@@ -24,10 +24,9 @@ new-requires g c =
 
 pub invariant_of-self : goal.invariant_of-self
 invariant_of-self g c =
-    dial_fits c.self.inside.config.now c.self.inside.rules c.self.inside.link c.dial.result c.args.time c.in-Some.rules c.in_ok-link.link _ c.self.invariant
-    (subst (λ (r : Option Sending). IfSome r (CanSend c.self.inside.config.now (sender_of c.self.inside.config.now.peers))) c.in-Some.is
-    c.self.invariant.sendable)
-    c.in_ok-link.ensures.made c.link.view_is
+    dial_fits _ _ _ _ _ _ _ _ c.self.invariant
+    (subst (λ (r : Option Sending). IfSome r (CanSend c.self.inside.config.now (sender_of c.self.inside.config.now.peers)))
+    c.in-Some.is c.self.invariant.sendable) c.in_ok-link.ensures.made c.link.view_is
 
 pub returns-in_err-link-clause-breaks : goal.returns-in_err-link-clause-breaks
 returns-in_err-link-clause-breaks g c =
@@ -36,7 +35,7 @@ returns-in_err-link-clause-breaks g c =
 pub returns-clause-took : goal.returns-clause-took
 returns-clause-took g c = (
   c.dial.result,
-  dial_took _ _ c.dial.result c.args.time c.saturating_sub.result c.args.address.now c.in-Some.rules c.in_ok-link.link _ _ _ c.self.view_is
+  dial_took _ _ _ _ _ _ _ _ _ _ _ c.self.view_is
       (subst (λ (r : Option Sending). IfSome r (CanSend c.self.inside.config.now (sender_of c.self.inside.config.now.peers))) c.in-Some.is
       c.self.invariant.sendable) (sym
       c.is_some.ensures ∙ c.if-is_some.false) c.in-Some.is c.saturating_sub.ensures c.if-saturating_sub-self.false c.dial.ensures.dialled

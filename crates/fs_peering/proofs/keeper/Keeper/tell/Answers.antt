@@ -3,13 +3,9 @@ use Rattle.fs_peering.proofs.KeeperWords.{option_copied, sender_of}
 use Rattle.fs_peering.proofs.{Following.{all_said, fits_on, may_be_said}, Stepped.{tell_closes, tell_idle, tell_no, tell_stays}}
 use Rattle.fs_peering.proofs.keeper.Keeper.tell.Goals as goal
 
-pub invariant_of-self : goal.invariant_of-self
-invariant_of-self g c =
-    c.self.invariant
-
 pub returns-in_default-clause-tells : goal.returns-in_default-clause-tells
 returns-in_default-clause-tells g c =
-    tell_no _ _ c.args.time (option_copied c.args.old) _ c.self.view_is c.in_default.is
+    tell_no _ _ _ _ _ c.self.view_is c.in_default.is
 
 pub invariant_of-self-in_default-rules : goal.invariant_of-self-in_default-rules
 invariant_of-self-in_default-rules g c =
@@ -17,32 +13,30 @@ invariant_of-self-in_default-rules g c =
 
 pub returns-in_default-rules-clause-tells : goal.returns-in_default-rules-clause-tells
 returns-in_default-rules-clause-tells g c =
-    tell_idle _ _ c.in-Some.link c.args.time (option_copied c.args.old) _ c.self.view_is c.in-Some.is c.in_default-rules.is
+    tell_idle _ _ _ _ _ _ c.self.view_is c.in-Some.is c.in_default-rules.is
 
 pub tell-requires-clause-old : goal.tell-requires-clause-old
 tell-requires-clause-old g c =
-    all_said c.self.inside.config.now c.in-Some.link (option_copied c.args.old)
-    (subst (λ (l : Option Linked). IfSome l (IsOwn c.self.inside.config.now)) c.in-Some.is c.self.invariant.own)
+    all_said _ _ _ (subst (λ (l : Option Linked). IfSome l (IsOwn c.self.inside.config.now)) c.in-Some.is c.self.invariant.own)
     (subst (λ (k : Keeping). IfSome (option_copied c.args.old) (CanSend k.config (sender_of k.config.peers))) (sym c.self.view_is) c.requires)
 
 pub tell-requires-clause-new : goal.tell-requires-clause-new
 tell-requires-clause-new g c =
-    may_be_said c.self.inside.config.now c.in-Some.link c.in-Some-rules.rules
-    (subst (λ (l : Option Linked). IfSome l (IsOwn c.self.inside.config.now)) c.in-Some.is c.self.invariant.own)
+    may_be_said _ _ _ (subst (λ (l : Option Linked). IfSome l (IsOwn c.self.inside.config.now)) c.in-Some.is c.self.invariant.own)
     (subst (λ (r : Option Sending). IfSome r (CanSend c.self.inside.config.now (sender_of c.self.inside.config.now.peers))) c.in-Some-rules.is
     c.self.invariant.sendable)
 
 pub invariant_of-self-in_err-news : goal.invariant_of-self-in_err-news
 invariant_of-self-in_err-news g c =
-    fits_on c.self.inside.config.now c.self.inside.rules c.self.inside.link c.in-Some.link c.tell.new.self c.in-Some.is c.self.invariant c.tell.ensures.own
+    fits_on _ _ _ _ _ c.in-Some.is c.self.invariant c.tell.ensures.own
 
 pub invariant_of-self-then-closes : goal.invariant_of-self-then-closes
 invariant_of-self-then-closes g c =
-    fits_on c.self.inside.config.now c.self.inside.rules c.self.inside.link c.in-Some.link c.tell.new.self c.in-Some.is c.self.invariant c.tell.ensures.own
+    fits_on _ _ _ _ _ c.in-Some.is c.self.invariant c.tell.ensures.own
 
 pub invariant_of-self-else-closes : goal.invariant_of-self-else-closes
 invariant_of-self-else-closes g c =
-    fits_on c.self.inside.config.now c.self.inside.rules c.self.inside.link c.in-Some.link c.tell.new.self c.in-Some.is c.self.invariant c.tell.ensures.own
+    fits_on _ _ _ _ _ c.in-Some.is c.self.invariant c.tell.ensures.own
 
 pub returns-in_err-news-clause-breaks : goal.returns-in_err-news-clause-breaks
 returns-in_err-news-clause-breaks g c =
@@ -50,15 +44,11 @@ returns-in_err-news-clause-breaks g c =
 
 pub returns-then-closes-clause-tells : goal.returns-then-closes-clause-tells
 returns-then-closes-clause-tells g c =
-    tell_closes _ _ c.self.view_is c.args.time (option_copied c.args.old) c.in-Some.link _ c.in-Some-rules.rules c.in-Some.is c.in-Some-rules.is
-    c.link.view_is c.in_ok-news.news c.in_ok-news.closes
-    c.tell.new.self c.clear.new.self.items c.tell.new.out.items c.deref.result.now c.clear.ensures.items c.deref.ensures.value
-    c.in_ok-news.ensures.tells _ _ c.say.ensures.said
-    c.shut.new.self _ c.if-closes.true c.shut.ensures.shut c.shut.ensures.gone
+    tell_closes _ _ c.self.view_is _ _ _ _ _ c.in-Some.is c.in-Some-rules.is c.link.view_is _ _
+    _ _ _ _ c.clear.ensures.items c.deref.ensures.value c.in_ok-news.ensures.tells _ _ c.say.ensures.said
+    _ _ c.if-closes.true c.shut.ensures.shut c.shut.ensures.gone
 
 pub returns-else-closes-clause-tells : goal.returns-else-closes-clause-tells
 returns-else-closes-clause-tells g c =
-    tell_stays _ _ c.self.view_is c.args.time (option_copied c.args.old) c.in-Some.link _ c.in-Some-rules.rules c.in-Some.is c.in-Some-rules.is
-    c.link.view_is c.in_ok-news.news c.in_ok-news.closes
-    c.tell.new.self c.clear.new.self.items c.tell.new.out.items c.deref.result.now c.clear.ensures.items c.deref.ensures.value
-    c.in_ok-news.ensures.tells _ _ c.say.ensures.said c.if-closes.false
+    tell_stays _ _ c.self.view_is _ _ _ _ _ c.in-Some.is c.in-Some-rules.is c.link.view_is _ _
+    _ _ _ _ c.clear.ensures.items c.deref.ensures.value c.in_ok-news.ensures.tells _ _ c.say.ensures.said c.if-closes.false

@@ -3,7 +3,7 @@ use Rattle.fs_peering.proofs.keeper.Keeper.tell_all.Goals as goal
 
 pub returns-then-not-is_untold-clause-took : goal.returns-then-not-is_untold-clause-took
 returns-then-not-is_untold-clause-took g c =
-    all_rests c.args.time c.args.self.now _ (sym c.is_untold.ensures ∙ c.if-not-is_untold.true)
+    all_rests _ _ _ (sym c.is_untold.ensures ∙ c.if-not-is_untold.true)
 
 pub returns-clause-took : goal.returns-clause-took
 returns-clause-took g c =
@@ -12,4 +12,4 @@ returns-clause-took g c =
 
 pub returns-clause-breaks : goal.returns-clause-breaks
 returns-clause-breaks g c =
-    err_on c.tell.result c.tell.ensures.breaks (breaks_early (tells_all c.args.self.now.config c.args.time) c.args.self.now _ _)
+    err_on _ c.tell.ensures.breaks (breaks_early (tells_all c.args.self.now.config c.args.time) c.args.self.now _ _)

@@ -3,10 +3,7 @@ use Rattle.fs_peering.proofs.teller.TellerSpeaker.hear.Goals as goal
 
 pub returns-clause-hears : goal.returns-clause-hears
 returns-clause-hears c =
-    hears_on c.args.self.now.hears_on c.args.self.now.announcer c.begin.new.announcer c.wake.new.announcer c.take.new.announcer
-    c.args.self.now.started c.is_ready-was_ready.result
-    c.args.self.now.count _ c.args.moment c.in_ok-needed.needed c.args.piece.now c.args.out.now.items c.begin.new.out.items c.wake.new.out.items
-    c.take.new.out.items
+    hears_on _ _ _ _ _ _ _ _ _ _ _ _ _ _ _ _
     c.requires c.in_ok-begin.ensures.own c.in_ok-begin.ensures.same (c.in_ok-begin.ensures.begins c.args.self.now.hears_on)
     (record {
       ticks = c.in_ok-wake.ensures.wakes;
@@ -16,8 +13,7 @@ returns-clause-hears c =
       took = c.take.ensures.same;
       counts = c.in_ok-needed.ensures.counts;
       shuts = c.in_ok-needed.ensures.shuts;
-    })
-    c.is_ready-was_ready.ensures c.in_ok-self.ensures.added c.in_ok-self.ensures.kept
+    }) c.is_ready-was_ready.ensures c.in_ok-self.ensures.added c.in_ok-self.ensures.kept
 
 pub returns-clause-sent : goal.returns-clause-sent
 returns-clause-sent c =
