@@ -84,17 +84,20 @@ module _ (time : ℕ) (rules : Sending) (before : Option Sending) (connection : 
       → IsConnection mid.config kept.rules (record connection { spoken = text; told = Some rules }) (record linked { told = true })
   told_connection text = assumption
 
-  tells_case : (exceeding : Bool) → exceeds (needs_of connection.asked.rules) (needs_of rules.rules) ≡ exceeding
-      → TellsBy exceeding time told rules linked news mid new turns turns' → Took (tells mid.config time rules connection kept) news mid new turns turns'
-  tells_case true e by =
-      subst (λ (b : Bool). Took (if b
-      then parts (notice_text 6 6) (Fault 6 6) time connection kept
+  abbrev tells_of : Bool → Outcome
+  tells_of exceeding =
+      if exceeding then parts (notice_text 6 6) (Fault 6 6) time connection kept
       else outcome (speaks connection.line (change_text (terms_at mid.config connection) connection.told rules))
       (Some (news_told (terms_at mid.config connection) connection.told rules))
       (with_connection (Some (record connection {
         spoken = connection.spoken ++ change_text (terms_at mid.config connection) connection.told rules;
         told = Some rules;
-      })) kept)) news mid new turns turns') (sym e)
+      })) kept)
+
+  tells_case : (exceeding : Bool) → exceeds (needs_of connection.asked.rules) (needs_of rules.rules) ≡ exceeding
+      → TellsBy exceeding time told rules linked news mid new turns turns' → Took (tells mid.config time rules connection kept) news mid new turns turns'
+  tells_case true e by =
+      subst (λ (b : Bool). Took (tells_of b) news mid new turns turns') (sym e)
       (subst (λ (n : Keeping). Took (parts (notice_text 6 6) (Fault 6 6) time connection kept) news mid n turns turns') (sym by.1.1)
       (record {
         asked = subst (λ line. Grew turns turns' (speaks line (notice_text 6 6) ++ shut line ∷ [])) is.line_is by.0;
@@ -104,14 +107,7 @@ module _ (time : ℕ) (rules : Sending) (before : Option Sending) (connection : 
       }))
   tells_case false e by =
       let terms = terms_so in
-      subst (λ (b : Bool). Took (if b
-      then parts (notice_text 6 6) (Fault 6 6) time connection kept
-      else outcome (speaks connection.line (change_text (terms_at mid.config connection) connection.told rules))
-      (Some (news_told (terms_at mid.config connection) connection.told rules))
-      (with_connection (Some (record connection {
-        spoken = connection.spoken ++ change_text (terms_at mid.config connection) connection.told rules;
-        told = Some rules;
-      })) kept)) news mid new turns turns') (sym e)
+      subst (λ (b : Bool). Took (tells_of b) news mid new turns turns') (sym e)
       (record {
         asked =
             subst (λ line. Grew turns turns' (speaks line (change_text (terms_at mid.config connection) connection.told rules))) is.line_is

@@ -138,24 +138,13 @@ module _ (said : Said) (news : Option News) (time : ℕ) (connection : Connectio
     same = is.same;
   }
 
+  link_on : said.closing ≡ None → IsLink old.config kept.rules (Some (spoke said.text said.point connection)) (Some linked')
+  link_on alive = (linked', refl, goes_on alive)
+
   stands_on : said.closing ≡ None → (up : Bool)
       → Stands (with_connection (Some (spoke said.text said.point connection)) (comes_up up kept)) (going up linked' old)
-  stands_on alive true = record {
-    rules_are = stands.rules_are;
-    sendable = stands.sendable;
-    since_is = stands.since_is;
-    wait_is = stands.wait_is;
-    delay_is = refl;
-    link = (linked', refl, goes_on alive);
-  }
-  stands_on alive false = record {
-    rules_are = stands.rules_are;
-    sendable = stands.sendable;
-    since_is = stands.since_is;
-    wait_is = stands.wait_is;
-    delay_is = stands.delay_is;
-    link = (linked', refl, goes_on alive);
-  }
+  stands_on alive true = let link = link_on alive in assumption
+  stands_on alive false = let link = link_on alive in assumption
 
   opens_none : said.closing ≡ None → news ≡ None
   opens_none alive = says.news_is ∙ ap (λ (closing : Option Closed). option_and_then news_of closing) alive
