@@ -7,6 +7,7 @@ ghost use Rattle.cmd_stages.specs.{Load.{OpensFront, config_then, sending_stage}
 ghost use Rattle.cmd_stages.specs.declared.refusal.Refusal.{Refusal as Cause};
 ghost use Rattle.cmd_wire.specs.{Announcing.{Announces, Connected, IsBrokenOff, IsOfSession}, Conversation.{conversation}};
 
+use crate::closing::close_end;
 use crate::tell::tell_ending;
 use cmd_stages::{Refusal, load_config, load_rules};
 use fs_base::{Clock, Config, Files, Opening, Sink, Wire};
@@ -109,7 +110,7 @@ fn speak<W: Wire, C: Clock>(
     wire.open_end(Opening::Dial(order.address))?;
     match announce_over(wire, clock, &mut teller, order.limit, &mut buffers) {
         Ok(ending) => {
-            wire.close(1)?;
+            close_end(wire, 1, teller.announced())?;
             Ok(ending)
         }
         Err(TalkFault::Failed) => Err(Refusal::Outside),

@@ -2,6 +2,7 @@
 #![tactic(auto)]
 
 mod announcing;
+mod closing;
 mod judged;
 mod keeping;
 mod laws;

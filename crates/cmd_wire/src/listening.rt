@@ -8,6 +8,7 @@ ghost use Rattle.cmd_stages.specs.{Load.{OpensFront, config_alone}, Refusal.{Has
 ghost use Rattle.cmd_wire.specs.{Announcing.{IsBrokenOff, IsOfSession}, Conversation.{conversation}};
 ghost use Rattle.cmd_wire.specs.Listening.{Begins, ListensThrough, ListensTo, hearing_stage, with_peer};
 
+use crate::closing::close_end;
 use crate::listed::tell_listing;
 use cmd_stages::{Refusal, load_config};
 use fs_base::{Clock, Config, Files, Opening, Sink, Wire};
@@ -103,7 +104,7 @@ fn hear<W: Wire, C: Clock>(
     wire.open_end(Opening::Listen(order.address))?;
     match listen_over(wire, clock, hearer, order.limit, &mut buffers) {
         Ok(ending) => {
-            wire.close(0)?;
+            close_end(wire, 0, 0)?;
             Ok(ending)
         }
         Err(TalkFault::Failed) => Err(Refusal::Outside),

@@ -8,6 +8,7 @@ ghost use Rattle.cmd_wire.specs.{Announcing.{IsBrokenOff, IsOfSession}, Conversa
 ghost use Rattle.cmd_wire.specs.Pairing.{AreReady, BothBegin, Joined, Joins};
 
 use crate::announcing::load_both;
+use crate::closing::close_end;
 use crate::listed::tell_listing;
 use crate::listening::lowest;
 use cmd_stages::Refusal;
@@ -116,7 +117,7 @@ fn join<W: Wire, C: Clock>(
         &mut buffers,
     ) {
         Ok(ending) => {
-            wire.close(1)?;
+            close_end(wire, 1, ends.teller.announced())?;
             Ok(ending)
         }
         Err(TalkFault::Failed) => Err(Refusal::Outside),

@@ -20,12 +20,6 @@ const DRAINS: u32 = 1 << 30;
 /// So many connections of others to the port of joined ends are turned away.
 const STRANGERS: u32 = 1 << 16;
 
-/// A message has its type in this octet (RFC 4271 section 4.1).
-const TYPE: usize = 18;
-
-/// The type of an UPDATE.
-const UPDATE: u8 = 2;
-
 /// Each piece leaves at once, and waits for room no longer than `PATIENCE`.
 fn prepare<S: OpenStream>(stream: &S) -> io::Result<()> {
     stream.set_nodelay(true)?;
@@ -97,17 +91,10 @@ fn drain<R: Clock, S: Read + OpenStream>(runtime: &R, stream: &mut S) -> io::Res
     Ok(())
 }
 
-/// Whether a piece begins with an UPDATE.
-fn begins_update(piece: &[u8]) -> bool {
-    TYPE < piece.len() && piece[TYPE] == UPDATE
-}
-
-/// An end that is open, whether UPDATEs were written to it, and how long what is written next may still wait for room. All
-/// else that an end writes opens the session or answers what it has read, and is of no more use once its peer has gone.
+/// An end that is open, and how long what is written next may still wait for room.
 #[derive(Drop)]
 struct End<S: Read + Write + OpenStream + Drop> {
     stream: S,
-    announced: bool,
     rest: Duration,
 }
 
@@ -115,7 +102,6 @@ impl<S: Read + Write + OpenStream + Drop> End<S> {
     fn new(stream: S) -> End<S> {
         End {
             stream,
-            announced: false,
             rest: Duration::from_secs(PATIENCE),
         }
     }
@@ -139,13 +125,12 @@ impl<S: Read + Write + OpenStream + Drop> End<S> {
         Ok(())
     }
 
-    /// What is written to a connection that was torn down is lost. Whether that matters shows at the closing: what the
-    /// peer said before may still be read. A peer that takes a part of a piece has what is left of its time for the rest:
+    /// What is written to a connection that was torn down is lost, which the closing answers: what the peer said before
+    /// may still be read. A peer that takes a part of a piece has what is left of its time for the rest:
     /// so one that reads little by little holds nobody for longer than one that reads nothing.
     fn write<R: Clock>(&mut self, runtime: &R, piece: &[u8]) -> io::Result<usize>
         ensures { IfOk result (λ n. n ≤ length piece.now) }
     {
-        self.announced = self.announced || begins_update(piece);
         let begun = runtime.monotonic()?;
         match self.stream.write(piece) {
             Err(error) if is_torn_down(&error) => Ok(piece.len()),
@@ -163,14 +148,10 @@ impl<S: Read + Write + OpenStream + Drop> End<S> {
         }
     }
 
-    /// Ends the writing side and, where `drains` says so, waits for the peer's close. Where the connection was torn down,
-    /// nothing is left to be closed; that UPDATEs may be lost then is a fault.
+    /// Ends the writing side and, where `drains` says so, waits for the peer's close. A connection that was torn down
+    /// refuses that: what was written may be lost.
     fn close<R: Clock>(&mut self, runtime: &R, drains: bool) -> io::Result<()> {
-        match self.stream.shutdown(Shutdown::Write) {
-            Ok(()) => {}
-            Err(error) if is_torn_down(&error) && !self.announced => return Ok(()),
-            Err(error) => return Err(error),
-        }
+        self.stream.shutdown(Shutdown::Write)?;
         if drains {
             // however the waiting ends, what was written has left
             let _ = drain(runtime, &mut self.stream);

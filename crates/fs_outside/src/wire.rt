@@ -63,7 +63,7 @@ pub trait Wire {
     ///
     /// # Errors
     ///
-    /// `Failed` where the outside failed, which is counted.
+    /// `Failed` where the outside failed, which is counted; octets that were written through `end` may be lost then.
     fn close(&mut self, end: u8) -> Result<(), Failed>
         requires { end ≤ 1 }
         ensures cause { HasCause (faults self.old) (faults self.new) result }

@@ -53,6 +53,13 @@ impl<'a> Teller<'a> {
         })
     }
 
+    /// How many rules it has announced, each in an UPDATE.
+    pub fn announced(&self) -> usize
+        ensures { result ≡ self.now.announcer.appended }
+    {
+        self.announcer.appended()
+    }
+
     /// How it has closed.
     pub fn closed(&self) -> Option<Closed>
         ensures { result ≡ self.now.announcer.line.closed }

@@ -159,6 +159,13 @@ impl<'a> Announcer<'a> {
         self.sending.needs()
     }
 
+    /// How many rules' UPDATEs it has appended.
+    pub fn appended(&self) -> usize
+        ensures { result ≡ self.now.appended }
+    {
+        self.appended
+    }
+
     /// What has closed the end; None while it is open.
     pub fn closed(&self) -> Option<Closed>
         ensures { result ≡ self.now.line.closed }
