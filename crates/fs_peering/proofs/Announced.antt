@@ -141,12 +141,12 @@ module _ (ending : Ending) (config : Config) (peer : Peer) (sending : Sending) (
   abbrev own : List ℕ → Pieces → List ℕ → Type 0
   own left heard said = TellsSo ending end.config end.peer end.sending limit heard said left
 
-  told_so : (given : List ℕ) (s0 : Stance) (a b : WireEnds) → s0 [] []
-      → ((heard : Pieces) (said : List ℕ) → 0 < length heard → SaysUpTo false end started count heard said → own b.second.left heard said)
-      → Whole s0 (SaysUpTo on end started count) limit given a b → Tells ending config peer sending limit given a b
-  told_so given s0 a b start ends w =
-      let h : SaysUpTo false end started count w.heard w.said =
-      subst (λ (x : Bool). SaysUpTo x end started count w.heard w.said) off (w.part.stands [] [] start) in
+  told_from : (stance : Stance) (given : List ℕ) (s0 : Stance) (a b : WireEnds) → s0 [] []
+      → ((heard : Pieces) (said : List ℕ) → 0 < length heard → stance heard said
+      → (first : List ℕ) × (SaysUpTo false end started count heard first × own b.second.left heard said))
+      → Whole s0 stance limit given a b → Tells ending config peer sending limit given a b
+  told_from stance given s0 a b start ends w =
+      let h = ends w.heard w.said w.some (w.part.stands [] [] start) in
       subst (λ (c : Config). Tells ending c peer sending limit given a b) of.config_is
       (subst (λ (p : Peer). Tells ending end.config p sending limit given a b) of.peer_is
       (subst (λ (s : Sending). Tells ending end.config end.peer s limit given a b) of.sending_is (record {
@@ -156,29 +156,24 @@ module _ (ending : Ending) (config : Config) (peer : Peer) (sending : Sending) (
         within = w.within;
         wrote = w.part.wrote;
         asked = w.asked;
-        listened = h.0.listened;
-        ends = ends w.heard w.said w.some h;
+        listened = h.1.0.0.listened;
+        ends = h.1.1;
       })))
+
+  told_so : (given : List ℕ) (s0 : Stance) (a b : WireEnds) → s0 [] []
+      → ((heard : Pieces) (said : List ℕ) → 0 < length heard → SaysUpTo false end started count heard said → own b.second.left heard said)
+      → Whole s0 (SaysUpTo on end started count) limit given a b → Tells ending config peer sending limit given a b
+  told_so given s0 a b start ends = told_from (SaysUpTo on end started count) given s0 a b start (λ heard said some h.
+      let k = subst (λ (x : Bool). SaysUpTo x end started count heard said) off h in (said, (k, ends heard said some k)))
 
   -- and so where this was said last
   told_leaving : (text : List ℕ) (given : List ℕ) (s0 : Stance) (a b : WireEnds) → s0 [] []
       → ((heard : Pieces) (said : List ℕ) → 0 < length heard → SaysUpTo false end started count heard said → own b.second.left heard (said ++ text))
       → Whole s0 (Leaves (SaysUpTo on end started count) text) limit given a b → Tells ending config peer sending limit given a b
-  told_leaving text given s0 a b start ends w =
-      let stood = w.part.stands [] [] start in
-      let h : SaysUpTo false end started count w.heard stood.0 = subst (λ (x : Bool). SaysUpTo x end started count w.heard stood.0) off stood.1.1 in
-      subst (λ (c : Config). Tells ending c peer sending limit given a b) of.config_is
-      (subst (λ (p : Peer). Tells ending end.config p sending limit given a b) of.peer_is
-      (subst (λ (s : Sending). Tells ending end.config end.peer s limit given a b) of.sending_is (record {
-        heard = w.heard;
-        said = w.said;
-        read = w.part.read;
-        within = w.within;
-        wrote = w.part.wrote;
-        asked = w.asked;
-        listened = h.0.listened;
-        ends = subst (own b.second.left w.heard) (sym stood.1.0) (ends w.heard stood.0 w.some h);
-      })))
+  told_leaving text given s0 a b start ends =
+      told_from (Leaves (SaysUpTo on end started count) text) given s0 a b start (λ heard said some h.
+      let k = subst (λ (x : Bool). SaysUpTo x end started count heard h.0) off h.1.1 in
+      (h.0, (k, subst (own b.second.left heard) (sym h.1.0) (ends heard h.0 some k))))
 
 -- what stays of an end
 abbrev own_of : Teller → Teller
