@@ -372,16 +372,6 @@ module _ (line time : ℕ) (address : List ℕ) (old : Keeping) where
       (sym (ap (λ (o : Option Connection). dials_of kept o kept.rules (sender_of old.config.peers) (is_due time kept)) (linked_none _ _ stands none)
       ∙ ap (λ (o : Option Sending). dials_of kept None o (sender_of old.config.peers) (is_due time kept)) (sym stands.rules_are ∙ rules_are)
       ∙ ap (λ (o : Option Peer). dials_of kept None (Some sending) o (is_due time kept)) sender
-      ∙ ap (dials_of kept None (Some sending) (Some peer)) (due_so _ stands ∙ ap not off))) (record {
-        asked = asked;
-        news_is = refl;
-        stands = record {
-          rules_are = stands.rules_are;
-          sendable = stands.sendable;
-          since_is = stands.since_is;
-          wait_is = stands.wait_is;
-          delay_is = stands.delay_is;
-          link = (fresh_link peer sending, refl, fresh_stands _ _ _ sender);
-        };
-        config_is = refl;
-      }))
+      ∙ ap (dials_of kept None (Some sending) (Some peer)) (due_so _ stands ∙ ap not off)))
+      (let link : IsLink old.config kept.rules (Some (dialling line time peer sending)) (Some (fresh_link peer sending)) =
+      (fresh_link peer sending, refl, fresh_stands _ _ _ sender) in assumption))
