@@ -7,7 +7,7 @@ use fs_base::{AS_CONFED_SEQUENCE, Address, Config, Path, Segment};
 
 /// The originator of a route: its ORIGINATOR_ID, else the address of the peer that gave it. None where the
 /// configuration doesn't name the peer.
-pub fn originator(config: &Config, peer: u16, path: &Path) -> Option<Address>
+pub(crate) fn originator(config: &Config, peer: u16, path: &Path) -> Option<Address>
     ensures { result ≡ originator_of config.now (peer, path.now) }
 {
     match path.originator {
@@ -17,7 +17,7 @@ pub fn originator(config: &Config, peer: u16, path: &Path) -> Option<Address>
 }
 
 /// Whether both are there and the same. An identifier is the IPv4 address with its 32 bits.
-pub fn is_same_originator(a: Option<Address>, b: Option<Address>) -> bool
+pub(crate) fn is_same_originator(a: Option<Address>, b: Option<Address>) -> bool
     ensures { result ≡ same_originator a b }
 {
     match (a, b) {
@@ -27,7 +27,7 @@ pub fn is_same_originator(a: Option<Address>, b: Option<Address>) -> bool
 }
 
 /// Whether an AS_PATH is empty or has only AS_CONFED_SEQUENCEs: the route began in the local AS.
-pub fn is_local(segments: &[Segment]) -> bool
+pub(crate) fn is_local(segments: &[Segment]) -> bool
     ensures { result ≡ is_local segments.now }
 {
     segments

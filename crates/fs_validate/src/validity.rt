@@ -75,7 +75,12 @@ fn without_destination(config: &Config) -> Validity
 
 /// Rule b: the best match has the same originator, or the route, which has this peer and this path, began in the local
 /// AS and that is allowed.
-pub fn has_originator(config: &Config, peer: u16, path: &Path, best: Option<Held<'_>>) -> bool
+pub(crate) fn has_originator(
+    config: &Config,
+    peer: u16,
+    path: &Path,
+    best: Option<Held<'_>>,
+) -> bool
     ensures { (rule : Ruled) (actions : List (List ℕ))
         → result ≡ has_originator config.now (flow_route peer rule path.now actions) (option_map peer_path best.entry) }
 {
@@ -92,7 +97,7 @@ pub fn has_originator(config: &Config, peer: u16, path: &Path, best: Option<Held
 }
 
 /// Rule d: of a route from an external peer the leftmost AS is that of the best match.
-pub fn has_leftmost(path: &Path, best: Option<Held<'_>>) -> bool
+pub(crate) fn has_leftmost(path: &Path, best: Option<Held<'_>>) -> bool
     ensures { (peer : ℕ) (rule : Ruled) (actions : List (List ℕ))
         → result ≡ has_leftmost (flow_route peer rule path.now actions) (option_map peer_path best.entry) }
 {
