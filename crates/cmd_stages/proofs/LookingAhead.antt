@@ -49,27 +49,6 @@ if_ahead (Some b) a e h = h
 abbrev pub player_with : TapeState → Option TapeItem → List ℕ → Desked → PlayerState
 player_with tape ahead into desk = record { tape = tape; ahead = ahead; into = into; desk = desk }
 
--- nothing is played yet
-pub stands_first : (config : Config) (limit : ℕ) (holds : Names) (name left left' : List ℕ) (items : List Timed) (tape tape' : TapeState)
-    (ahead : Option TapeItem) (into : List ℕ) (desk : Desked)
-    → tape_stage config limit holds name ≡ Found items → HasVersion limit holds name Two → IsOpened limit holds name left tape
-    → Gives (coming config tape left) (coming config tape' left') tape'.moment into ahead → tape'.version ≡ tape.version
-    → Played config [] desk → Stands items 0 (player_with tape' ahead into desk) left'
-stands_first config limit holds name left left' items tape tape' ahead into desk e v o g same p =
-    let config_is : desk.config ≡ config = p.config_is in
-    let all : (items, done) ≡ to_play (player_with tape' ahead into desk) left' =
-    sym (found_items (coming config tape left) items (sym (o.comes config) ∙ e))
-    ∙ ahead_of ahead _ _ _ _ g
-    ∙ ap (λ (c : Config). items_ahead ahead tape'.moment into (coming c tape' left')) (sym config_is) in
-    record {
-      gone = [];
-      parts = ap (λ (r : List Timed × End TapeReason). r.0) all;
-      ends = sym (ap (λ (r : List Timed × End TapeReason). r.1) all);
-      early = tt;
-      played = subst (λ (c : Config). Played c [] desk) (sym config_is) p;
-      version_is = if_then ahead (same ∙ one_version (holds name) (version_of limit) tape.version Two o.has_version v);
-    }
-
 -- the item ahead was played, and the next one was read
 pub stands_step : (items : List Timed) (t : ℕ) (old new : PlayerState) (left left' : List ℕ) (item : TapeItem)
     → old.ahead ≡ Some item → old.tape.moment ≤ t → Stands items t old left
@@ -229,23 +208,50 @@ fewer_left old new item limit place limit' place' h e g =
 
 -- the first item was read ahead, or why it wasn't
 
-pub stands_begun : (config : Config) (limit : ℕ) (holds : Names) (name : List ℕ) (left left' : ℕ
-    → List ℕ) (items : List Timed) (tape tape' : TapeState) (ahead : Option TapeItem) (into : List ℕ) (desk : Desked)
-    → tape_stage config limit holds name ≡ Found items → HasVersion limit holds name Two → IsOpened limit holds name (left 1) tape → tape.slot ≡ 1
-    → Gives (coming config tape (left tape.slot)) (coming config tape' (left' tape.slot)) tape'.moment into ahead → tape'.version ≡ tape.version
-    → Played config [] desk → Stands items 0 (player_with tape' ahead into desk) (left' 1)
-stands_begun config limit holds name left left' items tape tape' ahead into desk e v o one g same p =
-    stands_first config limit holds name (left 1) (left' 1) items tape tape' ahead into desk e v o
-    (subst (λ (n : ℕ). Gives (coming config tape (left n)) (coming config tape' (left' n)) tape'.moment into ahead) one g) same p
+-- a tape of these items was opened in the first slot, and so much of each slot is left
+pub record Begun : Type 0 where
+  pub config : Config
+  pub limit : ℕ
+  pub holds : Names
+  pub name : List ℕ
+  pub left : ℕ → List ℕ
+  pub items : List Timed
+  pub tape : TapeState
+  pub found : tape_stage config limit holds name ≡ Found items
+  pub opened : IsOpened limit holds name (left 1) tape
+  pub first : tape.slot ≡ 1
 
-pub unbegun : (config : Config) (limit : ℕ) (holds : Names) (name : List ℕ) (left : ℕ
-    → List ℕ) (items : List Timed) (tape : TapeState) (before mid after : ℕ) (refusal : Refusal)
-    → tape_stage config limit holds name ≡ Found items → IsOpened limit holds name (left 1) tape → tape.slot ≡ 1 → before ≤ mid
-    → HasReason (played_to (coming config tape (left tape.slot))) (Rose mid after) refusal → IsUnplayed (Rose before after) refusal
-unbegun config limit holds name left items tape before mid after refusal e o one l h =
+abbrev pub begun : (config : Config) (limit : ℕ) (holds : Names) (name : List ℕ) (left : ℕ → List ℕ) (items : List Timed) (tape : TapeState)
+    → tape_stage config limit holds name ≡ Found items → IsOpened limit holds name (left 1) tape → tape.slot ≡ 1 → Begun
+begun config limit holds name left items tape found opened one =
+    record { config = config; limit = limit; holds = holds; name = name; left = left; items = items; tape = tape; found = found; opened = opened; first = one }
+
+pub stands_begun : (b : Begun) (left : ℕ → List ℕ) (player : PlayerState) → HasVersion b.limit b.holds b.name Two
+    → Gives (coming b.config b.tape (b.left b.tape.slot)) (coming b.config player.tape (left b.tape.slot)) player.tape.moment player.into player.ahead
+    → player.tape.version ≡ b.tape.version → Played b.config [] player.desk → Stands b.items 0 player (left 1)
+stands_begun b left player v g same p =
+    let config_is : player.desk.config ≡ b.config = p.config_is in
+    let P : ℕ → Type 0 =
+    λ n. Gives (coming b.config b.tape (b.left n)) (coming b.config player.tape (left n)) player.tape.moment player.into player.ahead in
+    let all : (b.items, done) ≡ to_play player (left 1) =
+    sym (found_items (coming b.config b.tape (b.left 1)) b.items (sym (b.opened.comes b.config) ∙ b.found))
+    ∙ ahead_of player.ahead _ _ _ _ (subst P b.first g)
+    ∙ ap (λ (c : Config). items_ahead player.ahead player.tape.moment player.into (coming c player.tape (left 1))) (sym config_is) in
+    record {
+      gone = [];
+      parts = ap (λ (r : List Timed × End TapeReason). r.0) all;
+      ends = sym (ap (λ (r : List Timed × End TapeReason). r.1) all);
+      early = tt;
+      played = subst (λ (c : Config). Played c [] player.desk) (sym config_is) p;
+      version_is = if_then player.ahead (same ∙ one_version (b.holds b.name) (version_of b.limit) b.tape.version Two b.opened.has_version v);
+    }
+
+pub unbegun : (b : Begun) (before mid after : ℕ) (refusal : Refusal) → before ≤ mid
+    → HasReason (played_to (coming b.config b.tape (b.left b.tape.slot))) (Rose mid after) refusal → IsUnplayed (Rose before after) refusal
+unbegun b before mid after refusal l h =
     rose_on before mid after refusal l
-    (unplayed (played_to (coming config tape (left 1))) items (Rose mid after) refusal (sym (o.comes config) ∙ e)
-    (subst (λ (n : ℕ). HasReason (played_to (coming config tape (left n))) (Rose mid after) refusal) one h))
+    (unplayed (played_to (coming b.config b.tape (b.left 1))) b.items (Rose mid after) refusal (sym (b.opened.comes b.config) ∙ b.found)
+    (subst (λ (n : ℕ). HasReason (played_to (coming b.config b.tape (b.left n))) (Rose mid after) refusal) b.first h))
 
 pub slots_then : {F : Type 0} (tells : Bool) (left : F → ℕ → List ℕ) (holds : F → List ℕ → Option (List ℕ)) (slot slot' : ℕ) (old mid new : F)
     → OnlySlot tells left holds slot old mid → slot' ≡ slot → OnlySlot tells left holds slot' mid new → OnlySlot tells left holds slot old new

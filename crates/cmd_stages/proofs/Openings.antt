@@ -15,7 +15,7 @@ never_zero Memory e = absurd cc
 never_zero Limit e = absurd cc
 never_zero Session e = absurd cc
 
--- it ended with a refusal behind so many openings
+-- it ended with a refusal after so many openings
 pub refused_at : {T : Type 0} (openings : Openings) (count : ℕ) → 1 ≤ count → (before now : Option (List Opened)) (r : Result T Refusal) (cause : Refusal)
     → IsErrAnd r (λ e. e ≡ cause) → Grew before now (take count openings.files) → (status_of cause ≡ 3 → count ≤ openings.judged)
     → OpensFront openings before now (answered r)

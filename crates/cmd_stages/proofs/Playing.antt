@@ -2,7 +2,7 @@
 use Rattle.cmd_stages.proofs.Words.{◌≡◌, inl, inr, ◌≤◌, ℕ, List, [], ◌∷◌, ◌++◌, Option, Some, option_map, Result, Ok, Err, refl, ap, sym, ◌∙◌, subst}
 use Rattle.cmd_stages.proofs.Words.{append_assoc, append-nil, drop, map-append, each_append, Rose, with_part, End, done, Config, IsBegun, Item}
 use Rattle.cmd_stages.proofs.Words.{TapeState, Timed, coming, items_to_come, tape_of, version_of, TapeReason, IsTimed, Version, One, Two, Refusal}
-use Rattle.cmd_stages.proofs.Words.{Outside, Stage, Found, and_then, or_stop, HasReason, MatchResult, Names, HasVersion, HaveNoMoments, IsOpened, IsPlayed}
+use Rattle.cmd_stages.proofs.Words.{Outside, Stage, Found, and_then, or_stop, HasReason, MatchResult, Names, HaveNoMoments, IsOpened, IsPlayed}
 use Rattle.cmd_stages.proofs.Words.{PlaysOn, played_to, tape_stage, untimed, Desked, Played, rose_earlier}
 
 -- of all items some were played, and the rest is to come

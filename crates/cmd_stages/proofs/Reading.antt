@@ -10,20 +10,38 @@ use Rattle.fs_input.specs.{NextRecord.{Advances}, Opening.{Opens}, declared.faul
 use Rattle.fs_rules.specs.Table.{Held, admitted}
 use Rattle.cmd_stages.specs.Play.{refused_by}
 
+-- the file of this name was opened in the first slot, and is read up to the limit
+pub record OpenedFile : Type 0 where
+  pub limit : ℕ
+  pub holds : Names
+  pub name : List ℕ
+  pub before : ℕ → List ℕ
+  pub slot : ℕ
+  pub counted : ℕ
+  pub slot_is : slot ≡ 1
+  pub there : holds name ≡ Some (before 1)
+  pub counted_is : counted ≡ limit
+
+abbrev pub opened_file : (limit : ℕ) (holds : Names) (name : List ℕ) (before : ℕ → List ℕ) (slot counted : ℕ)
+    → slot ≡ 1 → holds name ≡ Some (before 1) → counted ≡ limit → OpenedFile
+opened_file limit holds name before slot counted one h l =
+    record { limit = limit; holds = holds; name = name; before = before; slot = slot; counted = counted; slot_is = one; there = h; counted_is = l }
+
 -- what is read of a tape that is there
-read_there : (config : Config) (limit : ℕ) (holds : Names) (name : List ℕ) (before : ℕ → List ℕ) (slot : ℕ) → slot ≡ 1 → holds name ≡ Some (before 1)
-    → read_stage config limit holds name ≡ Found (tape_of config limit (before slot))
-read_there config limit holds name before slot one h =
-    ap (λ (content : Option (List ℕ)). and_then (or_stop Outside content) (λ z. Found (tape_of config limit z))) (h ∙ ap (λ (n : ℕ). Some (before n)) (sym one))
+read_there : (config : Config) (file : OpenedFile)
+    → read_stage config file.limit file.holds file.name ≡ Found (tape_of config file.limit (file.before file.slot))
+read_there config file =
+    ap (λ (content : Option (List ℕ)). and_then (or_stop Outside content) (λ z. Found (tape_of config file.limit z)))
+    (file.there ∙ ap (λ (n : ℕ). Some (file.before n)) (sym file.slot_is))
 
 -- an opened tape's items are all to come
-pub read_so : (config : Config) (limit : ℕ) (holds : Names) (name : List ℕ) (before after : ℕ → List ℕ) (tape : TapeState) (slot counted : ℕ)
-    → slot ≡ 1 → holds name ≡ Some (before 1) → counted ≡ limit
-    → (version_of counted (before slot) ≡ Ok tape.version) × (after slot ≡ drop 8 (before slot)) → IsBegun slot counted tape
-    → read_stage config limit holds name ≡ Found (coming config tape (after 1))
-read_so config limit holds name before after tape slot counted one h l o begun =
-    read_there config limit holds name before slot one h
-    ∙ ap Found (tape_opened config limit (before slot) (after 1) tape slot counted l (o.0, sym (ap after one) ∙ o.1) begun)
+pub read_so : (config : Config) (file : OpenedFile) (after : ℕ → List ℕ) (tape : TapeState)
+    → (version_of file.counted (file.before file.slot) ≡ Ok tape.version) × (after file.slot ≡ drop 8 (file.before file.slot))
+    → IsBegun file.slot file.counted tape → read_stage config file.limit file.holds file.name ≡ Found (coming config tape (after 1))
+read_so config file after tape o begun =
+    read_there config file
+    ∙ ap Found (tape_opened config file.limit (file.before file.slot) (after 1) tape file.slot file.counted file.counted_is
+    (o.0, sym (ap after file.slot_is) ∙ o.1) begun)
 
 -- it isn't opened
 pub unopened : (config : Config) (limit : ℕ) (holds : Names) (name : List ℕ) (failed : Type 0) (refusal : Refusal)
@@ -33,25 +51,23 @@ unopened config limit holds name failed refusal (inl h) =
 unopened config limit holds name failed refusal (inr h) = inr h
 
 -- it ends before its items
-none_given : (config : Config) (limit : ℕ) (holds : Names) (name : List ℕ) (before : ℕ → List ℕ) (slot counted : ℕ) (end : End TapeReason) (refusal : Refusal)
-    → slot ≡ 1 → holds name ≡ Some (before 1) → counted ≡ limit → version_of counted (before slot) ≡ Err end → played_to ([], end) ≡ Stopped refusal
-    → GivesNone (read_stage config limit holds name) refusal
-none_given config limit holds name before slot counted end refusal one h l e stops =
+none_given : (config : Config) (file : OpenedFile) (end : End TapeReason) (refusal : Refusal)
+    → version_of file.counted (file.before file.slot) ≡ Err end → played_to ([], end) ≡ Stopped refusal
+    → GivesNone (read_stage config file.limit file.holds file.name) refusal
+none_given config file end refusal e stops =
     subst (λ (s : Stage (List Timed × End TapeReason)). GivesNone s refusal)
-    (sym (read_there config limit holds name before slot one h
-    ∙ ap Found (ap (λ (n : ℕ). tape_of config n (before slot)) (sym l) ∙ ap (opened_to config counted (before slot)) e)))
+    (sym (read_there config file
+    ∙ ap Found (ap (λ (n : ℕ). tape_of config n (file.before file.slot)) (sym file.counted_is)
+    ∙ ap (opened_to config file.counted (file.before file.slot)) e)))
     (refl, stops)
 
-pub unbegun_tape : (config : Config) (limit : ℕ) (holds : Names) (name : List ℕ) (before : ℕ → List ℕ) (behind left : List ℕ) (slot counted : ℕ)
-    (fault : Fault TapeReason) (refusal : Refusal) (failed : Type 0)
-    → slot ≡ 1 → holds name ≡ Some (before 1) → counted ≡ limit
-    → Opens (λ (tape : TapeState). tape.version) (version_of counted (before slot)) behind left (Err fault)
-    → (fault ≡ Read → failed) → refusal ≡ refused_by fault → Ceases (read_stage config limit holds name) failed refusal
-unbegun_tape config limit holds name before behind left slot counted Read refusal failed one h l o f same = inr (inr (same, f refl))
-unbegun_tape config limit holds name before behind left slot counted Limit refusal failed one h l o f same =
-    inl (none_given config limit holds name before slot counted limited refusal one h l o (ap Stopped (sym same)))
-unbegun_tape config limit holds name before behind left slot counted (Bad reason place) refusal failed one h l o f same =
-    inl (none_given config limit holds name before slot counted (bad reason place) refusal one h l o (ap Stopped (sym same)))
+pub unbegun_tape : (config : Config) (file : OpenedFile) (behind left : List ℕ) (fault : Fault TapeReason) (refusal : Refusal) (failed : Type 0)
+    → Opens (λ (tape : TapeState). tape.version) (version_of file.counted (file.before file.slot)) behind left (Err fault)
+    → (fault ≡ Read → failed) → refusal ≡ refused_by fault → Ceases (read_stage config file.limit file.holds file.name) failed refusal
+unbegun_tape config file behind left Read refusal failed o f same = inr (inr (same, f refl))
+unbegun_tape config file behind left Limit refusal failed o f same = inl (none_given config file limited refusal o (ap Stopped (sym same)))
+unbegun_tape config file behind left (Bad reason place) refusal failed o f same =
+    inl (none_given config file (bad reason place) refusal o (ap Stopped (sym same)))
 
 -- no further item is given
 pub ceased : {T : Type 0} (before : List Timed × End TapeReason) (behind : T → List Timed × End TapeReason) (fault : Fault TapeReason)

@@ -73,7 +73,7 @@ pub outside_one : {T : Type 0} (r : Result T Refusal) → IsErrAnd r (λ e. e �
 outside_one (Ok t) h = absurd h
 outside_one (Err refusal) h = ap status_of h
 
--- what is said of the status that is due, and of that of a call on the outside that failed, where what is pending was written out behind it
+-- what is said of the status that is due, and of that of a call on the outside that failed, where what is pending was written out after it
 pub finished_by : {T : Type 0} (P : ℕ → Type 0) (pending : List ℕ) (failed : Type 0) (before now : Option (List ℕ)) (due result : Result T Refusal)
     → Finishes pending failed before now due result → P (answered due) → P 1 → P (answered result)
 finished_by P pending failed before now due result (inl h) p one = subst (λ r. P (answered r)) (sym h.0) p

@@ -1,5 +1,5 @@
 -- The stage of the tape, and a tape as the program plays it.
-use Rattle.std.specs.{Prelude.{ℕ, List, ◌≡◌, ◌⊎◌, ◌++◌, [], map, filter, nat_le, Option, Some, None, Ok, option_map}, List.{AllByRecursion}}
+use Rattle.std.specs.{Prelude.{ℕ, List, ◌≡◌, ◌⊎◌, [], map, filter, nat_le, Option, Some, None, Ok, option_map}, List.{AllByRecursion}}
 use Rattle.fs_input.specs.{Records.{End, done, limited, bad}, declared.fault.{Ended.TheVariants.{Done, Stopped}, Fault.{Fault, TheVariants.{Read, Limit, Bad}}}}
 use Rattle.fs_base.specs.{declared.config.Config.{Config}, Parts.{with_part}}
 use Rattle.fs_tape.specs.Tape.{Item, TapeState, Timed, coming, item_from, tape_of, timed, version_of}

@@ -1,14 +1,15 @@
 use Rattle.cmd_stages.proofs.Words.{◌≤◌, ℕ, List, arith, length, subst, sym, with_items, with_items_is, longest_payload, IsReady, Stands}
 use Rattle.cmd_stages.proofs.Stages.{match_err}
-use Rattle.cmd_stages.proofs.LookingAhead.{player_with, ready_ahead, slots_then, stands_begun, unbegun, with_room}
+use Rattle.cmd_stages.proofs.LookingAhead.{begun, player_with, ready_ahead, slots_then, stands_begun, unbegun, with_room}
 use Rattle.cmd_stages.proofs.player.Player.begin.Goals as goal
 
 pub returns-in_err-ahead-clause-begun : goal.returns-in_err-ahead-clause-begun
 returns-in_err-ahead-clause-begun g c = λ told items e v.
     match_err _ _ c.from_residual-in_err-ahead.result c.from_residual-in_err-ahead.ensures.1 (λ refusal same.
-    unbegun c.args.config.now c.args.limit (g.F.Files.holds c.args.files.now) c.args.name.now (g.F.Files.left c.open_tape.new.files) items c.in_ok-tape.tape
+    unbegun (begun c.args.config.now c.args.limit (g.F.Files.holds c.args.files.now) c.args.name.now (g.F.Files.left c.open_tape.new.files) items
+    c.in_ok-tape.tape e (c.in_ok-tape.ensures.opened told) c.in_ok-tape.ensures.state.slot_is)
     (g.F.Files.faults c.args.files.now) (g.F.Files.faults c.open_tape.new.files) (g.F.Files.faults c.next_item.new.files) refusal
-    e (c.in_ok-tape.ensures.opened told) c.in_ok-tape.ensures.state.slot_is c.in_ok-tape.ensures.later (rw same (c.in_err-ahead.ensures.gives told)))
+    c.in_ok-tape.ensures.later (rw same (c.in_err-ahead.ensures.gives told)))
 
 pub returns-in_err-ahead-clause-others : goal.returns-in_err-ahead-clause-others
 returns-in_err-ahead-clause-others g c =
@@ -29,11 +30,10 @@ pub returns-clause-begun : goal.returns-clause-begun
 returns-clause-begun g c = λ told items e v.
     subst (λ (l : List ℕ). Stands items 0 (player_with c.next_item.new.tape c.in_ok-ahead.ahead l c.in_ok-desk.desk) (g.F.Files.left c.next_item.new.files 1))
     (sym (with_items_is c.in_ok-buffer.buffer c.next_item.new.buffer (omega arith)))
-    (stands_begun c.args.config.now c.args.limit (g.F.Files.holds c.args.files.now) c.args.name.now (g.F.Files.left c.open_tape.new.files)
-    (g.F.Files.left c.next_item.new.files) items
-    c.in_ok-tape.tape c.next_item.new.tape c.in_ok-ahead.ahead c.next_item.new.buffer c.in_ok-desk.desk
-    e v (c.in_ok-tape.ensures.opened told) c.in_ok-tape.ensures.state.slot_is (c.in_ok-ahead.ensures.gives told) c.in_ok-ahead.ensures.version
-    c.in_ok-desk.ensures.played)
+    (stands_begun (begun c.args.config.now c.args.limit (g.F.Files.holds c.args.files.now) c.args.name.now (g.F.Files.left c.open_tape.new.files) items
+    c.in_ok-tape.tape e (c.in_ok-tape.ensures.opened told) c.in_ok-tape.ensures.state.slot_is) (g.F.Files.left c.next_item.new.files)
+    (player_with c.next_item.new.tape c.in_ok-ahead.ahead c.next_item.new.buffer c.in_ok-desk.desk)
+    v (c.in_ok-ahead.ensures.gives told) c.in_ok-ahead.ensures.version c.in_ok-desk.ensures.played)
 
 pub returns-clause-others : goal.returns-clause-others
 returns-clause-others g c =
