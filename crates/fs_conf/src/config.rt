@@ -34,12 +34,25 @@ impl From<Memory> for ConfFault {
 
 pub(crate) const PEER_LIMIT: usize = 1024;
 
+/// The keys of a configuration.
+pub(crate) const CONFIG_KEYS: [&str; 6] = [
+    "local_as",
+    "local_id",
+    "allow_no_destination",
+    "empty_path_valid",
+    "hold_time",
+    "peer",
+];
+
+/// The keys of a peer.
+pub(crate) const PEER_KEYS: [&str; 4] = ["number", "address", "as", "max_routes"];
+
 // The peer of one item of `[[peer]]`.
 fn read_peer(value: &Value) -> Option<Peer>
     ensures { result ≡ peer_of_data (view value.now) }
 {
     let table = value.as_table()?;
-    if !has_only(table, &["number", "address", "as", "max_routes"]) {
+    if !has_only(table, &PEER_KEYS) {
         return None;
     }
     let number = number_at(table, "number", 1, 65535)? as u16;
@@ -138,15 +151,7 @@ pub(crate) fn config_from(alloc: Global, table: &Table) -> Result<Config, ConfFa
     ensures ok { IfOk result (λ config. config_of_document (table_view table.now) ≡ Some config) }
     ensures refused { IsErrOf result ConfFault.Refused → config_of_document (table_view table.now) ≡ None }
 {
-    let names = [
-        "local_as",
-        "local_id",
-        "allow_no_destination",
-        "empty_path_valid",
-        "hold_time",
-        "peer",
-    ];
-    if !has_only(table, &names) {
+    if !has_only(table, &CONFIG_KEYS) {
         return Err(ConfFault::Refused);
     }
     let refused = ConfFault::Refused;

@@ -13,7 +13,10 @@ ghost use Rattle.fs_conf.specs.Fault.{numbers_of_peers, own_fault, peer_checks, 
 ghost use Rattle.fs_conf.specs.Fault.{repeated, spot_shown, unfit, unfit_shown, unknown};
 
 use crate::address::read_address;
-use crate::config::{ConfFault, PEER_LIMIT, config_from, hold_time_at, identifier_at, limit_at};
+use crate::config::{
+    CONFIG_KEYS, ConfFault, PEER_KEYS, PEER_LIMIT, config_from, hold_time_at, identifier_at,
+    limit_at,
+};
 use crate::fault::{ConfigFault, KeyReason, Unread};
 use crate::fields::{array_at, flag_at, number_at, text_at, value_at};
 use crate::laws::names_the_fault;
@@ -180,20 +183,12 @@ pub(crate) fn unknown<'t>(table: &'t Table, names: &[&str]) -> Option<Unfit<'t>>
 fn document_unfit(table: &Table) -> Option<Unfit<'_>>
     ensures { option_map unfit_shown result ≡ first_of document_checks (table_view table.now) }
 {
-    let names = [
-        "local_as",
-        "local_id",
-        "allow_no_destination",
-        "empty_path_valid",
-        "hold_time",
-        "peer",
-    ];
     let asn = number_at(table, "local_as", 1, u32::MAX).is_some();
     let id = identifier_at(table, "local_id").is_some();
     let allows = flag_at(table, "allow_no_destination", false).is_some();
     let valid = flag_at(table, "empty_path_valid", true).is_some();
     let hold_time = hold_time_at(table, "hold_time").is_some();
-    unknown(table, &names)
+    unknown(table, &CONFIG_KEYS)
         .or(judged(table, "local_as", Kind::Integer, asn))
         .or(judged(table, "local_id", Kind::Text, id))
         .or(judged(table, "allow_no_destination", Kind::Boolean, allows))
@@ -219,7 +214,7 @@ fn peer_unfit(table: &Table) -> Option<Unfit<'_>>
     let address = has_address(table);
     let asn = number_at(table, "as", 1, u32::MAX).is_some();
     let limit = limit_at(table, "max_routes").is_some();
-    unknown(table, &["number", "address", "as", "max_routes"])
+    unknown(table, &PEER_KEYS)
         .or(judged(table, "number", Kind::Integer, number))
         .or(judged(table, "address", Kind::Text, address))
         .or(judged(table, "as", Kind::Integer, asn))

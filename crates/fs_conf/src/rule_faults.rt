@@ -24,8 +24,10 @@ use crate::faults::{
 };
 use crate::fields::{array_at, text_at, value_at};
 use crate::laws::names_the_rules_fault;
-use crate::rules::{address_at, as_path_at, number_of, see, sending_from};
-use crate::sent::{actions_at, family_at, octets_of, rule_at as read_rule_at, worded_at};
+use crate::rules::{FILE_KEYS, address_at, as_path_at, number_of, see, sending_from};
+use crate::sent::{
+    RULE_KEYS, TEXT_KEYS, actions_at, family_at, octets_of, rule_at as read_rule_at, worded_at,
+};
 use crate::worded::text_fault;
 use fs_base::{Config, Family, Memory, Numbers, Peer};
 use fs_nlri::{NlriFault, Reason, decode};
@@ -40,7 +42,7 @@ fn file_unfit(table: &Table) -> Option<Unfit<'_>>
     ensures { option_map unfit_shown result ≡ first_of file_checks (table_view table.now) }
 {
     let id = address_at(table, "id").is_some();
-    unknown(table, &["id", "as_path", "rule"]).or(judged(table, "id", Kind::Text, id))
+    unknown(table, &FILE_KEYS).or(judged(table, "id", Kind::Text, id))
 }
 
 /// Why an item of the path isn't taken.
@@ -146,7 +148,7 @@ fn text_unfit(alloc: Global, table: &Table) -> Result<Option<Unfit<'_>>, Memory>
     ensures { IfOk result (λ found. option_map unfit_shown found ≡ first_of text_checks (table_view table.now)) }
 {
     let text = has_text(alloc, table)?;
-    Ok(unknown(table, &["text"]).or(judged(table, "text", Kind::Text, text)))
+    Ok(unknown(table, &TEXT_KEYS).or(judged(table, "text", Kind::Text, text)))
 }
 
 /// What is wrong at the keys of a rule that is told by its octets.
@@ -167,7 +169,7 @@ fn first_unfit(table: &Table, family: bool, rule: bool, actions: bool) -> Option
         → actions ≡ is_some (actions_in (get_member (codes "actions") (table_view table.now)))
         → option_map unfit_shown result ≡ first_of octet_checks (table_view table.now) }
 {
-    unknown(table, &["family", "nlri", "actions"])
+    unknown(table, &RULE_KEYS)
         .or(judged(table, "family", Kind::Text, family))
         .or(judged(table, "nlri", Kind::Text, rule))
         .or(judged(table, "actions", Kind::Text, actions))

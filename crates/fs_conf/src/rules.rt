@@ -17,6 +17,9 @@ use std::alloc::Global;
 use std::collections::BTreeSet;
 use toml::{Table, Value};
 
+/// The keys of a rules file.
+pub(crate) const FILE_KEYS: [&str; 3] = ["id", "as_path", "rule"];
+
 impl OfItem for u32 {
     ghost use Rattle.fs_conf.specs.Rules.{number_of};
 
@@ -141,7 +144,7 @@ pub(crate) fn sending_from(
     ensures refused { IsErrOf result ConfFault.Refused
         → sending_of_document config.now (table_view table.now) ≡ None }
 {
-    if has_only(table, &["id", "as_path", "rule"]) {
+    if has_only(table, &FILE_KEYS) {
         return sending_in(alloc, table, config);
     }
     Err(ConfFault::Refused)

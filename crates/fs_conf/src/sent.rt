@@ -20,6 +20,12 @@ use hex::FromHexError;
 use std::alloc::Global;
 use toml::{Table, Value};
 
+/// The keys of a rule that is told by its octets.
+pub(crate) const RULE_KEYS: [&str; 3] = ["family", "nlri", "actions"];
+
+/// The key of a rule in words.
+pub(crate) const TEXT_KEYS: [&str; 1] = ["text"];
+
 fn family_of(word: &str) -> Option<Family>
     ensures { result ≡ family_of word.now }
 {
@@ -181,10 +187,10 @@ impl OfItem for Sent {
         let Some(table) = item.as_table() else {
             return Err(ConfFault::Refused);
         };
-        if has_only(table, &["family", "nlri", "actions"]) {
+        if has_only(table, &RULE_KEYS) {
             return sent_in(alloc, table);
         }
-        if has_only(table, &["text"]) {
+        if has_only(table, &TEXT_KEYS) {
             return worded_at(alloc, table, "text");
         }
         Err(ConfFault::Refused)
