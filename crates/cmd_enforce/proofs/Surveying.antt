@@ -1,18 +1,18 @@
 -- How what is counted packet by packet is what is said of them all, and what is said of a capture.
 use Rattle.std.specs.{Prelude.{filter, max, nat_lt, slice_index_or, slice_set}, Option.{unwrap_or}, List.{AllByRecursion, position_or_len}}
 use Rattle.std.proofs.lemmas.Bool.Decides.{nat_tests}
-use Rattle.fs_base.specs.{declared.link.Link.{Link}, Filling.{Fills}}
-use Rattle.fs_input.{specs.{declared.fault.Fault.{Fault, TheVariants.{Read, Limit, Bad}}}, proofs.Records.{head_filled}}
-use Rattle.cmd_enforce.proofs.Words.{◌≡◌, ◌≤◌, ◌<◌, ◌++◌, ◌∙◌, ◌∷◌, ◌+◌, ◌-◌, ℕ, Bool, true, false, if◌then◌else◌, List, [], Option, Some, None}
-use Rattle.cmd_enforce.proofs.Words.{Result, Err, length, take, refl, ap, sym, subst, suc, arith, append-nil, append_assoc, window, CaptureReason}
-use Rattle.cmd_enforce.proofs.Words.{End, done, limited, bad, is_section, Names, Outside}
-use Rattle.cmd_enforce.proofs.Opened.{put_back_whole}
+use Rattle.fs_base.specs.declared.{counted.Counted.{Counted}, link.Link.{Link}}
+use Rattle.fs_input.specs.declared.fault.Fault.{Fault, TheVariants.{Read, Limit, Bad}}
+use Rattle.cmd_enforce.proofs.Words.{◌≡◌, ◌≤◌, ◌<◌, ◌++◌, ◌∙◌, ◌∷◌, ◌+◌, ℕ, Bool, true, false, if◌then◌else◌, List, [], Option, Some, None}
+use Rattle.cmd_enforce.proofs.Words.{Ok, Err, length, refl, ap, sym, subst, suc, arith, append-nil, append_assoc, CaptureReason, CaptureState, Captured}
+use Rattle.cmd_enforce.proofs.Words.{End, done, limited, bad, Names, Outside, captured_in, coming}
+use Rattle.cmd_enforce.specs.Capture.{BeginsAs, link_in, own_link}
 use Rattle.cmd_enforce.specs.Survey.{Tallied, count_of, fall_behind, first_time, greatest_time, is_other, last_time, link_count, links_of, same_link}
-use Rattle.cmd_enforce.specs.Survey.{survey_by, survey_in, survey_verdict, capture_fault_line, capture_verdict, content_verdict, tally_text, tallied}
-use Rattle.cmd_enforce.specs.Survey.{Surveyed}
-use Rattle.cmd_enforce.specs.Stamps.{BeginsSurvey, Counts, StampState, Surveys, own_link, stamps_coming, survey_coming, all_noted, fall_with}
-use Rattle.cmd_enforce.specs.Stamps.{has_link, link_place, noted, nothing_noted, one_more, with_packet}
-use Rattle.cmd_enforce.specs.declared.{stamps.Stamp.{Stamp}, survey.Survey.{Survey}, tally.LinkCount.{LinkCount}}
+use Rattle.cmd_enforce.specs.Survey.{survey_in, survey_verdict, capture_fault_line, capture_verdict, content_verdict, tally_text, tallied}
+use Rattle.cmd_enforce.specs.Counting.{Counts, Surveys}
+use Rattle.cmd_enforce.specs.Survey.{Surveyed, all_noted, fall_with, has_link, link_place, noted, nothing_noted, one_more}
+use Rattle.cmd_enforce.specs.Survey.{surveyed, with_packet}
+use Rattle.cmd_enforce.specs.declared.{survey.Survey.{Survey}, tally.LinkCount.{LinkCount}}
 use Rattle.cmd_stages.specs.Refusal.{Verdict, or_stop, verdict_with}
 
 -- counts of link types
@@ -48,7 +48,7 @@ module _ (link other : Option Link) where
   kept_all f [] = rw f refl
   kept_all f (c ∷ cs) = kept_by c cs (same_link c.link other) (is_other link c) refl refl f (kept_all f cs)
 
-count_snoc : (link : Option Link) (gone : List Stamp) (packet : Stamp)
+count_snoc : (link : Option Link) (gone : List Captured) (packet : Captured)
     → count_of link (gone ++ packet ∷ []) ≡ count_of link gone + (if same_link packet.link link then 1 else 0)
 count_snoc link [] packet = omega arith
 count_snoc link (p ∷ gone) packet = let h = count_snoc link gone packet in omega (arith, h)
@@ -57,7 +57,7 @@ same_sym : (one other : Option Link) (b : Bool) → same_link one other ≡ b �
 same_sym one other true e = let h = e in grind (arith, nat_tests)
 same_sym one other false e = let h = e in grind (arith, nat_tests)
 
-links_by : (p : Stamp) (gone : List Stamp) (packet : Stamp) (b : Bool) → same_link p.link packet.link ≡ b
+links_by : (p : Captured) (gone : List Captured) (packet : Captured) (b : Bool) → same_link p.link packet.link ≡ b
     → with_packet packet.link (links_of gone) ≡ links_of (gone ++ packet ∷ [])
     → (if b then one_more (link_count p.link (1 + count_of p.link gone)) ∷ filter (is_other p.link) (links_of gone)
     else link_count p.link (1 + count_of p.link gone) ∷ with_packet packet.link (filter (is_other p.link) (links_of gone)))
@@ -77,7 +77,7 @@ links_by p gone packet false e h =
     ∙ ap (λ (l : List LinkCount). link_count p.link (1 + count_of p.link (gone ++ packet ∷ [])) ∷ l)
     (sym (kept_all p.link packet.link back (links_of gone)) ∙ ap (filter (is_other p.link)) h)
 
-links_snoc : (gone : List Stamp) (packet : Stamp) → with_packet packet.link (links_of gone) ≡ links_of (gone ++ packet ∷ [])
+links_snoc : (gone : List Captured) (packet : Captured) → with_packet packet.link (links_of gone) ≡ links_of (gone ++ packet ∷ [])
 links_snoc [] packet = refl
 links_snoc (p ∷ gone) packet = links_by p gone packet (same_link p.link packet.link) refl (links_snoc gone packet)
 
@@ -172,15 +172,15 @@ few_fit n m more (c ∷ cs) all = let first = all.0 in (omega (arith, more, firs
 
 -- times
 
-first_snoc : (gone : List Stamp) (packet : Stamp) → Some (unwrap_or (first_time gone) packet.time) ≡ first_time (gone ++ packet ∷ [])
+first_snoc : (gone : List Captured) (packet : Captured) → Some (unwrap_or (first_time gone) packet.time) ≡ first_time (gone ++ packet ∷ [])
 first_snoc [] packet = refl
 first_snoc (p ∷ gone) packet = refl
 
-greatest_snoc : (gone : List Stamp) (packet : Stamp) → max (greatest_time gone) packet.time ≡ greatest_time (gone ++ packet ∷ [])
+greatest_snoc : (gone : List Captured) (packet : Captured) → max (greatest_time gone) packet.time ≡ greatest_time (gone ++ packet ∷ [])
 greatest_snoc [] packet = omega arith
 greatest_snoc (p ∷ gone) packet = let h = greatest_snoc gone packet in omega (arith, h)
 
-last_snoc : (time : ℕ) (gone : List Stamp) (packet : Stamp) → packet.time ≡ last_time time (gone ++ packet ∷ [])
+last_snoc : (time : ℕ) (gone : List Captured) (packet : Captured) → packet.time ≡ last_time time (gone ++ packet ∷ [])
 last_snoc time [] packet = refl
 last_snoc time (p ∷ gone) packet = last_snoc p.time gone packet
 
@@ -189,7 +189,7 @@ abbrev fall_then : Option ℕ → (last count time : ℕ) → Option ℕ
 fall_then (Some number) last count time = Some number
 fall_then None last count time = if nat_lt time last then Some (count + 1) else None
 
-fall_snoc : (time count : ℕ) (gone : List Stamp) (packet : Stamp)
+fall_snoc : (time count : ℕ) (gone : List Captured) (packet : Captured)
     → fall_then (fall_behind time count gone) (last_time time gone) (count + length gone) packet.time ≡ fall_behind time count (gone ++ packet ∷ [])
 fall_snoc time count [] packet = ap (λ (n : ℕ). if nat_lt packet.time time then Some (n + 1) else None) (let n : count + 0 ≡ count = omega arith in n)
 fall_snoc time count (p ∷ gone) packet = by (nat_lt p.time time) (fall_snoc p.time (count + 1) gone packet)
@@ -213,12 +213,12 @@ fall_same now time = by now.fall
     by None = refl
     by (Some number) = refl
 
-length_snoc : (gone : List Stamp) (packet : Stamp) → length gone + 1 ≡ length (gone ++ packet ∷ [])
+length_snoc : (gone : List Captured) (packet : Captured) → length gone + 1 ≡ length (gone ++ packet ∷ [])
 length_snoc [] packet = refl
 length_snoc (p ∷ gone) packet = let h = length_snoc gone packet in omega (arith, h)
 
 -- one packet more is counted
-noted_tallied : (gone : List Stamp) (packet : Stamp) → noted (tallied gone) packet ≡ tallied (gone ++ packet ∷ [])
+noted_tallied : (gone : List Captured) (packet : Captured) → noted (tallied gone) packet.link packet.time ≡ tallied (gone ++ packet ∷ [])
 noted_tallied gone packet =
     let count = length_snoc gone packet in
     let first = first_snoc gone packet in
@@ -231,40 +231,15 @@ noted_tallied gone packet =
     let links = links_snoc gone packet in
     λ i. record { count = count i; first = first i; greatest = greatest i; last = last i; fall = fall i; links = links i }
 
-noted_more : (gone rest : List Stamp) → all_noted (tallied gone) rest ≡ tallied (gone ++ rest)
+noted_more : (gone rest : List Captured) → all_noted (tallied gone) rest ≡ tallied (gone ++ rest)
 noted_more gone [] = ap tallied (sym (append-nil gone))
 noted_more gone (packet ∷ rest) =
     ap (λ (t : Tallied). all_noted t rest) (noted_tallied gone packet) ∙ noted_more (gone ++ packet ∷ []) rest
     ∙ ap tallied (append_assoc gone (packet ∷ []) rest)
 
 -- all packets are counted
-pub noted_all : (packets : List Stamp) → all_noted nothing_noted packets ≡ tallied packets
+pub noted_all : (packets : List Captured) → all_noted nothing_noted packets ≡ tallied packets
 noted_all packets = noted_more [] packets
-
--- the format is that of the first four octets, which were filled and put back
-survey_so : (limit taken : ℕ) (left left' into : List ℕ) (count : ℕ) (test : Bool) → taken ≡ 0
-    → Fills (window limit taken left) left left' into count → length into ≡ 4 → is_section (take count into) ≡ test
-    → survey_in limit left ≡ survey_by test limit (take count into ++ left')
-survey_so limit taken left left' into count test none f four told =
-    let front : take count into ≡ take 4 (window limit taken left) = head_filled 4 (window limit taken left) left left' into count f four in
-    let section : is_section (take 4 (window limit 0 left)) ≡ test =
-    ap (λ (n : ℕ). is_section (take 4 (window limit n left))) (sym none) ∙ ap is_section (sym front) ∙ told in
-    ap (λ (b : Bool). survey_by b limit left) section
-    ∙ ap (λ (octets : List ℕ). survey_by test limit octets) (sym (put_back_whole limit taken left left' into count f))
-
--- what is begun behind the octets that were put back is what is begun
-pub survey_begins : (limit limit' taken slot slot' : ℕ) (left left' : ℕ → List ℕ) (old mid back into : List ℕ) (count : ℕ) (test : Bool)
-    (coming : ℕ → StampState → Surveyed) (result : Result StampState (Fault CaptureReason))
-    → limit' ≡ limit → slot' ≡ slot → taken ≡ 0 → Fills (window limit taken (old ++ left slot)) (old ++ left slot) (mid ++ left' slot) into count
-    → length into ≡ 4 → back ≡ take count into ++ mid → is_section (take count into) ≡ test
-    → BeginsSurvey (survey_by test limit' (back ++ left' slot')) (coming slot') result → BeginsSurvey (survey_in limit (old ++ left slot)) (coming slot) result
-survey_begins limit limit' taken slot slot' left left' old mid back into count test coming result l s none f four is told h =
-    let again : back ++ left' slot ≡ take count into ++ (mid ++ left' slot) =
-    ap (λ (octets : List ℕ). octets ++ left' slot) is ∙ append_assoc (take count into) mid (left' slot) in
-    subst (λ (all : Surveyed). BeginsSurvey all (coming slot) result)
-    (ap (survey_by test limit) again ∙ sym (survey_so limit taken (old ++ left slot) (mid ++ left' slot) into count test none f four told))
-    (subst (λ (n : ℕ). BeginsSurvey (survey_by test n (back ++ left' slot)) (coming slot) result) l
-    (subst (λ (n : ℕ). BeginsSurvey (survey_by test limit' (back ++ left' n)) (coming n) result) s h))
 
 -- what is said of a capture
 
@@ -294,34 +269,42 @@ pub opened_verdict : (limit : ℕ) (holds : Names) (name left : List ℕ) → ho
     → survey_verdict (survey_in limit left) ≡ capture_verdict limit holds name
 opened_verdict limit holds name left h = ap (λ (o : Option (List ℕ)). content_verdict limit (or_stop Outside o)) (sym h)
 
--- what is counted behind the front of a capture
-pub surveys_from : (all : Surveyed) (capture : StampState) (left : List ℕ) (link : Option Link) (tally tally' : Tallied) (failed : Type 0)
-    → all ≡ survey_coming capture left → tally ≡ nothing_noted → link ≡ own_link capture.context
-    → (stamps_coming capture left).1 ≡ done → tally' ≡ all_noted tally (stamps_coming capture left).0
-    → (all.end ≡ done) × (link ≡ all.link) × (tally' ≡ all_noted nothing_noted all.packets)
-surveys_from all capture left link tally tally' failed is none own ends counted = (
-  ap (λ (s : Surveyed). s.end) is ∙ ends,
-  own ∙ ap (λ (s : Surveyed). s.link) (sym is),
-  counted ∙ ap (λ (t : Tallied). all_noted t (stamps_coming capture left).0) none ∙ ap (λ (s : Surveyed). all_noted nothing_noted s.packets) (sym is),
-)
+-- A capture is surveyed from what is counted of its slot, up to this limit.
+module _ (limit : ℕ) {counted : Counted} (left : ℕ → List ℕ) (l : counted.limit ≡ limit) (b : counted.back ≡ []) (s : counted.slot ≡ 2) where
+  all_is : survey_in counted.limit (counted.back ++ left counted.slot) ≡ survey_in limit (left 2)
+  all_is = λ i. survey_in (l i) (b i ++ left (s i))
 
--- the capture whose front was read
-pub begun : (limit limit' slot : ℕ) (back : List ℕ) (left left' : ℕ → List ℕ) (capture : StampState) → limit' ≡ limit → back ≡ [] → slot ≡ 2
-    → capture.slot ≡ slot
-    → survey_in limit' (back ++ left slot) ≡ survey_coming capture (left' slot) → survey_in limit (left 2) ≡ survey_coming capture (left' capture.slot)
-begun limit limit' slot back left left' capture l b s own h =
-    (λ i. survey_in (sym l i) (sym b i ++ left (sym s i))) ∙ h ∙ ap (λ (n : ℕ). survey_coming capture (left' n)) (sym own)
+  -- the capture whose front was read
+  pub begun : (left' : ℕ → List ℕ) (capture : CaptureState) → capture.slot ≡ counted.slot
+      → BeginsAs (link_in counted.limit (counted.back ++ left counted.slot)) (captured_in counted.limit (counted.back ++ left counted.slot))
+      (left' counted.slot) (Ok capture)
+      → survey_in limit (left 2) ≡ surveyed (own_link capture.context) (coming capture (left' capture.slot))
+  begun left' capture own h =
+      sym all_is ∙ (λ i. surveyed (sym h.link_is i) (h.begins i)) ∙ ap (λ (n : ℕ). surveyed (own_link capture.context) (coming capture (left' n))) (sym own)
 
-pub surveys_fault : (all : Surveyed) (capture : StampState) (left : List ℕ) (now now' : Tallied) (fault : Fault CaptureReason) (failed wider : Type 0)
-    → all ≡ survey_coming capture left → Counts now now' (stamps_coming capture left) failed (Err fault) → (failed → wider) → Surveys all wider (Err fault)
-surveys_fault all capture left now now' Read failed wider is h f = f h
-surveys_fault all capture left now now' Limit failed wider is h f = ap (λ (s : Surveyed). s.end) is ∙ h
-surveys_fault all capture left now now' (Bad reason place) failed wider is h f = ap (λ (s : Surveyed). s.end) is ∙ h
+  -- or not
+  pub surveys_unbegun : (left' : List ℕ) (fault : Fault CaptureReason) (failed : Type 0)
+      → BeginsAs (link_in counted.limit (counted.back ++ left counted.slot)) (captured_in counted.limit (counted.back ++ left counted.slot)) left' (Err fault)
+      → (fault ≡ Read → failed) → Surveys (survey_in limit (left 2)) failed (Err fault)
+  surveys_unbegun left' Read failed h f = f refl
+  surveys_unbegun left' Limit failed h f = ap (λ (all : Surveyed). all.end) (sym all_is) ∙ ap (λ (all : List Captured × End CaptureReason). all.1) h.begins
+  surveys_unbegun left' (Bad reason place) failed h f =
+      ap (λ (all : Surveyed). all.end) (sym all_is) ∙ ap (λ (all : List Captured × End CaptureReason). all.1) h.begins
 
-pub surveys_unbegun : (limit limit' slot : ℕ) (back : List ℕ) (left : ℕ → List ℕ) (coming : StampState
-    → Surveyed) (fault : Fault CaptureReason) (failed : Type 0)
-    → limit' ≡ limit → back ≡ [] → slot ≡ 2 → BeginsSurvey (survey_in limit' (back ++ left slot)) coming (Err fault) → (fault ≡ Read → failed)
-    → Surveys (survey_in limit (left 2)) failed (Err fault)
-surveys_unbegun limit limit' slot back left coming Read failed l b s h f = f refl
-surveys_unbegun limit limit' slot back left coming Limit failed l b s h f = (λ i. (survey_in (sym l i) (sym b i ++ left (sym s i))).end) ∙ h
-surveys_unbegun limit limit' slot back left coming (Bad reason place) failed l b s h f = (λ i. (survey_in (sym l i) (sym b i ++ left (sym s i))).end) ∙ h
+-- what is counted behind its front
+module _ (all : Surveyed) (capture : CaptureState) (left : List ℕ) (tally tally' : Tallied)
+    (is : all ≡ surveyed (own_link capture.context) (coming capture left)) where
+  pub surveys_from : (link : Option Link) → tally ≡ nothing_noted → link ≡ own_link capture.context
+      → (coming capture left).1 ≡ done → tally' ≡ all_noted tally (coming capture left).0
+      → (all.end ≡ done) × (link ≡ all.link) × (tally' ≡ all_noted nothing_noted all.packets)
+  surveys_from link none own ends counted = (
+    ap (λ (s : Surveyed). s.end) is ∙ ends,
+    own ∙ ap (λ (s : Surveyed). s.link) (sym is),
+    counted ∙ ap (λ (t : Tallied). all_noted t (coming capture left).0) none ∙ ap (λ (s : Surveyed). all_noted nothing_noted s.packets) (sym is),
+  )
+
+  pub surveys_fault : (fault : Fault CaptureReason) (failed wider : Type 0)
+      → Counts tally tally' (coming capture left) failed (Err fault) → (failed → wider) → Surveys all wider (Err fault)
+  surveys_fault Read failed wider h f = f h
+  surveys_fault Limit failed wider h f = ap (λ (s : Surveyed). s.end) is ∙ h
+  surveys_fault (Bad reason place) failed wider h f = ap (λ (s : Surveyed). s.end) is ∙ h

@@ -30,10 +30,10 @@ answer_as packet reason (Ok None) = Ok None
 answer_as packet reason (Err fault) = Err (fault_as reason fault)
 
 abbrev pub record_caught : Link → Record → Caught
-record_caught link found = record { link = Some link; moment = found.moment; taken = found.taken }
+record_caught link found = record { link = Some link; time = found.time; moment = found.moment; taken = found.taken }
 
 abbrev pub block_caught : Option Link → NgCaught → Caught
-block_caught link found = record { link = link; moment = found.moment; taken = found.taken }
+block_caught link found = record { link = link; time = found.time; moment = found.moment; taken = found.taken }
 
 abbrev pub record_answer : Link → Result (Option Record) (Fault PcapReason) → Result (Option Caught) (Fault CaptureReason)
 record_answer link found = answer_as (record_caught link) Pcap found

@@ -11,21 +11,24 @@ use Rattle.fs_pcap.specs.Capture.{Captured as Record, Recorded as Records, captu
 use Rattle.fs_pcap.specs.{Head.{longest_record}, declared.header.Heading.{Heading}}
 use Rattle.fs_pcapng.specs.{Block.{Packet as Block, Stands, section_header}, Pcapng.{packets_to_come as blocks_to_come, pcapng_of}}
 use Rattle.fs_pcapng.specs.declared.fault.NgReason.{NgReason}
-use Rattle.fs_input.specs.{NextRecord.{GivesNext, Grows as GrowsBy}, Records.{End}, declared.fault.{Ended.{Ended}, Fault.{Fault, TheVariants.{Read}}}}
+use Rattle.fs_input.specs.{NextRecord.{GivesNext, Grows as GrowsBy}, Opening.{Begins}, Records.{End}}
+use Rattle.fs_input.specs.declared.fault.{Ended.{Ended}, Fault.{Fault, TheVariants.{Read}}}
 use Rattle.cmd_enforce.specs.{Answer.{end_as}, declared.{caught.Caught.{Caught}, fault.CaptureReason.{CaptureReason, TheVariants.{Pcap, Pcapng}}}}
 
--- A captured packet: the link type of its capture or interface, where it is one of the six that are read; its moment, in
--- nanoseconds since the start of 1970, the greatest time of the packets up to and with it; and its captured octets.
+-- A captured packet: the link type of its capture or interface, where it is one of the six that are read; its time, in
+-- nanoseconds since the start of 1970; its moment, the greatest time of the packets up to and with it; and its captured
+-- octets.
 pub record Captured : Type 0 where
   pub link : Option Link
+  pub time : ℕ
   pub moment : ℕ
   pub octets : List ℕ
 
 abbrev pub of_record : Option Link → Record → Captured
-of_record link found = record { link = link; moment = found.moment; octets = found.octets }
+of_record link found = record { link = link; time = found.time; moment = found.moment; octets = found.octets }
 
 abbrev pub of_block : Block → Captured
-of_block found = record { link = found.link; moment = found.moment; octets = found.octets }
+of_block found = record { link = found.link; time = found.time; moment = found.moment; octets = found.octets }
 
 -- the packets of a capture of the libpcap format, which are all of its link type, and how it ends
 abbrev pub of_records : Records → List Captured × End CaptureReason
@@ -47,6 +50,13 @@ captured_by section limit content = if section then of_blocks (pcapng_of limit c
 abbrev pub captured_in : ℕ → List ℕ → List Captured × End CaptureReason
 captured_in limit content = captured_by (is_section (take 4 (window limit 0 content))) limit content
 
+-- the link type of a capture of the libpcap format, where its header has no fault
+abbrev pub link_by : Bool → ℕ → List ℕ → Option Link
+link_by section limit content = if section then None else (pcap_of limit content).link
+
+abbrev pub link_in : ℕ → List ℕ → Option Link
+link_in limit content = link_by (is_section (take 4 (window limit 0 content))) limit content
+
 -- a capture: its packets, and how it ends
 pub record Recorded : Type 0 where
   pub packets : List Captured
@@ -63,6 +73,11 @@ capture_of limit content = recorded (captured_in limit content)
 pub data Context : Type 0 where
   records : Heading → Context
   blocks : Stands → Context
+
+-- the link type of a capture of the libpcap format
+abbrev pub own_link : Context → Option Link
+own_link (records heading) = Some heading.link
+own_link (blocks now) = None
 
 -- What a capture shows: its slot and limit, how many octets of it were taken, how it ended, where it did, the moment of
 -- its last packet, 0 before the first, and where it stands.
@@ -94,7 +109,8 @@ coming capture left = coming_by capture.limit capture.place capture.moment captu
 
 -- a packet as the answer tells it; its octets stand at the front of the buffer
 abbrev pub packet_from : Caught → List ℕ → Captured
-packet_from caught into = record { link = caught.link; moment = caught.moment; octets = take caught.taken into }
+packet_from caught into =
+    record { link = caught.link; time = caught.time; moment = caught.moment; octets = take caught.taken into }
 
 -- A packet raises the place, up to the limit at most. It isn't too long.
 abbrev pub Grows : (old new limit : ℕ) → Result (Option Caught) (Fault CaptureReason) → Type 0
@@ -118,6 +134,12 @@ pub record BeginsSo {F : Type 0} (of_files : files.Ghosts F) (old new : F) (coun
   pub within : IfOk result (λ capture. capture.place ≤ capture.limit)
   pub opened : of_files.opened new ≡ of_files.opened old
   pub others : OnlySlot of_files.tells of_files.left of_files.holds counted.slot old new
+
+-- A capture of this link type is still to give all packets. A fault is what ends it before them.
+pub record BeginsAs (link : Option Link) (all : List Captured × End CaptureReason) (left : List ℕ)
+    (result : Result CaptureState (Fault CaptureReason)) : Type 0 where
+  pub begins : Begins all (λ capture. coming capture left) result
+  pub link_is : IfOk result (λ capture. own_link capture.context ≡ link)
 
 -- the next packet is given, of which the octets stand at the front of the buffer
 abbrev pub GivesPacket : {F : Type 0} → files.Ghosts F → (old new : F) → (before now : CaptureState) → List ℕ

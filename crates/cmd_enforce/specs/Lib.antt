@@ -6,4 +6,4 @@ pub mod Matcher
 pub mod Moments
 pub mod Command
 pub mod Survey
-pub mod Stamps
+pub mod Counting

@@ -1,81 +1,49 @@
 -- What `check` says of a capture: how many packets it has, when they were captured, and behind which link types; or its
 -- fault.
-use Rattle.std.specs.Prelude.{ℕ, List, [], ◌∷◌, ◌++◌, Option, Some, None, Bool, not, Result, Ok, Err, ◌+◌, ◌==◌, codes, decimal, drop, filter}
-use Rattle.std.specs.Prelude.{flat_map, length, map, max, nat_lt, take, if◌then◌else◌}
-use Rattle.fs_base.specs.{Link.{link_number}, Parts.{window}, declared.link.Link.{Link}}
-use Rattle.fs_pcap.specs.Capture.{Captured as Record, heading_of, packets_to_come as records_to_come}
-use Rattle.fs_pcap.specs.{Order.{time_of}, Fault.{reason_name as pcap_reason_name}}
-use Rattle.fs_pcap.specs.declared.{fault.CaptureReason.{CaptureReason as PcapReason}, header.Heading.{Heading}}
-use Rattle.fs_pcapng.specs.{Block.{Packet as Block}, Fault.{reason_name as ng_reason_name}, Own.{own_of}, declared.fault.NgReason.{NgReason}}
-use Rattle.fs_input.specs.{Records.{End, done, limited, bad}}
-use Rattle.cmd_enforce.specs.{Answer.{end_as}, Capture.{is_section}}
+use Rattle.std.specs.Prelude.{ℕ, List, [], ◌∷◌, ◌++◌, Option, Some, None, Bool, not, ◌+◌, ◌==◌, codes}
+use Rattle.std.specs.Prelude.{decimal, filter, flat_map, if◌then◌else◌, length, max, nat_lt, position}
+use Rattle.std.specs.Option.{unwrap_or}
+use Rattle.fs_base.specs.{Link.{link_number}, declared.link.Link.{Link}}
+use Rattle.fs_pcap.specs.Fault.{reason_name as pcap_reason_name}
+use Rattle.fs_pcapng.specs.Fault.{reason_name as ng_reason_name}
+use Rattle.fs_input.specs.Records.{End, done, limited, bad}
+use Rattle.cmd_enforce.specs.Capture.{Captured, captured_in, link_in}
 use Rattle.cmd_enforce.specs.declared.fault.CaptureReason.{CaptureReason, TheVariants.{Pcap, Pcapng}}
-use Rattle.cmd_enforce.specs.declared.{stamps.Stamp.{Stamp}, tally.LinkCount.{LinkCount}}
+use Rattle.cmd_enforce.specs.declared.tally.LinkCount.{LinkCount}
 use Rattle.cmd_stages.specs.Load.{Names}
 use Rattle.cmd_stages.specs.Refusal.{Stage, Found, Stopped, Verdict, or_stop, status_of, verdict_with}
 use Rattle.cmd_stages.specs.declared.refusal.Refusal.TheVariants.{Outside}
 
--- a packet: its link type, where it is one of the six that are read, and its own time, in nanoseconds since the start of
--- 1970
-abbrev pub stamp : Option Link → ℕ → Stamp
-stamp link time = record { link = link; time = time }
-
--- of a record of the libpcap format
-abbrev pub stamp_record : Heading → Record → Stamp
-stamp_record heading found = stamp (Some heading.link) (time_of heading.unit found.seconds found.fraction)
-
--- of a block of the pcapng format
-abbrev pub stamp_block : Block → Stamp
-stamp_block found = stamp found.link found.moment
-
 -- a capture: its link type, where it is of the libpcap format; its packets; and how it ends
 pub record Surveyed : Type 0 where
   pub link : Option Link
-  pub packets : List Stamp
+  pub packets : List Captured
   pub end : End CaptureReason
 
-abbrev pub surveyed : Option Link → List Stamp × End CaptureReason → Surveyed
+abbrev pub surveyed : Option Link → List Captured × End CaptureReason → Surveyed
 surveyed link found = record { link = link; packets = found.0; end = found.1 }
-
--- the packets behind so many octets and a record of this moment, and how the capture ends
-abbrev pub records_coming : Heading → (limit taken moment : ℕ) → List ℕ → List Stamp × End CaptureReason
-records_coming heading limit taken moment left =
-    let found = records_to_come heading limit taken moment left in
-    (map (stamp_record heading) found.0, end_as Pcap found.1)
-
-abbrev pub of_blocks : List Block × End NgReason → List Stamp × End CaptureReason
-of_blocks found = (map stamp_block found.0, end_as Pcapng found.1)
-
-abbrev pub survey_headed : (limit : ℕ) → List ℕ → Result Heading (End PcapReason) → Surveyed
-survey_headed limit content (Ok heading) = surveyed (Some heading.link) (records_coming heading limit 24 0 (drop 24 content))
-survey_headed limit content (Err end) = surveyed None ([], end_as Pcap end)
-
--- the capture of this content, where a section header begins it and where none does
-abbrev pub survey_by : Bool → ℕ → List ℕ → Surveyed
-survey_by section limit content =
-    if section then surveyed None (of_blocks (own_of limit content)) else survey_headed limit content (heading_of limit content)
 
 -- The capture of this content. Only its first `limit` octets are judged.
 abbrev pub survey_in : ℕ → List ℕ → Surveyed
-survey_in limit content = survey_by (is_section (take 4 (window limit 0 content))) limit content
+survey_in limit content = surveyed (link_in limit content) (captured_in limit content)
 
 -- the time of the first packet
-abbrev pub first_time : List Stamp → Option ℕ
+abbrev pub first_time : List Captured → Option ℕ
 first_time [] = None
 first_time (packet ∷ packets) = Some packet.time
 
 -- the greatest time: the moment that `enforce` has after the last packet
-abbrev pub greatest_time : List Stamp → ℕ
+abbrev pub greatest_time : List Captured → ℕ
 greatest_time [] = 0
 greatest_time (packet ∷ packets) = max packet.time (greatest_time packets)
 
 -- the time of the last packet behind one of this time
-abbrev pub last_time : (time : ℕ) → List Stamp → ℕ
+abbrev pub last_time : (time : ℕ) → List Captured → ℕ
 last_time time [] = time
 last_time time (packet ∷ packets) = last_time packet.time packets
 
 -- the first packet whose time lies below that of the one before it, where so many stand before, the last of this time
-abbrev pub fall_behind : (time count : ℕ) → List Stamp → Option ℕ
+abbrev pub fall_behind : (time count : ℕ) → List Captured → Option ℕ
 fall_behind time count [] = None
 fall_behind time count (packet ∷ packets) =
     if nat_lt packet.time time then Some (count + 1) else fall_behind packet.time (count + 1) packets
@@ -92,7 +60,7 @@ abbrev pub link_count : Option Link → ℕ → LinkCount
 link_count link packets = record { link = link; packets = packets }
 
 -- how many of the packets have this link type
-abbrev pub count_of : Option Link → List Stamp → ℕ
+abbrev pub count_of : Option Link → List Captured → ℕ
 count_of link [] = 0
 count_of link (packet ∷ packets) = (if same_link packet.link link then 1 else 0) + count_of link packets
 
@@ -100,7 +68,7 @@ abbrev pub is_other : Option Link → LinkCount → Bool
 is_other link count = not (same_link count.link link)
 
 -- the link types in the order of their first packets, and how many packets have each
-abbrev pub links_of : List Stamp → List LinkCount
+abbrev pub links_of : List Captured → List LinkCount
 links_of [] = []
 links_of (packet ∷ packets) =
     link_count packet.link (1 + count_of packet.link packets) ∷ filter (is_other packet.link) (links_of packets)
@@ -114,7 +82,7 @@ pub record Tallied : Type 0 where
   pub fall : Option ℕ
   pub links : List LinkCount
 
-abbrev pub tallied : List Stamp → Tallied
+abbrev pub tallied : List Captured → Tallied
 tallied packets = record {
   count = length packets;
   first = first_time packets;
@@ -182,3 +150,45 @@ content_verdict limit (Stopped refusal) = verdict_with (status_of refusal) []
 -- of the file of this name
 abbrev pub capture_verdict : ℕ → Names → List ℕ → Verdict
 capture_verdict limit holds name = content_verdict limit (or_stop Outside (holds name))
+
+-- one packet more of this link type, behind which counts of others stand as they are
+abbrev pub has_link : Option Link → LinkCount → Bool
+has_link link count = same_link count.link link
+
+abbrev pub one_more : LinkCount → LinkCount
+one_more count = link_count count.link (count.packets + 1)
+
+abbrev pub with_packet : Option Link → List LinkCount → List LinkCount
+with_packet link [] = link_count link 1 ∷ []
+with_packet link (count ∷ counts) =
+    if same_link count.link link then one_more count ∷ counts else count ∷ with_packet link counts
+
+abbrev pub link_place : Option Link → List LinkCount → Option ℕ
+link_place link counts = position (has_link link) counts
+
+-- the first fall, where one packet more comes
+abbrev pub fall_with : Tallied → ℕ → Option ℕ
+fall_with now time =
+    elim now.fall [
+      | Some number ↦ Some number
+      | None ↦ if nat_lt time now.last then Some (now.count + 1) else None
+    ]
+
+-- what is counted with one packet more
+abbrev pub noted : Tallied → Option Link → (time : ℕ) → Tallied
+noted now link time = record {
+  count = now.count + 1;
+  first = Some (unwrap_or now.first time);
+  greatest = max now.greatest time;
+  last = time;
+  fall = fall_with now time;
+  links = with_packet link now.links;
+}
+
+-- and with these
+abbrev pub all_noted : Tallied → List Captured → Tallied
+all_noted now [] = now
+all_noted now (packet ∷ packets) = all_noted (noted now packet.link packet.time) packets
+
+abbrev pub nothing_noted : Tallied
+nothing_noted = record { count = 0; first = None; greatest = 0; last = 0; fall = None; links = [] }

@@ -46,6 +46,7 @@ pub(crate) fn record_answer(
     match found {
         Ok(Some(record)) => Ok(Some(Caught {
             link: Some(link),
+            time: record.time,
             moment: record.moment,
             taken: record.taken,
         })),
@@ -64,6 +65,7 @@ pub(crate) fn block_answer(
     match found {
         Ok(Some(packet)) => Ok(Some(Caught {
             link,
+            time: packet.time,
             moment: packet.moment,
             taken: packet.taken,
         })),

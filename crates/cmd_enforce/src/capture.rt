@@ -1,8 +1,8 @@
 //! A capture, read packet by packet.
 ghost use Rattle.std.specs.Prelude.{◌≡◌, ◌≤◌, ◌++◌, None, IsTrue, length};
 ghost use Rattle.fs_pcap.specs.Head.{longest_record};
-ghost use Rattle.fs_input.specs.Opening.{Begins};
-ghost use Rattle.cmd_enforce.specs.Capture.{BeginsSo, GivesPacket, Grows, Times, captured_by, captured_in, coming, is_section};
+ghost use Rattle.cmd_enforce.specs.Capture.{BeginsAs, BeginsSo, GivesPacket, Grows, Times, captured_by, captured_in, is_section};
+ghost use Rattle.cmd_enforce.specs.Capture.{link_by, link_in, own_link};
 
 use crate::answer::{block_answer, block_fault, record_answer, record_fault};
 use crate::caught::Caught;
@@ -10,7 +10,7 @@ use crate::fault::{Answer, CaptureFault};
 use crate::reader::Reader;
 use byteorder::{BigEndian, ByteOrder};
 use cmd_stages::CAPTURE_SLOT;
-use fs_base::{Counted, Files, fill};
+use fs_base::{Counted, Files, Link, fill};
 use fs_pcap::Capture as Pcap;
 use fs_pcapng::{Ng, SECTION_HEADER};
 use std::marker::Model;
@@ -44,8 +44,9 @@ impl Capture {
         requires start { counted.taken ≡ 0 }
         ensures state { BeginsSo F.Files files.old files.new counted result }
         ensures begins { IsTrue F.tells
-            → Begins (captured_in counted.limit (counted.back ++ F.left files.old counted.slot))
-            (λ capture. coming capture (F.left files.new counted.slot)) result }
+            → BeginsAs (link_in counted.limit (counted.back ++ F.left files.old counted.slot))
+            (captured_in counted.limit (counted.back ++ F.left files.old counted.slot))
+            (F.left files.new counted.slot) result }
     {
         let mut front = [0u8; 4];
         let Ok(count) = fill(&mut counted, files, &mut front) else {
@@ -54,6 +55,16 @@ impl Capture {
         let front = &front[..count];
         counted.put_back(front);
         open(is_section(front), counted, files)
+    }
+
+    /// The link type of a capture of the libpcap format.
+    pub(crate) fn link(&self) -> Option<Link>
+        ensures { result ≡ own_link self.now.context }
+    {
+        match &self.reader {
+            Reader::Records(capture) => Some(capture.link_type()),
+            Reader::Blocks(_) => None,
+        }
     }
 
     /// Whether `next` answers without a wait: no read of the capture's slot waits, or the next packet stands whole in
@@ -86,6 +97,7 @@ impl Capture {
         ensures gives { GivesPacket F.Files files.old files.new self.old self.new into.new result }
         ensures grows { self.old.end ≡ None → Grows self.old.place self.new.place self.new.limit result }
         ensures times { self.old.end ≡ None → Times self.old.moment self.new.moment result }
+        ensures link { own_link self.new.context ≡ own_link self.old.context }
     {
         match &mut self.reader {
             Reader::Records(capture) => {
@@ -101,7 +113,7 @@ impl Capture {
 }
 
 /// Whether the first octets of a capture, up to four, are the type of a section header.
-pub(crate) fn is_section(front: &[u8]) -> bool
+fn is_section(front: &[u8]) -> bool
     ensures { result ≡ is_section front.now }
 {
     front.len() == 4 && BigEndian::read_u32(front) == SECTION_HEADER
@@ -112,8 +124,9 @@ fn open<F: Files>(section: bool, counted: Counted, files: &mut F) -> Answer<Capt
     requires start { counted.taken ≡ 0 }
     ensures state { BeginsSo F.Files files.old files.new counted result }
     ensures begins { IsTrue F.tells
-        → Begins (captured_by section counted.limit (counted.back ++ F.left files.old counted.slot))
-        (λ capture. coming capture (F.left files.new counted.slot)) result }
+        → BeginsAs (link_by section counted.limit (counted.back ++ F.left files.old counted.slot))
+        (captured_by section counted.limit (counted.back ++ F.left files.old counted.slot))
+        (F.left files.new counted.slot) result }
 {
     if section {
         match Ng::begin(counted, files) {

@@ -13,7 +13,6 @@ mod laws;
 mod lines;
 mod packets;
 mod reader;
-mod stamps;
 mod survey;
 mod survey_text;
 mod tally;

@@ -4,12 +4,12 @@ ghost use Rattle.std.specs.{Prelude.{◌≡◌, ◌≢◌, ◌≤◌, ◌<◌, �
 ghost use Rattle.fs_base.specs.{Files.{one_opening}, Outside.{Rose}, Sink.{Grew}};
 ghost use Rattle.fs_pcap.specs.Head.{longest_record};
 ghost use Rattle.cmd_enforce.specs.Judge.{IsOfCapture};
-ghost use Rattle.cmd_enforce.specs.Stamps.{Counts, IsUnsaid, SaysFault, Surveys, own_link, said_shown, stamps_coming};
-ghost use Rattle.cmd_enforce.specs.{Survey.{capture_verdict, survey_in}, declared.tally.LinkCount.{LinkCount}};
+ghost use Rattle.cmd_enforce.specs.{Capture.{coming, own_link}, declared.tally.LinkCount.{LinkCount}};
+ghost use Rattle.cmd_enforce.specs.{Counting.{Counts, IsUnsaid, SaysFault, Surveys, said_shown}, Survey.{capture_verdict, survey_in}};
 ghost use Rattle.cmd_stages.specs.Refusal.{answered};
 
+use crate::capture::Capture;
 use crate::fault::{Answer, CaptureFault};
-use crate::stamps::Stamps;
 use crate::survey_text::{fault_text, survey_text};
 use crate::tally::Tally;
 use cmd_stages::{CAPTURE_SLOT, Refusal, open, status};
@@ -89,10 +89,10 @@ fn survey_open<F: Files>(alloc: Global, files: &mut F, limit: u64) -> Result<Ans
 {
     let mut buffer = vec![in alloc; 0u8; LONGEST_RECORD]?;
     let mut tally = Tally::new(alloc);
-    match Stamps::begin(Counted::new(CAPTURE_SLOT, limit), files) {
-        Ok(mut stamps) => match count_packets(files, &mut stamps, &mut buffer, &mut tally)? {
+    match Capture::begin(Counted::new(CAPTURE_SLOT, limit), files) {
+        Ok(mut capture) => match count_packets(files, &mut capture, &mut buffer, &mut tally)? {
             Ok(()) => Ok(Ok(Survey {
-                link: stamps.link(),
+                link: capture.link(),
                 tally,
             })),
             Err(fault) => Ok(Err(fault)),
@@ -104,27 +104,27 @@ fn survey_open<F: Files>(alloc: Global, files: &mut F, limit: u64) -> Result<Ans
 /// Counts the packets that a capture is still to give.
 fn count_packets<F: Files>(
     files: &mut F,
-    stamps: &mut Stamps,
+    capture: &mut Capture,
     buffer: &mut [u8],
     tally: &mut Tally,
 ) -> Result<Answer<()>, Memory>
     requires room { longest_record ≤ length buffer.old }
-    requires open { stamps.old.end ≡ None }
-    requires few { tally.old.count ≤ stamps.old.place }
-    requires links { AllByRecursion (λ (count : LinkCount). count.packets ≤ stamps.old.place) tally.old.links }
-    requires within { stamps.old.place ≤ stamps.old.limit }
-    requires fits { stamps.old.limit < 2 ^ 64 }
+    requires open { capture.old.end ≡ None }
+    requires few { tally.old.count ≤ capture.old.place }
+    requires links { AllByRecursion (λ (count : LinkCount). count.packets ≤ capture.old.place) tally.old.links }
+    requires within { capture.old.place ≤ capture.old.limit }
+    requires fits { capture.old.limit < 2 ^ 64 }
     ensures later { F.faults files.old ≤ F.faults files.new }
     ensures opened { F.opened files.new ≡ F.opened files.old }
-    ensures link { own_link stamps.new.context ≡ own_link stamps.old.context }
+    ensures link { own_link capture.new.context ≡ own_link capture.old.context }
     ensures counts { IsTrue F.tells
         → IfOk result (Counts tally.old tally.new
-        (stamps_coming stamps.old (F.left files.old stamps.old.slot))
+        (coming capture.old (F.left files.old capture.old.slot))
         (Rose (F.faults files.old) (F.faults files.new))) }
 {
     'packets: loop {
-        match stamps.next(files, buffer) {
-            Ok(Some(stamp)) => tally.note(stamp)?,
+        match capture.next(files, buffer) {
+            Ok(Some(caught)) => tally.note(caught.link, caught.time)?,
             Ok(None) => return Ok(Ok(())),
             Err(fault) => return Ok(Err(fault)),
         }

@@ -1,9 +1,8 @@
 //! What is counted of the packets of a capture.
 
 ghost use Rattle.std.specs.{Prelude.{◌≡◌, ◌<◌, ◌+◌, ◌^◌, OnOk}, List.{AllByRecursion}};
-ghost use Rattle.cmd_enforce.specs.{Stamps.{link_place, with_packet}, Survey.{link_key, same_link}};
+ghost use Rattle.cmd_enforce.specs.Survey.{link_key, link_place, same_link, with_packet};
 
-use crate::stamps::Stamp;
 use fs_base::{Link, Memory};
 use std::alloc::Global;
 use std::marker::Model;
@@ -45,7 +44,7 @@ impl Model for Tally {
 
 impl Tally {
     ghost use Rattle.std.specs.Prelude.{◌<◌, ◌+◌, ◌^◌};
-    ghost use Rattle.cmd_enforce.specs.Stamps.{fall_with, noted, nothing_noted};
+    ghost use Rattle.cmd_enforce.specs.Survey.{fall_with, noted, nothing_noted};
 
     /// Nothing is counted.
     pub(crate) fn new(alloc: Global) -> Tally
@@ -109,18 +108,18 @@ impl Tally {
         }
     }
 
-    /// Counts one packet more.
-    pub(crate) fn note(&mut self, packet: Stamp) -> Result<(), Memory>
+    /// Counts one packet more, of this link type and time.
+    pub(crate) fn note(&mut self, link: Option<Link>, time: u64) -> Result<(), Memory>
         requires count { self.old.count + 1 < 2 ^ 64 }
         requires few { AllByRecursion (λ (count : LinkCount). count.packets + 1 < 2 ^ 64) self.old.links }
-        ensures { OnOk result (self.new ≡ noted self.old packet) }
+        ensures { OnOk result (self.new ≡ noted self.old link time) }
     {
-        let fall = self.fall_with(packet.time);
-        add_packet(&mut self.links, packet.link)?;
+        let fall = self.fall_with(time);
+        add_packet(&mut self.links, link)?;
         self.count += 1;
-        self.first = Some(self.first.unwrap_or(packet.time));
-        self.greatest = self.greatest.max(packet.time);
-        self.last = packet.time;
+        self.first = Some(self.first.unwrap_or(time));
+        self.greatest = self.greatest.max(time);
+        self.last = time;
         self.fall = fall;
         Ok(())
     }

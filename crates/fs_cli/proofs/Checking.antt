@@ -7,7 +7,7 @@ use Rattle.std.specs.Prelude.{IfOk, MatchResult}
 use Rattle.fs_base.specs.Files.{one_opening}
 use Rattle.cmd_stages.specs.Refusal.{IsOfFile}
 use Rattle.cmd_convert.specs.{Command.{IsOfDump}, Survey.{dump_verdict, IsUnsaid as IsDumpUnsaid}, declared.survey.DumpSaid.{DumpSaid}}
-use Rattle.cmd_enforce.specs.{Judge.{IsOfCapture}, Stamps.{IsUnsaid}, Survey.{capture_verdict}, declared.survey.CaptureSaid.{CaptureSaid}}
+use Rattle.cmd_enforce.specs.{Counting.{IsUnsaid}, Judge.{IsOfCapture}, Survey.{capture_verdict}, declared.survey.CaptureSaid.{CaptureSaid}}
 use Rattle.fs_cli.specs.Survey.{IsOfSurvey}
 use Rattle.fs_cli.specs.FileCheck.{ChecksFileSo, FileForm, IsDue, OfCapture, OfConfig, OfDump, OfRules, OfTape, Unsaid, file_openings, file_statuses}
 use Rattle.fs_cli.specs.declared.file_check.Said.{Said}

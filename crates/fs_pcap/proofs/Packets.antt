@@ -111,6 +111,7 @@ packet_spelled now found are h =
       fraction = number_below order 4 (drop 4 head) (octets_drop 4 head (octets_take 16 octets are));
       original = number_below order 4 (drop 12 head) (octets_drop 12 head (octets_take 16 octets are));
       captured = (omega (arith, long, told.small));
+      time_is = refl;
       moment_is = refl;
     } in
     let moved : stands order now.state.unit one.said.moment ≡ found.1.state = ap (λ (a : At Context). a.state) one.behind in (
@@ -138,32 +139,36 @@ parted a b c d payload rest p q r s =
     }
 
 -- the four numbers of a head
-numbers_read : (now : Context) (seconds fraction size original moment : ℕ) → seconds < 256 ^ 4 → fraction < 256 ^ 4 → size ≤ 262144
-    → original < 256 ^ 4 → moment ≡ max now.moment (time_of now.unit seconds fraction)
+numbers_read : (now : Context) (said : Caught) → said.seconds < 256 ^ 4 → said.fraction < 256 ^ 4 → said.taken ≤ 262144 → said.original < 256 ^ 4
+    → said.time ≡ time_of now.unit said.seconds said.fraction → said.moment ≡ max now.moment said.time
     → (head : List ℕ)
-    → head ≡ octets_of now.order 4 seconds ++ (octets_of now.order 4 fraction ++ (octets_of now.order 4 size ++ octets_of now.order 4 original))
-    → IsHeadOf now head (record { seconds = seconds; fraction = fraction; taken = size; original = original; moment = moment }) size
-numbers_read now seconds fraction size original moment a b c d m head is =
+    → head
+    ≡ octets_of now.order 4 said.seconds
+    ++ (octets_of now.order 4 said.fraction ++ (octets_of now.order 4 said.taken ++ octets_of now.order 4 said.original))
+    → IsHeadOf now head said said.taken
+numbers_read now said a b c d t m head is =
     let order = now.order in
-    let one : number order 4 head ≡ seconds =
-    ap (number order 4) is
-    ∙ number_read order 4 seconds (octets_of order 4 fraction ++ (octets_of order 4 size ++ octets_of order 4 original)) a in
-    let second : drop 4 head ≡ octets_of order 4 fraction ++ (octets_of order 4 size ++ octets_of order 4 original) =
-    ap (drop 4) is ∙ drop_at (octets_of order 4 seconds) _ 4 (octets_count order 4 seconds) in
-    let third : drop 8 head ≡ octets_of order 4 size ++ octets_of order 4 original =
-    sym (drop-drop 4 4 head) ∙ ap (drop 4) second ∙ drop_at (octets_of order 4 fraction) _ 4 (octets_count order 4 fraction) in
-    let fourth : drop 12 head ≡ octets_of order 4 original =
-    sym (drop-drop 4 8 head) ∙ ap (drop 4) third ∙ drop_at (octets_of order 4 size) _ 4 (octets_count order 4 size) in
-    let two : number order 4 (drop 4 head) ≡ fraction =
-    ap (number order 4) second ∙ number_read order 4 fraction (octets_of order 4 size ++ octets_of order 4 original) b in
-    let three : number order 4 (drop 8 head) ≡ size =
-    ap (number order 4) third ∙ number_read order 4 size (octets_of order 4 original) (omega arith) in
-    let four : number order 4 (drop 12 head) ≡ original =
-    ap (number order 4) (fourth ∙ sym (append-nil (octets_of order 4 original))) ∙ number_read order 4 original [] d in
-    let five : max now.moment (time_of now.unit (number order 4 head) (number order 4 (drop 4 head))) ≡ moment =
-    (λ i. max now.moment (time_of now.unit (one i) (two i))) ∙ sym m in
+    let captured = octets_of order 4 said.taken in
+    let original = octets_of order 4 said.original in
+    let one : number order 4 head ≡ said.seconds =
+    ap (number order 4) is ∙ number_read order 4 said.seconds (octets_of order 4 said.fraction ++ (captured ++ original)) a in
+    let second : drop 4 head ≡ octets_of order 4 said.fraction ++ (captured ++ original) =
+    ap (drop 4) is ∙ drop_at (octets_of order 4 said.seconds) _ 4 (octets_count order 4 said.seconds) in
+    let third : drop 8 head ≡ captured ++ original =
+    sym (drop-drop 4 4 head) ∙ ap (drop 4) second ∙ drop_at (octets_of order 4 said.fraction) _ 4 (octets_count order 4 said.fraction) in
+    let fourth : drop 12 head ≡ original =
+    sym (drop-drop 4 8 head) ∙ ap (drop 4) third ∙ drop_at captured _ 4 (octets_count order 4 said.taken) in
+    let two : number order 4 (drop 4 head) ≡ said.fraction =
+    ap (number order 4) second ∙ number_read order 4 said.fraction (captured ++ original) b in
+    let three : number order 4 (drop 8 head) ≡ said.taken =
+    ap (number order 4) third ∙ number_read order 4 said.taken original (omega arith) in
+    let four : number order 4 (drop 12 head) ≡ said.original =
+    ap (number order 4) (fourth ∙ sym (append-nil original)) ∙ number_read order 4 said.original [] d in
+    let five : time_of now.unit (number order 4 head) (number order 4 (drop 4 head)) ≡ said.time =
+    (λ i. time_of now.unit (one i) (two i)) ∙ sym t in
+    let six = ap (max now.moment) five ∙ sym m in
     record {
-      said_is = λ i. record { seconds = one i; fraction = two i; taken = three i; original = four i; moment = five i };
+      said_is = λ i. record { seconds = one i; fraction = two i; taken = three i; original = four i; time = five i; moment = six i };
       size_is = three;
       small = c;
     }
@@ -182,13 +187,13 @@ packet_read now packet rest fits =
       fraction = packet.fraction;
       taken = length packet.octets;
       original = packet.original;
+      time = packet.time;
       moment = packet.moment;
     } in
     let sixteen : length (take 16 octets) ≡ 16 = omega (arith, length-take 16 octets, p.size) in
     let head : head_of now (take 16 octets) ≡ Whole said (length packet.octets) =
     head_known now (take 16 octets) said (length packet.octets) sixteen
-    (numbers_read now packet.seconds packet.fraction (length packet.octets) packet.original packet.moment
-    fits.seconds fits.fraction fits.captured fits.original fits.moment_is (take 16 octets) p.head) in
+    (numbers_read now said fits.seconds fits.fraction fits.captured fits.original fits.time_is fits.moment_is (take 16 octets) p.head) in
     let enough : nat_le (16 + length packet.octets) (length octets) ≡ true =
     let l : length octets ≡ 16 + (length packet.octets + length rest) = p.size in grind (arith, nat_tests) in
     let held : take (length packet.octets) (drop 16 octets) ≡ packet.octets =

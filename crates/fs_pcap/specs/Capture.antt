@@ -8,21 +8,25 @@ use Rattle.fs_pcap.specs.declared.{capture.Caught.{Caught}, fault.CaptureReason.
 use Rattle.fs_pcap.specs.declared.header.Heading.{Heading}
 use Rattle.fs_base.specs.declared.link.Link.{Link}
 
--- A captured packet. Its moment, in nanoseconds since the start of 1970, is the greatest time of the records up to and
--- with its own.
+-- A captured packet. Its time is in nanoseconds since the start of 1970, and its moment is the greatest time of the
+-- records up to and with its own.
 pub record Captured : Type 0 where
   pub seconds : ℕ
   pub fraction : ℕ
   pub original : ℕ
+  pub time : ℕ
   pub moment : ℕ
   pub octets : List ℕ
 
-abbrev pub packet : (seconds fraction original moment : ℕ) → List ℕ → Captured
-packet seconds fraction original moment octets =
-    record { seconds = seconds; fraction = fraction; original = original; moment = moment; octets = octets }
-
 abbrev pub packet_of : Caught → List ℕ → Captured
-packet_of caught octets = packet caught.seconds caught.fraction caught.original caught.moment octets
+packet_of caught octets = record {
+  seconds = caught.seconds;
+  fraction = caught.fraction;
+  original = caught.original;
+  time = caught.time;
+  moment = caught.moment;
+  octets = octets;
+}
 
 abbrev pub records : Format Context Caught Captured CaptureReason
 records = record {

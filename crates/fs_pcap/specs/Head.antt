@@ -9,12 +9,14 @@ abbrev pub said_in : Context → List ℕ → Caught
 said_in now head =
     let seconds = number now.order 4 head in
     let fraction = number now.order 4 (drop 4 head) in
+    let time = time_of now.unit seconds fraction in
     record {
       seconds = seconds;
       fraction = fraction;
       taken = number now.order 4 (drop 8 head);
       original = number now.order 4 (drop 12 head);
-      moment = max now.moment (time_of now.unit seconds fraction);
+      time = time;
+      moment = max now.moment time;
     }
 
 -- the octets of the longest record

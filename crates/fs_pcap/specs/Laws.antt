@@ -36,14 +36,15 @@ packet_text order packet =
     ++ (octets_of order 4 packet.fraction
     ++ (octets_of order 4 (length packet.octets) ++ (octets_of order 4 packet.original ++ packet.octets)))
 
--- A packet can be written where a capture stands: the numbers have their room, not too many octets were captured, and
--- its moment is the greater of the last one and its own time.
+-- A packet can be written where a capture stands: the numbers have their room, not too many octets were captured, its
+-- time is the seconds and the fraction, and its moment the greater of the last one and its own time.
 pub record Fits (now : Context) (packet : Captured) : Type 0 where
   pub seconds : packet.seconds < 2 ^ 32
   pub fraction : packet.fraction < 2 ^ 32
   pub original : packet.original < 2 ^ 32
   pub captured : length packet.octets ≤ longest_record
-  pub moment_is : packet.moment ≡ max now.moment (time_of now.unit packet.seconds packet.fraction)
+  pub time_is : packet.time ≡ time_of now.unit packet.seconds packet.fraction
+  pub moment_is : packet.moment ≡ max now.moment packet.time
 
 abbrev pub stands : Endian → FractionUnit → ℕ → Context
 stands order unit moment = record { order = order; unit = unit; moment = moment }

@@ -7,21 +7,21 @@ ghost use Rattle.fs_pcap.specs.{Head.{longest_record}, Capture.{Grows, Times, he
 use crate::fault::{CaptureFault, CaptureReason};
 use crate::head::{Context, HEAD_SIZE};
 use crate::header::{HEADER_SIZE, Heading, read_header};
-use crate::order::Unit;
 use fs_base::{Counted, Files, Link, fill};
 use fs_input::{Ended, next_record, opened};
 use std::marker::Model;
 
 /// A captured packet. `taken` octets of it were captured, of `original`; they stand at the front of the buffer that
-/// was handed in. `fraction` counts microseconds or nanoseconds, as the capture's magic says. `moment`, in
-/// nanoseconds since the start of 1970, is the greatest time of the capture's records up to and with this one, a time
-/// being the seconds and the fraction.
+/// was handed in. `fraction` counts microseconds or nanoseconds, as the capture's magic says. `time` is the seconds and
+/// the fraction, in nanoseconds since the start of 1970; `moment` is the greatest time of the capture's records up to
+/// and with this one.
 #[derive(Clone, Copy, Debug, PartialEq, Eq, Drop)]
 pub struct Caught {
     pub seconds: u32,
     pub fraction: u32,
     pub taken: usize,
     pub original: u32,
+    pub time: u64,
     pub moment: u64,
 }
 
@@ -111,13 +111,6 @@ impl Capture {
         ensures { result ≡ self.now.heading.link }
     {
         self.heading.link
-    }
-
-    /// The unit in which fractions of a second are counted.
-    pub fn unit(&self) -> Unit
-        ensures { result ≡ self.now.heading.unit }
-    {
-        self.heading.unit
     }
 
     /// Whether `next` answers without a call to the outside: the next record stands whole in what the slot gives at

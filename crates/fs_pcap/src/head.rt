@@ -85,6 +85,7 @@ impl Context {
             fraction,
             taken,
             original: self.order.read_u32(&octets[12..]),
+            time,
             moment: self.moment.max(time),
         }
     }

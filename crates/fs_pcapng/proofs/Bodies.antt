@@ -80,11 +80,11 @@ pub simple_reads : {T : Type 0} {told : Bool} {calls mid late : Calls} {left lef
     → captured ≤ 262144 → room ≡ padded captured → 16 + room ≤ frame.total
     → Reads told calls mid left left' holds holds' (field 4 (number frame.order 4)) Cut old now (λ (n : ℕ). n) (Ok original)
     → Reads told mid late left' left'' holds' holds''
-    (and (octets_in frame 16 captured) (λ octets. gives (packet stands.moment interface.link original octets))) Cut now new tells result
+    (and (octets_in frame 16 captured) (λ octets. gives (packet stands.moment 0 interface.link original octets))) Cut now new tells result
     → Reads told calls late left left'' holds holds'' (simple_in frame stands) Cut old new tells result
 simple_reads {old = old} {now = now} {tells = tells} frame stands interface original captured room found cut few is within first more =
     let rest : ℕ → Scanner Packet NgReason = λ n.
-    and (octets_in frame 16 n) (λ octets. gives (packet stands.moment interface.link original octets)) in
+    and (octets_in frame 16 n) (λ octets. gives (packet stands.moment 0 interface.link original octets)) in
     reads_as (simple_in frame stands) (λ octets. ap (λ s. simple_by frame stands.moment s old.taken octets) found)
     (reads_then (simple_behind frame interface stands.moment) tells first
     (reads_as (simple_behind frame interface stands.moment original)

@@ -1,99 +1,83 @@
 -- The first block of a capture, octets of which may have been put back.
 use Rattle.fs_pcapng.proofs.Words.{◌≡◌, inl, inr, ℕ, List, [], ◌++◌, Bool, true, false, Option, Some, None, Result, Ok, Err, IsTrue, ◌<◌, ◌≤◌, ◌==◌}
 use Rattle.fs_pcapng.proofs.Words.{◌&&◌, not, length, take, refl, ap, sym, ◌∙◌, subst, arith, if◌then◌else◌, nat_le, unwrap_or, nat_tests, at_limit}
-use Rattle.fs_pcapng.proofs.Words.{window, Counted, End, bad, done, limited, Fault, Read, Limit, Bad, only_told, Scanner, Takes, Calls, Fails}
+use Rattle.fs_pcapng.proofs.Words.{window, Counted, End, bad, done, limited, Fault, Read, Limit, Bad, only_told, Calls, Fails}
 use Rattle.fs_pcapng.proofs.Words.{HasMore, Reads, ahead, end_of, ends_by, whole, and, and_then, field, gives, got, partial, gives_for, reads_as}
 use Rattle.fs_pcapng.proofs.Words.{reads_ends, reads_then, big_number, Endian, Packet, Stands, block_in, kind_behind, opened, section_in, nothing}
+use Rattle.fs_pcapng.proofs.Words.{packets_to_come, pcapng_of}
 use Rattle.fs_pcapng.proofs.Words.{NgReason, Cut}
 use Rattle.fs_pcapng.proofs.{Bodies.{header_kind}, Spelled.{block_takes}}
 use Rattle.fs_base.specs.Files.{LeavesOthers}
 use Rattle.fs_input.proofs.{Advancing.{part_advances}, Again.{ahead_here, ahead_other, nothing_ahead, reads_ahead}, Coming.{end_comes}}
-use Rattle.fs_input.specs.{Coming.{Chain, told_to_come}, Opening.{Begins}}
+use Rattle.fs_input.specs.Opening.{Begins}
 
-module _ (chain : Chain Stands (Option Packet) NgReason) (same : chain nothing ≡ block_in nothing) where
-  -- the packets of a capture that is read by this chain, and how it ends
-  abbrev all_of : (limit : ℕ) (content : List ℕ) → List Packet × End NgReason
-  all_of limit content =
-      if (length (window limit 0 content) == 0) && not (at_limit limit 0 content)
-      then ([], bad Cut 0)
-      else told_to_come chain Cut limit 0 nothing content
+module _ (limit : ℕ) (content : List ℕ) where
+  picks : (test : Bool) → (length (window limit 0 content) == 0) && not (at_limit limit 0 content) ≡ test
+      → pcapng_of limit content ≡ (if test then ([], bad Cut 0) else packets_to_come limit 0 nothing content)
+  picks test is = ap (λ t. if t then ([], bad Cut 0) else packets_to_come limit 0 nothing content) is
 
-  module _ (limit : ℕ) (content : List ℕ) where
-    picks : (test : Bool) → (length (window limit 0 content) == 0) && not (at_limit limit 0 content) ≡ test
-        → all_of limit content ≡ (if test then ([], bad Cut 0) else told_to_come chain Cut limit 0 nothing content)
-    picks test is = ap (λ t. if t then ([], bad Cut 0) else told_to_come chain Cut limit 0 nothing content) is
+  judged : 0 < length (window limit 0 content) → pcapng_of limit content ≡ packets_to_come limit 0 nothing content
+  judged some =
+      let test : (length (window limit 0 content) == 0) ≡ false = let s = some in grind (arith, nat_tests) in
+      picks false (λ i. test i && not (at_limit limit 0 content))
 
-    judged : 0 < length (window limit 0 content) → all_of limit content ≡ told_to_come chain Cut limit 0 nothing content
-    judged some =
-        let test : (length (window limit 0 content) == 0) ≡ false = let s = some in grind (arith, nat_tests) in
-        picks false (λ i. test i && not (at_limit limit 0 content))
+  empty : length (window limit 0 content) ≡ 0 → at_limit limit 0 content ≡ false
+      → ends_by (block_in nothing) Cut limit 0 content ≡ Some (bad Cut 0)
+  empty none free = λ i.
+      end_of Cut (free i) 0 (none i)
+      (and_then (kind_behind nothing 0) 0 (window limit 0 content)
+      (if nat_le 4 (none i) then got (whole (take 4 (window limit 0 content))) 4 else partial))
 
-    empty : length (window limit 0 content) ≡ 0 → at_limit limit 0 content ≡ false
-        → ends_by (block_in nothing) Cut limit 0 content ≡ Some (bad Cut 0)
-    empty none free = λ i.
-        end_of Cut (free i) 0 (none i)
-        (and_then (kind_behind nothing 0) 0 (window limit 0 content)
-        (if nat_le 4 (none i) then got (whole (take 4 (window limit 0 content))) 4 else partial))
+  opens_ends : (end : End NgReason) → ends_by (block_in nothing) Cut limit 0 content ≡ Some end → pcapng_of limit content ≡ ([], end)
+  opens_ends end h = by (length (window limit 0 content) == 0) refl (at_limit limit 0 content) refl
+    where
+      later : HasMore limit 0 content → packets_to_come limit 0 nothing content ≡ ([], end)
+      later more = ap only_told (end_comes block_in Cut limit 0 nothing content end more h)
 
-    opens_ends : (end : End NgReason) → ends_by (block_in nothing) Cut limit 0 content ≡ Some end → all_of limit content ≡ ([], end)
-    opens_ends end h = by (length (window limit 0 content) == 0) refl (at_limit limit 0 content) refl
-      where
-        later : HasMore limit 0 content → told_to_come chain Cut limit 0 nothing content ≡ ([], end)
-        later more =
-            ap only_told (end_comes chain Cut limit 0 nothing content end more
-            (ap (λ (s : Scanner (Option Packet × Stands) NgReason). ends_by s Cut limit 0 content) same ∙ h))
+      by : (none : Bool) → (length (window limit 0 content) == 0) ≡ none → (reached : Bool) → at_limit limit 0 content ≡ reached
+          → pcapng_of limit content ≡ ([], end)
+      by true e true r = picks false (λ i. e i && not (r i)) ∙ later (inl r)
+      by true e false r =
+          let none : length (window limit 0 content) ≡ 0 = let s = e in grind (arith, nat_tests) in
+          picks true (λ i. e i && not (r i)) ∙ ap (λ o. ([], unwrap_or o done)) (sym (empty none r) ∙ h)
+      by false e reached r =
+          let some : 0 < length (window limit 0 content) = let s = e in grind (arith, nat_tests) in
+          picks false (λ i. e i && not (at_limit limit 0 content)) ∙ later (inr some)
 
-        by : (none : Bool) → (length (window limit 0 content) == 0) ≡ none → (reached : Bool) → at_limit limit 0 content ≡ reached
-            → all_of limit content ≡ ([], end)
-        by true e true r = picks false (λ i. e i && not (r i)) ∙ later (inl r)
-        by true e false r =
-            let none : length (window limit 0 content) ≡ 0 = let s = e in grind (arith, nat_tests) in
-            picks true (λ i. e i && not (r i)) ∙ ap (λ o. ([], unwrap_or o done)) (sym (empty none r) ∙ h)
-        by false e reached r =
-            let some : 0 < length (window limit 0 content) = let s = e in grind (arith, nat_tests) in
-            picks false (λ i. e i && not (at_limit limit 0 content)) ∙ later (inr some)
-
-    fails_to_open : {T : Type 0} (coming : T → List Packet × End NgReason) (fault : Fault NgReason)
-        → Fails (ends_by (block_in nothing) Cut limit 0 content) fault → Begins (all_of limit content) coming (Err fault)
-    fails_to_open coming Read h = tt
-    fails_to_open coming Limit h = opens_ends limited h
-    fails_to_open coming (Bad reason place) h = opens_ends (bad reason place) h
-
-  module _ {told : Bool} {calls calls' : Calls} (left left' : ℕ → List ℕ) {holds holds' : List ℕ → Option (List ℕ)} {old new : Counted} {now : Stands}
-      {T : Type 0} where
-    -- the first block was read, and gave no packet
-    pub opens : {answer : T} → ((state : Stands) → Takes 1 (chain state)) → old.taken ≡ 0 → new.back ≡ [] → IsTrue told
-        → Reads told calls calls' (ahead old left) (ahead new left') holds holds' (block_in nothing) Cut old new (λ (_ : T). (None, now)) (Ok answer)
-        → all_of old.limit (old.back ++ left old.slot) ≡ told_to_come chain Cut new.limit new.taken now (left' old.slot)
-    opens {answer = answer} takes start none tells_so h =
-        let content = ahead old left old.slot in
-        let took = h.scanned tells_so in
-        let held = block_takes nothing old.taken (window old.limit old.taken content) _ took.count took.is in
-        let one : 1 ≤ took.count = held.0 in
-        let some : 0 < length (window old.limit old.taken content) = omega (arith, one, held.1) in
-        let behind : ahead new left' new.slot ≡ left' old.slot = λ i. nothing_ahead new left' none i (h.passes.slot i) in
-        let by_chain : Reads told calls calls' (ahead old left) (ahead new left') holds holds' (chain nothing) Cut old new (λ (_ : T). (None, now))
-        (Ok answer) =
-        subst (λ (s : Scanner (Option Packet × Stands) NgReason).
-        Reads told calls calls' (ahead old left) (ahead new left') holds holds' s Cut old new (λ (_ : T). (None, now)) (Ok answer))
-        (sym same) h in
-        ap (λ l. all_of old.limit l) (sym (ahead_here old left))
-        ∙ judged old.limit content (subst (λ n. 0 < length (window old.limit n content)) start some)
-        ∙ ap (λ n. told_to_come chain Cut old.limit n nothing content) (sym start)
-        ∙ ap only_told (part_advances chain takes Cut nothing tells_so by_chain)
-        ∙ ap (λ l. told_to_come chain Cut new.limit new.taken now l) behind
-
-    -- the first block could not be read
-    pub opens_not : {U : Type 0} {fault : Fault NgReason} (coming : U → List Packet × End NgReason) → old.taken ≡ 0 → IsTrue told
-        → Reads told calls calls' (ahead old left) (ahead new left') holds holds' (block_in nothing) Cut old new (λ (_ : T). (None, now)) (Err fault)
-        → Begins (all_of old.limit (old.back ++ left old.slot)) coming (Err fault)
-    opens_not {fault = fault} coming start tells_so h =
-        fails_to_open old.limit (old.back ++ left old.slot) coming fault
-        (subst (λ n. Fails (ends_by (block_in nothing) Cut old.limit n (old.back ++ left old.slot)) fault) start
-        (subst (λ l. Fails (ends_by (block_in nothing) Cut old.limit old.taken l) fault) (ahead_here old left) (h.scanned tells_so)))
+  fails_to_open : {T : Type 0} (coming : T → List Packet × End NgReason) (fault : Fault NgReason)
+      → Fails (ends_by (block_in nothing) Cut limit 0 content) fault → Begins (pcapng_of limit content) coming (Err fault)
+  fails_to_open coming Read h = tt
+  fails_to_open coming Limit h = opens_ends limited h
+  fails_to_open coming (Bad reason place) h = opens_ends (bad reason place) h
 
 module _ {told : Bool} {calls calls' : Calls} (left left' : ℕ → List ℕ) {holds holds' : List ℕ → Option (List ℕ)} {old new : Counted} {now : Stands}
     {T : Type 0} where
+  -- the first block was read, and gave no packet
+  pub opens : {answer : T} → old.taken ≡ 0 → new.back ≡ [] → IsTrue told
+      → Reads told calls calls' (ahead old left) (ahead new left') holds holds' (block_in nothing) Cut old new (λ (_ : T). (None, now)) (Ok answer)
+      → pcapng_of old.limit (old.back ++ left old.slot) ≡ packets_to_come new.limit new.taken now (left' old.slot)
+  opens {answer = answer} start none tells_so h =
+      let content = ahead old left old.slot in
+      let took = h.scanned tells_so in
+      let held = block_takes nothing old.taken (window old.limit old.taken content) _ took.count took.is in
+      let one : 1 ≤ took.count = held.0 in
+      let some : 0 < length (window old.limit old.taken content) = omega (arith, one, held.1) in
+      let behind : ahead new left' new.slot ≡ left' old.slot = λ i. nothing_ahead new left' none i (h.passes.slot i) in
+      ap (λ l. pcapng_of old.limit l) (sym (ahead_here old left))
+      ∙ judged old.limit content (subst (λ n. 0 < length (window old.limit n content)) start some)
+      ∙ ap (λ n. packets_to_come old.limit n nothing content) (sym start)
+      ∙ ap only_told (part_advances block_in block_takes Cut nothing tells_so h)
+      ∙ ap (λ l. packets_to_come new.limit new.taken now l) behind
+
+  -- the first block could not be read
+  pub opens_not : {U : Type 0} {fault : Fault NgReason} (coming : U → List Packet × End NgReason) → old.taken ≡ 0 → IsTrue told
+      → Reads told calls calls' (ahead old left) (ahead new left') holds holds' (block_in nothing) Cut old new (λ (_ : T). (None, now)) (Err fault)
+      → Begins (pcapng_of old.limit (old.back ++ left old.slot)) coming (Err fault)
+  opens_not {fault = fault} coming start tells_so h =
+      fails_to_open old.limit (old.back ++ left old.slot) coming fault
+      (subst (λ n. Fails (ends_by (block_in nothing) Cut old.limit n (old.back ++ left old.slot)) fault) start
+      (subst (λ l. Fails (ends_by (block_in nothing) Cut old.limit old.taken l) fault) (ahead_here old left) (h.scanned tells_so)))
+
   pub opens_others : {result : Result T (Fault NgReason)} → IsTrue told
       → Reads told calls calls' (ahead old left) (ahead new left') holds holds' (block_in nothing) Cut old new (λ (_ : T). (None, now)) result
       → LeavesOthers old.slot left left' holds holds'

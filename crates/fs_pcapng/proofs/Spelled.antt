@@ -1,14 +1,14 @@
 -- Blocks as they stand in a capture: what is read is spelled so.
 use Rattle.fs_pcapng.proofs.Words.{◌≡◌, ℕ, zero, suc, List, [], ◌∷◌, ◌++◌, Option, Some, None, Bool, true, false, ◌<◌, ◌≤◌, ◌+◌, ◌-◌, ◌*◌, ◌%◌, ◌==◌}
-use Rattle.fs_pcapng.proofs.Words.{◌&&◌, max, length, drop, refl, ap, sym, subst, ◌∙◌, arith, append-nil, append_assoc, length-append, if◌then◌else◌}
+use Rattle.fs_pcapng.proofs.Words.{◌&&◌, length, drop, refl, ap, sym, subst, ◌∙◌, arith, append-nil, append_assoc, length-append, if◌then◌else◌}
 use Rattle.fs_pcapng.proofs.Words.{flat_map, nat_le, nat_lt, slice_get, slice_index, AllByRecursion, drop_at, nat_tests, big_number, longest_record}
 use Rattle.fs_pcapng.proofs.Words.{number, Endian, Takes, whole, Scanner, and, field, gives, needs, skips, Part, Spells, and_spells, cut_at}
 use Rattle.fs_pcapng.proofs.Words.{fails_spells, field_reads, field_spells, gives_spells, map_reads, map_spells, needs_spells, part_spells}
 use Rattle.fs_pcapng.proofs.Words.{skips_reads, skips_spells, weaker_spells, IsSpelled, spelled_takes, Packet, Stands, allows, behind_packet}
 use Rattle.fs_pcapng.proofs.Words.{block_in, body_in, close_in, cut_to, described_behind, described_in, end_in, enhanced_in, fitting, frame_of}
 use Rattle.fs_pcapng.proofs.Words.{kind_behind, kind_of, least_of, magic_behind, octets_in, opened, order_of, ordered_in, original_in, packet}
-use Rattle.fs_pcapng.proofs.Words.{plain_in, section_header, section_in, simple_behind, simple_by, simple_in, timed_behind, timed_in, total_behind}
-use Rattle.fs_pcapng.proofs.Words.{version_in, with_interface, cursor, option_behind, option_in, options_in, padded, unit_in, value_in, time_of}
+use Rattle.fs_pcapng.proofs.Words.{plain_in, section_header, section_in, simple_behind, simple_by, simple_in, stamped, timed_behind, timed_in}
+use Rattle.fs_pcapng.proofs.Words.{total_behind, version_in, with_interface, cursor, option_behind, option_in, options_in, padded, unit_in, value_in, time_of}
 use Rattle.fs_pcapng.proofs.Words.{Block, Choice, Description, Fits, IsBlock, IsChoice, IsPlain, IsSection, Outer, Record, Section, Short, Written}
 use Rattle.fs_pcapng.proofs.Words.{block_gives, block_text, body_text, choice_text, described, enhanced, gives_by, packet_of, section, short_of}
 use Rattle.fs_pcapng.proofs.Words.{simple, skipped, unit_behind, unit_of, Kind, Described, Enhanced, Simple, Other, NgReason, Length, Magic}
@@ -406,17 +406,13 @@ module _ (order : Endian) (now : Stands) (start total : ℕ) where
       ap (λ l. a ++ (b ++ (c ++ l))) (sym (append_assoc d e f)) ∙ ap (λ l. a ++ (b ++ l)) (sym (append_assoc c (d ++ e) f))
       ∙ ap (λ l. a ++ l) (sym (append_assoc b (c ++ (d ++ e)) f)) ∙ sym (append_assoc a (b ++ (c ++ (d ++ e))) f)
 
-  abbrev pub timed_moment : Interface → List ℕ → ℕ
-  timed_moment interface head =
-      max now.moment (time_of interface.unit (number order 4 head * 4294967296 + number order 4 (drop 4 head)))
-
   record_found : (which original : ℕ) (which_text head head_text original_text found octets : List ℕ) (interface : Interface)
       → Num order 4 which which_text → slice_get now.interfaces which ≡ Some interface → Part 12 head head_text → Num order 4 original original_text
       → number order 4 (drop 8 head) ≤ longest_record → 32 + padded (number order 4 (drop 8 head)) ≤ total
       → OctetsRead 32 (number order 4 (drop 8 head)) found octets
       → BodyRead order now Enhanced total (
-        Some (packet (timed_moment interface head) interface.link original found),
-        behind_packet now (packet (timed_moment interface head) interface.link original found),
+        Some (packet now.moment (stamped frame interface head) interface.link original found),
+        behind_packet now (packet now.moment (stamped frame interface head) interface.link original found),
       )
       (which_text ++ (head_text ++ (original_text ++ octets)))
   record_found which original which_text head head_text original_text found octets interface w known p n few room o =
@@ -479,10 +475,8 @@ module _ (order : Endian) (now : Stands) (start total : ℕ) where
             );
         closing = o.closing;
         value_is =
-            let moment : timed_moment interface head ≡ max now.moment (time_of interface.unit (number order 4 t.first * 4294967296 + number order 4 t.second)) =
-            λ i. max now.moment (time_of interface.unit (high i * 4294967296 + low i)) in
-            let same : packet (timed_moment interface head) interface.link original found ≡ packet_of order now.moment interface r =
-            λ i. packet (moment i) interface.link (n.is i) found in
+            let same : packet now.moment (stamped frame interface head) interface.link original found ≡ packet_of order now.moment interface r =
+            λ i. packet now.moment (time_of interface.unit (high i * 4294967296 + low i)) interface.link (n.is i) found in
             ap (λ (x : Packet). (Some x, behind_packet now x)) same;
       }
 
@@ -497,14 +491,14 @@ module _ (order : Endian) (now : Stands) (start total : ℕ) where
       (λ head head_text p.
       let captured = number order 4 (drop 8 head) in
       fitting_spells (λ found more. P found (which_text ++ (head_text ++ more))) 32 captured (start + 20)
-      (original_in frame interface.link (timed_moment interface head) captured)
+      (original_in frame now.moment (stamped frame interface head) interface.link captured)
       (λ few room.
       and_spells (Num order 4) (λ found more. P found (which_text ++ (head_text ++ more))) (field 4 (number order 4))
-      (λ original. and (octets_in frame 32 captured) (λ octets. gives (packet (timed_moment interface head) interface.link original octets)))
+      (λ original. and (octets_in frame 32 captured) (λ octets. gives (packet now.moment (stamped frame interface head) interface.link original octets)))
       (num_spells order 4)
       (λ original original_text n.
       map_spells (OctetsRead 32 captured) (λ found more. P found (which_text ++ (head_text ++ (original_text ++ more)))) (octets_in frame 32 captured)
-      (λ octets. packet (timed_moment interface head) interface.link original octets) (octets_spells 32 captured)
+      (λ octets. packet now.moment (stamped frame interface head) interface.link original octets) (octets_spells 32 captured)
       (λ found octets o. record_found which original which_text head head_text original_text found octets interface w known p n few room o))))
 
   enhanced_spells : Spells (BodyRead order now Enhanced total) (body_in frame now Enhanced)
@@ -521,8 +515,8 @@ module _ (order : Endian) (now : Stands) (start total : ℕ) where
       → Num order 4 original original_text → cut_to interface.snap original ≤ longest_record → 16 + padded (cut_to interface.snap original) ≤ total
       → OctetsRead 16 (cut_to interface.snap original) found octets
       → BodyRead order now Simple total (
-        Some (packet now.moment interface.link original found),
-        behind_packet now (packet now.moment interface.link original found),
+        Some (packet now.moment 0 interface.link original found),
+        behind_packet now (packet now.moment 0 interface.link original found),
       ) (original_text ++ octets)
   short_found original original_text found octets interface known n few room o =
       let s : Short = record { original = original_text; octets = found; rest = o.rest } in
@@ -549,8 +543,8 @@ module _ (order : Endian) (now : Stands) (start total : ℕ) where
             omega (arith, length-append original_text (found ++ o.rest), length-append found o.rest, n.long, o.long, o.rest_size, room, more);
         closing = o.closing;
         value_is =
-            let same : packet now.moment interface.link original found ≡ short_of order now.moment interface s =
-            λ i. packet now.moment interface.link (n.is i) found in
+            let same : packet now.moment 0 interface.link original found ≡ short_of order now.moment interface s =
+            λ i. packet now.moment 0 interface.link (n.is i) found in
             ap (λ (x : Packet). (Some x, behind_packet now x)) same;
       }
 
@@ -563,10 +557,10 @@ module _ (order : Endian) (now : Stands) (start total : ℕ) where
       (λ original original_text n.
       let captured = cut_to interface.snap original in
       fitting_spells (λ found more. P found (original_text ++ more)) 16 captured (start + 8)
-      (and (octets_in frame 16 captured) (λ octets. gives (packet now.moment interface.link original octets)))
+      (and (octets_in frame 16 captured) (λ octets. gives (packet now.moment 0 interface.link original octets)))
       (λ few room.
       map_spells (OctetsRead 16 captured) (λ found more. P found (original_text ++ more)) (octets_in frame 16 captured)
-      (λ octets. packet now.moment interface.link original octets) (octets_spells 16 captured)
+      (λ octets. packet now.moment 0 interface.link original octets) (octets_spells 16 captured)
       (λ found octets o. short_found original original_text found octets interface known n few room o)))
 
   simple_spells : Spells (BodyRead order now Simple total) (body_in frame now Simple)

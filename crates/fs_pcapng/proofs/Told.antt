@@ -1,9 +1,9 @@
 -- What stands before an enhanced packet's octets, judged as a chain of its own.
-use Rattle.fs_pcapng.proofs.Words.{◌≡◌, ℕ, List, Bool, true, false, Option, Some, None, ◌≤◌, ◌+◌, ◌*◌, max, length, take, drop, refl, ap, sym, ◌∙◌}
+use Rattle.fs_pcapng.proofs.Words.{◌≡◌, ℕ, List, Bool, true, false, Option, Some, None, ◌≤◌, ◌+◌, length, take, drop, refl, ap, sym, ◌∙◌}
 use Rattle.fs_pcapng.proofs.Words.{subst, arith, IfErr, nat_le, slice_get, drop-drop, number, window, le_true, Read, scan_of, settled, Scanned, whole}
 use Rattle.fs_pcapng.proofs.Words.{Scan, Scanner, and, and_then, behind, field, gives, got, needs, partial, wrong, behind_more, behind_none, Packet}
 use Rattle.fs_pcapng.proofs.Words.{Stands, enhanced_in, fitting, octets_in, original_in, packet, timed_behind, timed_in, told_behind, told_by}
-use Rattle.fs_pcapng.proofs.Words.{told_in, told_of, told_timed, padded, time_of, NgReason, Cut, Length, RecordTooLong, Frame, Interface}
+use Rattle.fs_pcapng.proofs.Words.{told_in, told_of, told_timed, padded, stamped, NgReason, Cut, Length, RecordTooLong, Frame, Interface}
 use Rattle.fs_pcapng.specs.declared.{fault.NgReason.TheVariants.{Interface as WrongInterface}, packets.Told.{Told}}
 use Rattle.fs_base.specs.Filling.{Fills}
 use Rattle.fs_input.specs.declared.judging.Judged.{Judged, TheVariants.{Whole, Wrong, Partial}}
@@ -54,82 +54,80 @@ needed true reason spot next last other same place octets = same place octets
 needed false reason spot next last other same place octets = refl
 
 -- an enhanced packet behind what was told of it
-abbrev pub behind_told : Frame → Told → Scanner Packet NgReason
-behind_told frame told =
-    and (octets_in frame 32 told.captured) (λ octets. gives (packet told.moment told.link told.original octets))
+abbrev pub behind_told : Frame → (last : ℕ) → Told → Scanner Packet NgReason
+behind_told frame last told =
+    and (octets_in frame 32 told.captured) (λ octets. gives (packet last told.time told.link told.original octets))
 
 module _ (frame : Frame) where
-  original_is : (link moment captured place : ℕ) (octets : List ℕ)
-      → and (told_behind frame link moment captured) (behind_told frame) place octets ≡ original_in frame link moment captured place octets
-  original_is link moment captured place octets =
-      joined (field 4 (number frame.order 4)) (λ original. gives (told_of link moment captured original)) (behind_told frame) place octets
-      ∙ alike (field 4 (number frame.order 4))
-      (λ original. and (gives (told_of link moment captured original)) (behind_told frame))
-      (λ original. behind_told frame (told_of link moment captured original))
-      (λ original at rest. given (told_of link moment captured original) (behind_told frame) at rest) place octets
+  module _ (last : ℕ) where
+    original_is : (time link captured place : ℕ) (octets : List ℕ)
+        → and (told_behind frame time link captured) (behind_told frame last) place octets ≡ original_in frame last time link captured place octets
+    original_is time link captured place octets =
+        joined (field 4 (number frame.order 4)) (λ original. gives (told_of time link captured original)) (behind_told frame last) place octets
+        ∙ alike (field 4 (number frame.order 4))
+        (λ original. and (gives (told_of time link captured original)) (behind_told frame last))
+        (λ original. behind_told frame last (told_of time link captured original))
+        (λ original at rest. given (told_of time link captured original) (behind_told frame last) at rest) place octets
 
-  fitting_is : (captured spot : ℕ) (next : Scanner Told NgReason) (other : Scanner Packet NgReason)
-      → ((place : ℕ) (octets : List ℕ) → and next (behind_told frame) place octets ≡ other place octets)
-      → (place : ℕ) (octets : List ℕ)
-      → and (fitting frame 32 captured spot next) (behind_told frame) place octets ≡ fitting frame 32 captured spot other place octets
-  fitting_is captured spot next other same place octets =
-      needed (nat_le captured 262144) RecordTooLong spot
-      (needs (nat_le (32 + padded captured) frame.total) Length (frame.start + 4) next) (behind_told frame)
-      (needs (nat_le (32 + padded captured) frame.total) Length (frame.start + 4) other)
-      (needed (nat_le (32 + padded captured) frame.total) Length (frame.start + 4) next (behind_told frame) other same)
-      place octets
+    fitting_is : (captured spot : ℕ) (next : Scanner Told NgReason) (other : Scanner Packet NgReason)
+        → ((place : ℕ) (octets : List ℕ) → and next (behind_told frame last) place octets ≡ other place octets)
+        → (place : ℕ) (octets : List ℕ)
+        → and (fitting frame 32 captured spot next) (behind_told frame last) place octets ≡ fitting frame 32 captured spot other place octets
+    fitting_is captured spot next other same place octets =
+        needed (nat_le captured 262144) RecordTooLong spot
+        (needs (nat_le (32 + padded captured) frame.total) Length (frame.start + 4) next) (behind_told frame last)
+        (needs (nat_le (32 + padded captured) frame.total) Length (frame.start + 4) other)
+        (needed (nat_le (32 + padded captured) frame.total) Length (frame.start + 4) next (behind_told frame last) other same)
+        place octets
 
-  abbrev moment_of : Interface → (moment : ℕ) → List ℕ → ℕ
-  moment_of interface moment octets =
-      max moment (time_of interface.unit (number frame.order 4 octets * 4294967296 + number frame.order 4 (drop 4 octets)))
-
-  told_is : (moment : ℕ) (interface : Option Interface) (place : ℕ) (octets : List ℕ)
-      → and (told_by frame moment interface) (behind_told frame) place octets ≡ timed_in frame moment interface place octets
-  told_is moment None place octets = refl
-  told_is moment (Some interface) place octets =
-      joined (field 12 whole) (told_timed frame interface moment) (behind_told frame) place octets
-      ∙ alike (field 12 whole) (λ head. and (told_timed frame interface moment head) (behind_told frame))
-      (timed_behind frame interface moment)
-      (λ head at rest.
-      fitting_is (number frame.order 4 (drop 8 head)) (frame.start + 20)
-      (told_behind frame interface.link (moment_of interface moment head) (number frame.order 4 (drop 8 head)))
-      (original_in frame interface.link (moment_of interface moment head) (number frame.order 4 (drop 8 head)))
-      (original_is interface.link (moment_of interface moment head) (number frame.order 4 (drop 8 head))) at rest)
-      place octets
+    told_is : (interface : Option Interface) (place : ℕ) (octets : List ℕ)
+        → and (told_by frame interface) (behind_told frame last) place octets ≡ timed_in frame last interface place octets
+    told_is None place octets = refl
+    told_is (Some interface) place octets =
+        joined (field 12 whole) (told_timed frame interface) (behind_told frame last) place octets
+        ∙ alike (field 12 whole) (λ head. and (told_timed frame interface head) (behind_told frame last))
+        (timed_behind frame interface last)
+        (λ head at rest.
+        let time = stamped frame interface head in
+        let captured = number frame.order 4 (drop 8 head) in
+        fitting_is captured (frame.start + 20) (told_behind frame time interface.link captured) (original_in frame last time interface.link captured)
+        (original_is time interface.link captured) at rest)
+        place octets
 
   pub enhanced_is : (now : Stands) (place : ℕ) (octets : List ℕ)
-      → and (told_in frame now) (behind_told frame) place octets ≡ enhanced_in frame now place octets
+      → and (told_in frame now) (behind_told frame now.moment) place octets ≡ enhanced_in frame now place octets
   enhanced_is now place octets =
-      joined (field 4 (number frame.order 4)) (λ which. told_by frame now.moment (slice_get now.interfaces which)) (behind_told frame) place octets
+      joined (field 4 (number frame.order 4)) (λ which. told_by frame (slice_get now.interfaces which)) (behind_told frame now.moment) place octets
       ∙ alike (field 4 (number frame.order 4))
-      (λ which. and (told_by frame now.moment (slice_get now.interfaces which)) (behind_told frame))
+      (λ which. and (told_by frame (slice_get now.interfaces which)) (behind_told frame now.moment))
       (λ which. timed_in frame now.moment (slice_get now.interfaces which))
       (λ which. told_is now.moment (slice_get now.interfaces which)) place octets
 
   -- it has twenty octets
-  by_fixed : (moment : ℕ) (interface : Option Interface) → IsFixed 16 (told_by frame moment interface)
-  by_fixed moment None = fails_fixed 16 WrongInterface (frame.start + 8)
-  by_fixed moment (Some interface) =
-      and_fixed 12 4 (field 12 whole) (told_timed frame interface moment) (field_fixed 12 whole)
+  by_fixed : (interface : Option Interface) → IsFixed 16 (told_by frame interface)
+  by_fixed None = fails_fixed 16 WrongInterface (frame.start + 8)
+  by_fixed (Some interface) =
+      and_fixed 12 4 (field 12 whole) (told_timed frame interface) (field_fixed 12 whole)
       (λ head.
       let captured = number frame.order 4 (drop 8 head) in
-      let next = told_behind frame interface.link (moment_of interface moment head) captured in
+      let time = stamped frame interface head in
+      let next = told_behind frame time interface.link captured in
       let last : IsFixed 4 next =
-      and_fixed 4 0 (field 4 (number frame.order 4)) (λ original. gives (told_of interface.link (moment_of interface moment head) captured original))
-      (field_fixed 4 (number frame.order 4)) (λ original. gives_fixed (told_of interface.link (moment_of interface moment head) captured original)) in
+      and_fixed 4 0 (field 4 (number frame.order 4)) (λ original. gives (told_of time interface.link captured original))
+      (field_fixed 4 (number frame.order 4)) (λ original. gives_fixed (told_of time interface.link captured original)) in
       needs_fixed 4 (nat_le captured 262144) RecordTooLong (frame.start + 20)
       (needs (nat_le (32 + padded captured) frame.total) Length (frame.start + 4) next)
       (needs_fixed 4 (nat_le (32 + padded captured) frame.total) Length (frame.start + 4) next last))
 
   pub told_fixed : (now : Stands) → IsFixed 20 (told_in frame now)
   told_fixed now =
-      and_fixed 4 16 (field 4 (number frame.order 4)) (λ which. told_by frame now.moment (slice_get now.interfaces which))
-      (field_fixed 4 (number frame.order 4)) (λ which. by_fixed now.moment (slice_get now.interfaces which))
+      and_fixed 4 16 (field 4 (number frame.order 4)) (λ which. told_by frame (slice_get now.interfaces which))
+      (field_fixed 4 (number frame.order 4)) (λ which. by_fixed (slice_get now.interfaces which))
 
 -- what is said of the octets in hand
 -- the first of them, which interface it is, and what stands behind it
 pub which_said : (frame : Frame) (now : Stands) (octets : List ℕ) (scan : Scan Told NgReason) → 4 ≤ length octets
-    → scan ≡ told_by frame now.moment (slice_get now.interfaces (number frame.order 4 (take 4 octets))) (frame.start + 8 + 4) (drop 4 octets)
+    → scan ≡ told_by frame (slice_get now.interfaces (number frame.order 4 (take 4 octets))) (frame.start + 8 + 4) (drop 4 octets)
     → behind 4 scan ≡ told_in frame now (frame.start + 8) octets
 which_said frame now octets scan held h = rw (le_true 4 (length octets) held) (ap (behind 4) h)
 

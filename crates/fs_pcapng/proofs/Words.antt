@@ -1,7 +1,7 @@
 -- The words of the crates below, and of the specs, that lemmas here speak of.
 pub use Rattle.byteorder.specs.Endian.{big_number}
 pub use Rattle.std.proofs.Common.{Bool, Err, IsTrue, List, None, Ok, Option, Result, Some, [], ap, append-nil, append_assoc, arith, drop, false, inl}
-pub use Rattle.std.proofs.Common.{inr, length, length-append, max, not, refl, rules, subst, suc, sym, take, true, zero, ℕ, ◌%◌, ◌&&◌, ◌*◌, ◌++◌, ◌+◌}
+pub use Rattle.std.proofs.Common.{inr, length, length-append, not, refl, rules, subst, suc, sym, take, true, zero, ℕ, ◌%◌, ◌&&◌, ◌*◌, ◌++◌, ◌+◌}
 pub use Rattle.std.proofs.Common.{◌-◌, ◌<◌, ◌==◌, ◌↔◌, ◌∙◌, ◌∷◌, ◌≡◌, ◌≢◌, ◌≤◌}
 pub use Rattle.std.proofs.lemmas.{Bool.Decides.{nat_tests}, List.{drop-drop, drop-take, drop_at, length-drop, length-take, take-take, take_all}}
 pub use Rattle.std.specs.{List.{AllByRecursion}, Prelude.{IfErr, flat_map, if◌then◌else◌, nat_le, nat_lt, slice_get, slice_index, unwrap_or}}
@@ -22,7 +22,7 @@ pub use Rattle.fs_pcap.specs.{Head.{longest_record}, Order.{number}, declared.or
 pub use Rattle.fs_pcapng.specs.Block.{Packet, Stands, allows, behind_packet, block_in, body_in, close_in, cut_to, described_behind, described_in}
 pub use Rattle.fs_pcapng.specs.Block.{end_in, enhanced_in, fitting, frame_of, kind_behind, kind_of, least_of, magic_behind, octets_in, opened}
 pub use Rattle.fs_pcapng.specs.Block.{order_of, ordered_in, original_in, packet, plain_in, section_header, section_in, simple_behind, simple_by}
-pub use Rattle.fs_pcapng.specs.Block.{simple_in, timed_behind, timed_in, total_behind, version_in, with_interface}
+pub use Rattle.fs_pcapng.specs.Block.{simple_in, stamped, timed_behind, timed_in, total_behind, version_in, with_interface}
 pub use Rattle.fs_pcapng.specs.Options.{cursor, option_behind, option_in, options_in, padded, sized_in, unit_in, value_in}
 pub use Rattle.fs_pcapng.specs.Packets.{told_behind, told_by, told_in, told_of, told_timed}
 pub use Rattle.fs_pcapng.specs.{Pcapng.{nothing, packets_to_come, pcapng_of, seen_from}, Time.{time_of}}

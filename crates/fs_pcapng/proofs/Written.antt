@@ -1,20 +1,20 @@
 -- Blocks as they stand in a capture: what was written is read, and no other octets are.
 use Rattle.fs_pcapng.proofs.Words.{◌≡◌, ℕ, zero, suc, List, [], ◌∷◌, ◌++◌, Option, Some, None, Bool, true, false, ◌<◌, ◌≤◌, ◌+◌, ◌-◌, ◌*◌, ◌%◌, ◌==◌}
-use Rattle.fs_pcapng.proofs.Words.{◌&&◌, not, max, length, drop, refl, ap, sym, subst, ◌∙◌, ◌↔◌, arith, append-nil, append_assoc, length-append}
+use Rattle.fs_pcapng.proofs.Words.{◌&&◌, not, length, drop, refl, ap, sym, subst, ◌∙◌, ◌↔◌, arith, append-nil, append_assoc, length-append}
 use Rattle.fs_pcapng.proofs.Words.{if◌then◌else◌, flat_map, nat_le, nat_lt, slice_get, slice_index, AllByRecursion, drop_at, length-take, nat_tests}
 use Rattle.fs_pcapng.proofs.Words.{big_number, at_limit, window, longest_record, number, Endian, End, bad, done, IsTextOf, whole, Scanner, and, field}
 use Rattle.fs_pcapng.proofs.Words.{gives, needs, skips, and_reads, field_reads, gives_reads, map_reads, needs_reads, skips_reads, told_text, Packet}
 use Rattle.fs_pcapng.proofs.Words.{Stands, allows, behind_packet, block_in, body_in, close_in, cut_to, described_behind, described_in, end_in}
 use Rattle.fs_pcapng.proofs.Words.{enhanced_in, fitting, frame_of, kind_behind, kind_of, least_of, magic_behind, octets_in, opened, order_of}
 use Rattle.fs_pcapng.proofs.Words.{ordered_in, original_in, packet, plain_in, section_header, section_in, simple_behind, simple_by, simple_in}
-use Rattle.fs_pcapng.proofs.Words.{timed_behind, timed_in, total_behind, version_in, with_interface, cursor, option_behind, option_in, options_in}
+use Rattle.fs_pcapng.proofs.Words.{stamped, timed_behind, timed_in, total_behind, version_in, with_interface, cursor, option_behind, option_in, options_in}
 use Rattle.fs_pcapng.proofs.Words.{padded, sized_in, value_in, nothing, packets_to_come, time_of, Block, Choice, Description, Fits, IsBlock, IsChoice}
 use Rattle.fs_pcapng.proofs.Words.{IsDescription, IsFramed, IsPlain, IsRecord, IsSection, IsShort, Outer, Record, Section, Short, Written}
 use Rattle.fs_pcapng.proofs.Words.{block_gives, block_text, body_text, choice_text, described, enhanced, gives_by, interface_of, packet_of, section}
 use Rattle.fs_pcapng.proofs.Words.{short_of, simple, skipped, unit_behind, unit_of, Kind, Described, Enhanced, Simple, Other, NgReason, Cut, Length}
 use Rattle.fs_pcapng.proofs.Words.{RecordTooLong, TooMany, Version, Frame, Cursor, Interface}
 use Rattle.fs_pcapng.proofs.Spelled.{block_takes, Closing, block_spells, choice_size, is_one, joined, number_first, second_is, snap_is, third_is}
-use Rattle.fs_pcapng.proofs.Spelled.{timed_moment, value_reads}
+use Rattle.fs_pcapng.proofs.Spelled.{value_reads}
 use Rattle.fs_pcapng.specs.Laws.{ReadsBack}
 use Rattle.fs_input.proofs.Spelling.{Reads}
 
@@ -126,8 +126,8 @@ module _ (order : Endian) (now : Stands) (start total : ℕ) (again : List ℕ) 
   record_read interface r is size =
       let head = r.high ++ (r.low ++ r.captured) in
       let captured = number order 4 (drop 8 head) in
-      let moment = timed_moment order now start total interface head in
-      let found = packet moment interface.link (number order 4 r.original) r.octets in
+      let time = stamped within interface head in
+      let found = packet now.moment time interface.link (number order 4 r.original) r.octets in
       let octets = r.octets ++ (r.rest ++ again) in
       let head_size : length head ≡ 12 =
       omega (arith, length-append r.high (r.low ++ r.captured), length-append r.low r.captured, is.high, is.low, is.captured) in
@@ -135,7 +135,7 @@ module _ (order : Endian) (now : Stands) (start total : ℕ) (again : List ℕ) 
       let high : number order 4 head ≡ number order 4 r.high = number_first order 4 r.high (r.low ++ r.captured) is.high in
       let low : number order 4 (drop 4 head) ≡ number order 4 r.low = second_is order now start total r.high r.low r.captured is.high is.low in
       let same : found ≡ packet_of order now.moment interface r =
-      λ i. packet (max now.moment (time_of interface.unit (high i * 4294967296 + low i))) interface.link (number order 4 r.original) r.octets in
+      λ i. packet now.moment (time_of interface.unit (high i * 4294967296 + low i)) interface.link (number order 4 r.original) r.octets in
       let long : length r.octets ≡ captured = is.holds.captured_is ∙ sym captured_is in
       let most : captured ≤ longest_record = subst (λ k. k ≤ longest_record) (sym captured_is) is.holds.most in
       let padding : padded captured ≤ captured + length r.rest = subst (λ k. padded k ≤ k + length r.rest) (sym captured_is) is.holds.padding in
@@ -162,11 +162,12 @@ module _ (order : Endian) (now : Stands) (start total : ℕ) (again : List ℕ) 
       (field_reads 4 (number order 4) r.which is.which)
       (subst (λ (o : Option Interface). Reads (timed_in within now.moment o) (head ++ (r.original ++ octets)) found) (sym is.interface_is)
       (and_reads (field 12 whole) (timed_behind within interface now.moment) head (r.original ++ octets) head found (field_reads 12 whole head head_size)
-      (fitting_read 32 captured (start + 20) (original_in within interface.link moment captured) (r.original ++ octets) found most (omega (arith, sum, padding))
+      (fitting_read 32 captured (start + 20) (original_in within now.moment time interface.link captured) (r.original ++ octets) found most
+      (omega (arith, sum, padding))
       (and_reads (field 4 (number order 4))
-      (λ original. and (octets_in within 32 captured) (λ found. gives (packet moment interface.link original found))) r.original octets
+      (λ original. and (octets_in within 32 captured) (λ found. gives (packet now.moment time interface.link original found))) r.original octets
       (number order 4 r.original) found (field_reads 4 (number order 4) r.original is.original)
-      (map_reads (octets_in within 32 captured) (λ found. packet moment interface.link (number order 4 r.original) found) octets r.octets
+      (map_reads (octets_in within 32 captured) (λ found. packet now.moment time interface.link (number order 4 r.original) found) octets r.octets
       (octets_read 32 captured r.octets r.rest long (omega (arith, sum)))))))))))
 
   short_read : (interface : Interface) (s : Short) → IsShort order now interface s → total ≡ 12 + length (body_text (simple interface s))
@@ -187,10 +188,10 @@ module _ (order : Endian) (now : Stands) (start total : ℕ) (again : List ℕ) 
       (subst (λ (o : Option Interface). Reads (simple_by within now.moment o) (s.original ++ octets) found) (sym is.interface_is)
       (and_reads (field 4 (number order 4)) (simple_behind within interface now.moment) s.original octets original found
       (field_reads 4 (number order 4) s.original is.original)
-      (fitting_read 16 captured (start + 8) (and (octets_in within 16 captured) (λ octets. gives (packet now.moment interface.link original octets)))
+      (fitting_read 16 captured (start + 8) (and (octets_in within 16 captured) (λ octets. gives (packet now.moment 0 interface.link original octets)))
       octets found is.holds.most
       (omega (arith, sum, padding))
-      (map_reads (octets_in within 16 captured) (λ octets. packet now.moment interface.link original octets) octets s.octets
+      (map_reads (octets_in within 16 captured) (λ octets. packet now.moment 0 interface.link original octets) octets s.octets
       (octets_read 16 captured s.octets s.rest long (omega (arith, sum))))))))
 
   skipped_read : (octets : List ℕ) → total ≡ 12 + length octets → Reads (body_in within now Other) (octets ++ again) (None, now)

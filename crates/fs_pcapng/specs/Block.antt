@@ -22,9 +22,10 @@ pub record Stands : Type 0 where
   pub interfaces : List Interface
   pub moment : ℕ
 
--- A packet. Its moment, in nanoseconds since the start of 1970, is the greatest time of the packets up to and with its
--- own; its link type is known where it is one of the six that are read.
+-- A packet. Its time is in nanoseconds since the start of 1970, and its moment is the greatest time of the packets up to
+-- and with its own; its link type is known where it is one of the six that are read.
 pub record Packet : Type 0 where
+  pub time : ℕ
   pub moment : ℕ
   pub link : Option Link
   pub original : ℕ
@@ -91,21 +92,26 @@ fitting frame fixed captured place next =
     needs (nat_le captured longest_record) RecordTooLong place
     (needs (nat_le (fixed + padded captured) frame.total) Length (frame.start + 4) next)
 
-abbrev pub packet : (moment link original : ℕ) → List ℕ → Packet
-packet moment link original octets = record { moment = moment; link = link_of link; original = original; octets = octets }
+-- a packet of this time, behind one of the moment `last`
+abbrev pub packet : (last time link original : ℕ) → List ℕ → Packet
+packet last time link original octets =
+    record { time = time; moment = max last time; link = link_of link; original = original; octets = octets }
 
-abbrev pub original_in : Frame → (link moment captured : ℕ) → Scanner Packet NgReason
-original_in frame link moment captured =
+abbrev pub original_in : Frame → (last time link captured : ℕ) → Scanner Packet NgReason
+original_in frame last time link captured =
     and (field 4 (number frame.order 4))
-    (λ original. and (octets_in frame 32 captured) (λ octets. gives (packet moment link original octets)))
+    (λ original. and (octets_in frame 32 captured) (λ octets. gives (packet last time link original octets)))
 
--- the time, of which the high half stands first, and the captured length
+-- the time of which these are the octets: the high half stands first
+abbrev pub stamped : Frame → Interface → List ℕ → ℕ
+stamped frame interface octets =
+    time_of interface.unit (number frame.order 4 octets * 4294967296 + number frame.order 4 (drop 4 octets))
+
+-- the time, and the captured length
 abbrev pub timed_behind : Frame → Interface → (moment : ℕ) → List ℕ → Scanner Packet NgReason
 timed_behind frame interface moment octets =
     fitting frame 32 (number frame.order 4 (drop 8 octets)) (frame.start + 20)
-    (original_in frame interface.link
-    (max moment (time_of interface.unit (number frame.order 4 octets * 4294967296 + number frame.order 4 (drop 4 octets))))
-    (number frame.order 4 (drop 8 octets)))
+    (original_in frame moment (stamped frame interface octets) interface.link (number frame.order 4 (drop 8 octets)))
 
 abbrev pub timed_in : Frame → (moment : ℕ) → Option Interface → Scanner Packet NgReason
 timed_in frame moment None = fails WrongInterface (frame.start + 8)
@@ -122,13 +128,13 @@ cut_to snap original = if snap == 0 then original else min original snap
 abbrev pub simple_behind : Frame → Interface → (moment original : ℕ) → Scanner Packet NgReason
 simple_behind frame interface moment original =
     fitting frame 16 (cut_to interface.snap original) (frame.start + 8)
-    (and (octets_in frame 16 (cut_to interface.snap original)) (λ octets. gives (packet moment interface.link original octets)))
+    (and (octets_in frame 16 (cut_to interface.snap original)) (λ octets. gives (packet moment 0 interface.link original octets)))
 
 abbrev pub simple_by : Frame → (moment : ℕ) → Option Interface → Scanner Packet NgReason
 simple_by frame moment None = fails WrongInterface frame.start
 simple_by frame moment (Some interface) = and (field 4 (number frame.order 4)) (simple_behind frame interface moment)
 
--- a simple packet, which is of the first interface and has no time
+-- a simple packet, which is of the first interface, and of which the time is 0
 abbrev pub simple_in : Frame → Stands → Scanner Packet NgReason
 simple_in frame now = simple_by frame now.moment (slice_get now.interfaces 0)
 

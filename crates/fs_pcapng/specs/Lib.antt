@@ -3,7 +3,6 @@ pub mod Options
 pub mod Block
 pub mod Packets
 pub mod Pcapng
-pub mod Own
 pub mod Written
 pub mod Laws
 pub mod Fault

@@ -40,6 +40,7 @@ coming capture left = packets_to_come capture.limit capture.place capture.contex
 -- a packet as the answer tells it; its octets stand at the front of the buffer
 abbrev pub packet_from : Option Link → NgCaught → List ℕ → Packet
 packet_from link caught into = record {
+  time = caught.time;
   moment = caught.moment;
   link = link;
   original = caught.original;

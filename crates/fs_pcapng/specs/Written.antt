@@ -1,7 +1,7 @@
 -- A block as it stands in a capture, field by field (the pcapng draft's sections 'General Block Structure', 'Section
 -- Header Block', 'Interface Description Block', 'Options', 'Enhanced Packet Block' and 'Simple Packet Block'), and what it
 -- gives.
-use Rattle.std.specs.Prelude.{ℕ, List, [], ◌∷◌, ◌++◌, Option, Some, None, false, ◌≡◌, ◌≤◌, ◌<◌, ◌+◌, ◌*◌, ◌%◌, ◌==◌, ◌&&◌, length, max, flat_map}
+use Rattle.std.specs.Prelude.{ℕ, List, [], ◌∷◌, ◌++◌, Option, Some, None, false, ◌≡◌, ◌≤◌, ◌<◌, ◌+◌, ◌*◌, ◌%◌, ◌==◌, ◌&&◌, length, flat_map}
 use Rattle.std.specs.Prelude.{slice_get, slice_index, if◌then◌else◌}
 use Rattle.std.specs.List.{AllByRecursion}
 use Rattle.byteorder.specs.Endian.{big_number}
@@ -162,11 +162,11 @@ interface_of order d = record { link = number order 2 d.link; snap = number orde
 -- the packet of an enhanced block, and of a simple one, behind a packet of this moment
 abbrev pub packet_of : Endian → (moment : ℕ) → Interface → Record → Packet
 packet_of order moment interface r =
-    packet (max moment (time_of interface.unit (number order 4 r.high * 4294967296 + number order 4 r.low))) interface.link
+    packet moment (time_of interface.unit (number order 4 r.high * 4294967296 + number order 4 r.low)) interface.link
     (number order 4 r.original) r.octets
 
 abbrev pub short_of : Endian → (moment : ℕ) → Interface → Short → Packet
-short_of order moment interface s = packet moment interface.link (number order 4 s.original) s.octets
+short_of order moment interface s = packet moment 0 interface.link (number order 4 s.original) s.octets
 
 -- the packet that a block gives, and where the capture stands behind it
 abbrev pub gives_by : Endian → Stands → Block → Option Packet × Stands

@@ -13,11 +13,9 @@ mod options;
 mod packets;
 mod section;
 mod time;
-mod timed;
 
 pub use block::SECTION_HEADER;
 pub use capture::Ng;
 pub use caught::NgCaught;
 pub use fault::{NgFault, NgReason};
 pub use laws::reads_back;
-pub use timed::NgTimed;

@@ -19,12 +19,12 @@ use fs_pcap::LONGEST_RECORD;
 /// The longest packet that is taken.
 const LONGEST_PACKET: u32 = LONGEST_RECORD as u32;
 
-/// What a packet's block tells before its octets: the link type's number, the moment, how many octets were captured,
-/// and how many the packet had.
+/// What a packet's block tells before its octets: the packet's time, the link type's number, how many octets were
+/// captured, and how many the packet had.
 #[derive(Clone, Copy, Debug, PartialEq, Eq, Drop)]
 pub(crate) struct Told {
+    pub(crate) time: u64,
     pub(crate) link: u16,
-    pub(crate) moment: u64,
     pub(crate) captured: u32,
     pub(crate) original: u32,
 }
@@ -105,15 +105,22 @@ fn take_captured<F: Files>(
     Ok(())
 }
 
-fn seen(told: Told) -> Seen
+/// The packet of which this was told, behind one of the moment `last`.
+fn seen(last: u64, told: Told) -> Seen
     ensures { result ≡ record {
-      caught = record { moment = told.moment; taken = told.captured; original = told.original };
+      caught = record {
+        time = told.time;
+        moment = max last told.time;
+        taken = told.captured;
+        original = told.original;
+      };
       link = link_of told.link;
     } }
 {
     Seen {
         caught: NgCaught {
-            moment: told.moment,
+            time: told.time,
+            moment: last.max(told.time),
             taken: told.captured as usize,
             original: told.original,
         },
@@ -122,17 +129,11 @@ fn seen(told: Told) -> Seen
 }
 
 /// Judges the octets in hand of the 16 behind the number of an enhanced packet's interface, which stands at `at`.
-fn judge_timed(
-    frame: Frame,
-    interface: Interface,
-    moment: u64,
-    at: u64,
-    octets: &[u8],
-) -> Judged<Told, NgReason>
+fn judge_timed(frame: Frame, interface: Interface, at: u64, octets: &[u8]) -> Judged<Told, NgReason>
     requires place { at ≡ frame.start + 8 }
     requires within { at + 4 + length octets.now ≤ 18446744073709551615 }
-    ensures fits { Suits frame moment 16 (length octets.now) result }
-    ensures said { scan_of 16 result ≡ told_by frame moment (Some interface) (at + 4) octets.now }
+    ensures fits { Suits frame 16 (length octets.now) result }
+    ensures said { scan_of 16 result ≡ told_by frame (Some interface) (at + 4) octets.now }
 {
     if octets.len() < 12 {
         return Judged::Partial;
@@ -156,10 +157,9 @@ fn judge_timed(
     }
     let high = frame.order.read_u32(head);
     let low = frame.order.read_u32(&head[4..]);
-    let time = time_of(interface.unit, high as u64 * 4294967296 + low as u64);
     Judged::Whole(Told {
+        time: time_of(interface.unit, high as u64 * 4294967296 + low as u64),
         link: interface.link,
-        moment: moment.max(time),
         captured,
         original: frame.order.read_u32(&octets[12..16]),
     })
@@ -169,7 +169,7 @@ fn judge_timed(
 /// input were `taken`.
 fn judge_told(frame: Frame, section: &Section, taken: u64, octets: &[u8]) -> Judged<Told, NgReason>
     requires place { taken ≡ frame.start + 8 + length octets.now }
-    ensures fits { Suits frame section.now.moment 20 (length octets.now) result }
+    ensures fits { Suits frame 20 (length octets.now) result }
     ensures said { scan_of 20 result ≡ told_in frame section.now (frame.start + 8) octets.now }
 {
     if octets.len() < 4 {
@@ -177,7 +177,7 @@ fn judge_told(frame: Frame, section: &Section, taken: u64, octets: &[u8]) -> Jud
     }
     let at = taken - octets.len() as u64;
     match section.interface(frame.order.read_u32(&octets[..4])) {
-        Some(interface) => judge_timed(frame, interface, section.moment(), at, &octets[4..]),
+        Some(interface) => judge_timed(frame, interface, at, &octets[4..]),
         None => Judged::Wrong {
             reason: NgReason::Interface,
             place: at,
@@ -198,7 +198,6 @@ fn take_told<F: Files>(
     ensures taken { IfOk result (λ _. counted.new.taken ≡ frame.start + 28) }
     ensures size { IfOk result (λ told. told.captured ≤ longest_record) }
     ensures long { IfOk result (λ told. 32 + told.captured ≤ frame.total) }
-    ensures rises { IfOk result (λ told. section.now.moment ≤ told.moment) }
     ensures reads { Scans F.Files files.old files.new (told_in frame section.now) Cut counted.old counted.new
         (λ told. told) result }
 {
@@ -234,7 +233,7 @@ pub(crate) fn take_enhanced<F: Files>(
         Err(fault) => return Err(fault),
     };
     match take_captured(frame, 32, told.captured, counted, files, into) {
-        Ok(()) => Ok(seen(told)),
+        Ok(()) => Ok(seen(section.moment(), told)),
         Err(fault) => Err(fault),
     }
 }
@@ -280,8 +279,8 @@ pub(crate) fn take_simple<F: Files>(
         Err(fault) => return Err(fault),
     };
     let told = Told {
+        time: 0,
         link: interface.link,
-        moment: section.moment(),
         captured: cut_to(interface.snap, original),
         original,
     };
@@ -298,7 +297,7 @@ pub(crate) fn take_simple<F: Files>(
         });
     }
     match take_captured(frame, 16, told.captured, counted, files, into) {
-        Ok(()) => Ok(seen(told)),
+        Ok(()) => Ok(seen(section.moment(), told)),
         Err(fault) => Err(fault),
     }
 }

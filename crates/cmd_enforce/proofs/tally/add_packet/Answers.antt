@@ -1,6 +1,6 @@
 use Rattle.cmd_enforce.proofs.{Words.{rules, ◌≡◌, ◌∙◌, ◌++◌, ◌∷◌, [], Some, None}, Surveying.{place_none, place_some}}
 use Rattle.std.specs.Prelude.{slice_index_or}
-use Rattle.cmd_enforce.specs.{Stamps.{link_place}, Survey.{link_count}}
+use Rattle.cmd_enforce.specs.Survey.{link_count, link_place}
 use Rattle.cmd_enforce.proofs.tally.add_packet.Goals as goal
 
 pub returns-in-Some : goal.returns-in-Some

@@ -15,7 +15,7 @@ returns-in-Some-clause-said c =
     sym c.in-Some.is ∙ c.interface.ensures ∙ ap (slice_get now.interfaces) c.read_u32.ensures in
     four_more c.judge_timed.result
     ∙ which_said frame now octets (scan_of 16 c.judge_timed.result) held
-    (c.judge_timed.ensures.said ∙ (λ i. told_by frame (c.moment.ensures i) (found i) (spot i) (rest i)))
+    (c.judge_timed.ensures.said ∙ (λ i. told_by frame (found i) (spot i) (rest i)))
 
 pub returns-in-None-clause-said : goal.returns-in-None-clause-said
 returns-in-None-clause-said c =
@@ -24,4 +24,4 @@ returns-in-None-clause-said c =
     let spot : c.args.taken - length octets ≡ c.args.frame.start + 8 = omega (arith, c.requires.place) in
     let none = sym c.in-None.is ∙ c.interface.ensures ∙ ap (slice_get now.interfaces) c.read_u32.ensures in
     which_said c.args.frame now octets (wrong WrongInterface (c.args.taken - length octets)) (omega (arith, c.if-octets-lt4.false))
-    (ap (wrong WrongInterface) spot ∙ (λ i. told_by c.args.frame now.moment (none i) (c.args.frame.start + 8 + 4) (drop 4 octets)))
+    (ap (wrong WrongInterface) spot ∙ (λ i. told_by c.args.frame (none i) (c.args.frame.start + 8 + 4) (drop 4 octets)))

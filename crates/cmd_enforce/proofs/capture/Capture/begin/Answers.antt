@@ -1,4 +1,4 @@
-use Rattle.cmd_enforce.proofs.{Words.{rules, arith, ◌≤◌, length, sym, ap, ◌∙◌, length-drop, length-take, CaptureState, coming}, Opened.{begins_as}}
+use Rattle.cmd_enforce.proofs.{Words.{rules, arith, ◌≤◌, length, sym, ap, ◌∙◌, length-drop, length-take}, Opened.{begins_as}}
 use Rattle.cmd_enforce.proofs.capture.Capture.begin.Goals as goal
 
 pub put_back-requires-clause-few : goal.put_back-requires-clause-few
@@ -15,9 +15,14 @@ put_back-requires-clause-few g c =
 
 pub returns-clause-begins : goal.returns-clause-begins
 returns-clause-begins g c = λ told.
-    begins_as c.args.counted.limit c.put_back.new.self.limit c.args.counted.taken c.args.counted.slot c.put_back.new.self.slot
-    (g.F.Files.left c.args.files.now) (g.F.Files.left c.fill.new.files) c.args.counted.back c.fill.new.counted.back c.put_back.new.self.back
-    c.fill.new.into c.in-Ok.count c.is_section.result
-    (λ slot (capture : CaptureState). coming capture (g.F.Files.left c.open.new.files slot)) c.open.result
-    (c.put_back.ensures.limit ∙ c.in-Ok.ensures.passes.limit) (c.put_back.ensures.slot ∙ c.in-Ok.ensures.passes.slot) c.requires.start
-    (c.in-Ok.ensures.filled told) (search rules) c.put_back.ensures.back (sym c.is_section.ensures) (c.open.ensures.begins told)
+    begins_as c.args.counted c.fill.new.counted c.put_back.new.self (g.F.Files.left c.args.files.now) (g.F.Files.left c.fill.new.files)
+    (record {
+      limit = c.put_back.ensures.limit ∙ c.in-Ok.ensures.passes.limit;
+      slot = c.put_back.ensures.slot ∙ c.in-Ok.ensures.passes.slot;
+      start = c.requires.start;
+      filled = c.in-Ok.ensures.filled told;
+      four = search rules;
+      back = c.put_back.ensures.back;
+      section = sym c.is_section.ensures;
+    })
+    (g.F.Files.left c.open.new.files) c.open.result (c.open.ensures.begins told)
