@@ -1,6 +1,6 @@
 -- The first octets of a part, of which some were put back.
 use Rattle.fs_input.proofs.Words.{◌≡◌, ◌≢◌, ℕ, List, [], ◌++◌, Bool, true, false, Result, ◌<◌, ◌≤◌, ◌+◌, ◌==◌, ◌&&◌, not, length, refl, ap, sym, ◌∙◌}
-use Rattle.fs_input.proofs.Words.{subst, arith, if◌then◌else◌, nat_tests, Fills, window, Counted, draws_ahead, short_fault, Fault, Calls, Fails}
+use Rattle.fs_input.proofs.Words.{subst, arith, if◌then◌else◌, nat_tests, Fills, window, Counted, draws_ahead, short_fault, Fault, Calls, Fails, Moment, again}
 use Rattle.fs_input.proofs.Words.{HasMore, IsOver, Passes, PassesOn, Reads, Took, ahead, ends_by, whole, Scanner, field}
 use Rattle.fs_input.proofs.{CutShort.{field_fails, more_is, over_is}, Taking.{field_took}}
 use Rattle.std.specs.Prelude.{Option}
@@ -26,25 +26,22 @@ ahead_none counted left slot none = by (slot == counted.slot)
 pub nothing_ahead : (counted : Counted) (left : ℕ → List ℕ) → counted.back ≡ [] → ahead counted left ≡ left
 nothing_ahead counted left none = λ i slot. ahead_none counted left slot none i
 
--- a call, where what was left is told in another way
-pub reads_over : {T A R : Type 0} {scanner : Scanner A R} {cut : R} {tells : T → A} {told : Bool} {calls calls' : Calls}
-    {left left' other other' : ℕ → List ℕ} {holds holds' : List ℕ → Option (List ℕ)} {old new : Counted} {result : Result T (Fault R)}
-    → left ≡ other → left' ≡ other'
-    → Reads told calls calls' left left' holds holds' scanner cut old new tells result
-    → Reads told calls calls' other other' holds holds' scanner cut old new tells result
-reads_over {scanner = scanner} {cut = cut} {tells = tells} {told = told} {calls = calls} {calls' = calls'} {left' = left'} {other = other}
-    {holds = holds} {holds' = holds'} {old = old} {new = new} {result = result} first last h =
-    subst (λ l. Reads told calls calls' other l holds holds' scanner cut old new tells result) last
-    (subst (λ l. Reads told calls calls' l left' holds holds' scanner cut old new tells result) first h)
+-- a moment at which nothing is put back
+again_none : (now : Moment) → now.counted.back ≡ [] → again now ≡ now
+again_none now none = λ i. record { calls = now.calls; left = nothing_ahead now.counted now.left none i; holds = now.holds; counted = now.counted }
 
 -- a call behind which nothing is put back, as before it
-pub reads_ahead : {T A R : Type 0} {scanner : Scanner A R} {cut : R} {tells : T → A} {told : Bool} {calls calls' : Calls}
-    {left left' : ℕ → List ℕ} {holds holds' : List ℕ → Option (List ℕ)} {old new : Counted} {result : Result T (Fault R)}
-    → old.back ≡ [] → new.back ≡ []
-    → Reads told calls calls' left left' holds holds' scanner cut old new tells result
-    → Reads told calls calls' (ahead old left) (ahead new left') holds holds' scanner cut old new tells result
-reads_ahead {left = left} {left' = left'} {old = old} {new = new} none later h =
-    reads_over (sym (nothing_ahead old left none)) (sym (nothing_ahead new left' later)) h
+module _ {T A R : Type 0} {scanner : Scanner A R} {cut : R} {tells : T → A} {told : Bool} {result : Result T (Fault R)} (old new : Moment)
+    (none : old.counted.back ≡ []) (later : new.counted.back ≡ []) where
+  pub reads_ahead : Reads told old new scanner cut tells result → Reads told (again old) (again new) scanner cut tells result
+  reads_ahead h =
+      subst (λ n. Reads told (again old) n scanner cut tells result) (sym (again_none new later))
+      (subst (λ o. Reads told o new scanner cut tells result) (sym (again_none old none)) h)
+
+  pub reads_straight : Reads told (again old) (again new) scanner cut tells result → Reads told old new scanner cut tells result
+  reads_straight h =
+      subst (λ n. Reads told old n scanner cut tells result) (again_none new later)
+      (subst (λ o. Reads told o (again new) scanner cut tells result) (again_none old none) h)
 
 module _ (old new : Counted) (left left' : ℕ → List ℕ) (same : new.slot ≡ old.slot) where
   again_others : ((other : ℕ) → other ≢ old.slot → left' other ≡ left other) → (other : ℕ) → other ≢ old.slot
@@ -53,15 +50,15 @@ module _ (old new : Counted) (left left' : ℕ → List ℕ) (same : new.slot �
       ahead_other new left' other (λ e. apart (e ∙ same)) ∙ kept other apart ∙ sym (ahead_other old left other apart)
 
   -- what holds of the octets that were put back and of those that the slot has left
-  again : (P : List ℕ → List ℕ → Type 0) → P (old.back ++ left old.slot) (new.back ++ left' old.slot)
+  of_ahead : (P : List ℕ → List ℕ → Type 0) → P (old.back ++ left old.slot) (new.back ++ left' old.slot)
       → P (ahead old left old.slot) (ahead new left' old.slot)
-  again P h =
+  of_ahead P h =
       subst (λ before. P before (ahead new left' old.slot)) (sym (ahead_here old left))
       (subst (λ later. P (old.back ++ left old.slot) later) (sym (ahead_at new left' old.slot (sym same))) h)
 
   again_passed : Draws old new (left old.slot) (left' old.slot)
       → Passed old.limit old.taken new.taken (ahead old left old.slot) (ahead new left' old.slot)
-  again_passed h = again (λ before later. Passed old.limit old.taken new.taken before later) (draws_ahead old new (left old.slot) (left' old.slot) h)
+  again_passed h = of_ahead (λ before later. Passed old.limit old.taken new.taken before later) (draws_ahead old new (left old.slot) (left' old.slot) h)
 
   module _ (into : List ℕ) (count : ℕ)
       (filled : Fills (window old.limit old.taken (old.back ++ left old.slot)) (old.back ++ left old.slot) (new.back ++ left' old.slot) into count) where
@@ -69,7 +66,7 @@ module _ (old new : Counted) (left left' : ℕ → List ℕ) (same : new.slot �
         → Took (field {A = List ℕ} {R = R} (length into) whole old.taken (window old.limit old.taken (ahead old left old.slot)))
         (length (window old.limit old.taken (ahead old left old.slot))) old.taken new.taken (ahead old left old.slot) (ahead new left' old.slot) into
     again_took {R} all now =
-        again
+        of_ahead
         (λ before later. Took (field {A = List ℕ} {R = R} (length into) whole old.taken (window old.limit old.taken before))
         (length (window old.limit old.taken before)) old.taken new.taken before later into)
         (field_took old.limit old.taken new.taken (old.back ++ left old.slot) (new.back ++ left' old.slot) into count filled all now)
@@ -80,7 +77,7 @@ module _ (old new : Counted) (left left' : ℕ → List ℕ) (same : new.slot �
           → Fails (ends_by (field {A = List ℕ} {R = R} (length into) whole) cut old.limit old.taken (ahead old left old.slot))
           (short_fault cut new.taken new.limit)
       again_fails {R} cut =
-          again
+          of_ahead
           (λ before later. Fails (ends_by (field {A = List ℕ} {R = R} (length into) whole) cut old.limit old.taken before)
           (short_fault cut new.taken new.limit))
           (subst
@@ -92,13 +89,13 @@ module _ (old new : Counted) (left left' : ℕ → List ℕ) (same : new.slot �
       -- and before its first octet, or not
       pub again_over : ((count == 0) && not (new.taken == new.limit)) ≡ true → IsOver old.limit old.taken (ahead old left old.slot)
       again_over test =
-          again (λ before later. IsOver old.limit old.taken before)
+          of_ahead (λ before later. IsOver old.limit old.taken before)
           (over_is old.limit old.taken new.taken (old.back ++ left old.slot) (new.back ++ left' old.slot) into count filled short within now
           (sym (ap (λ n. (count == 0) && not (new.taken == n)) most) ∙ test))
 
       pub again_more : ((count == 0) && not (new.taken == new.limit)) ≡ false → HasMore old.limit old.taken (ahead old left old.slot)
       again_more test =
-          again (λ before later. HasMore old.limit old.taken before)
+          of_ahead (λ before later. HasMore old.limit old.taken before)
           (more_is old.limit old.taken new.taken (old.back ++ left old.slot) (new.back ++ left' old.slot) into count filled short within now
           (sym (ap (λ n. (count == 0) && not (new.taken == n)) most) ∙ test))
 

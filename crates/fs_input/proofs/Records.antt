@@ -2,7 +2,7 @@
 use Rattle.fs_input.proofs.Words.{◌≡◌, ℕ, List, [], Some, None, Bool, true, false, ◌<◌, ◌≤◌, ◌+◌, ◌==◌, min, length, take, drop, refl, ap, sym, ◌∙◌}
 use Rattle.fs_input.proofs.Words.{arith, nat_le, if◌then◌else◌, drop-drop, length-drop, length-take, nat_tests, common_steps, Fills, window}
 use Rattle.fs_input.proofs.Words.{with_part, At, Shrinks, at, Format, bad, ends_short, first_record, head_at, record_in, records_to_come, Head, Whole}
-use Rattle.fs_input.proofs.Words.{Wrong, Partial}
+use Rattle.fs_input.proofs.Words.{Wrong, Partial, Counted}
 use Rattle.fs_input.proofs.{CutShort.{limit_is}, Joining.{IsBehind, behind_took}, PartsOfRecords.{to_come_end, to_come_step}}
 use Rattle.fs_input.specs.Records.{stop}
 
@@ -51,99 +51,97 @@ head_filled size judged old new head count fills len =
     let e : count ≡ min size (length judged) = fills.count_is ∙ ap (λ n. min n (length judged)) len in
     fills.filled ∙ rw e (front_of size judged)
 
--- what was filled into a head's buffer tells the head of what is judged
-head_tells : {S A B R : Type 0} (format : Format S A B R) (state : S) (judged old new head : List ℕ) (count : ℕ) (said : Head A R)
-    → Fills judged old new head count → length head ≡ format.head_size state → said ≡ format.head_of state (take count head)
-    → format.head_of state (take (format.head_size state) judged) ≡ said
-head_tells format state judged old new head count said fills len h =
-    ap (format.head_of state) (sym (head_filled (format.head_size state) judged old new head count fills len)) ∙ sym h
+module _ {S A B R : Type 0} (format : Format S A B R) (now : Counted) (state : S) (left left1 : List ℕ) (count : ℕ) where
+  abbrev octets_judged : List ℕ
+  octets_judged = window now.limit now.taken left
 
--- a head was filled, and is wrong
-pub wrong_comes : {S A B R : Type 0} (format : Format S A B R) (limit taken : ℕ) (state : S) (left left1 head : List ℕ) (count : ℕ)
-    (reason : R) (offset : ℕ)
-    → Fills (window limit taken left) left left1 head count → length head ≡ format.head_size state
-    → Wrong reason offset ≡ format.head_of state (take count head)
-    → records_to_come format limit taken state left ≡ ([], bad reason (taken + offset))
-wrong_comes format limit taken state left left1 head count reason offset fills len h =
-    let said = head_tells format state (window limit taken left) left left1 head count (Wrong reason offset) fills len h in
-    to_come_end (first_record format) (stop format) limit taken (at state left) (rw said refl) ∙ rw said refl
+  -- so many octets of a head were filled, which say this
+  pub record SaysHead (said : Head A R) : Type 0 where
+    pub head : List ℕ
+    pub filled : Fills octets_judged left left1 head count
+    pub sized : length head ≡ format.head_size state
+    pub says : said ≡ format.head_of state (take count head)
 
--- a head was filled only in part, and no field in it is wrong
-pub short_comes : {S A B R : Type 0} (format : Format S A B R) (limit taken : ℕ) (state : S) (left left1 head : List ℕ) (count : ℕ)
-    → Fills (window limit taken left) left left1 head count → length head ≡ format.head_size state
-    → Partial ≡ format.head_of state (take count head) → count < format.head_size state → taken ≤ limit
-    → records_to_come format limit taken state left ≡ ([], ends_short format.cut (taken + count == limit) taken count)
-short_comes format limit taken state left left1 head count fills len h short within =
-    let e : count ≡ min (length head) (length (window limit taken left)) = fills.count_is in
-    let size : count ≡ length (window limit taken left) = omega arith in
-    let said = head_tells format state (window limit taken left) left left1 head count Partial fills len h in
-    to_come_end (first_record format) (stop format) limit taken (at state left) (rw said refl)
-    ∙ rw (said, limit_is limit taken (taken + count) count left within size refl, ← size) refl
+  -- what was filled into a head's buffer tells the head of what is judged
+  head_tells : (said : Head A R) → SaysHead said → format.head_of state (take (format.head_size state) octets_judged) ≡ said
+  head_tells said h =
+      ap (format.head_of state) (sym (head_filled (format.head_size state) octets_judged left left1 h.head count h.filled h.sized)) ∙ sym h.says
 
--- a head was filled, and then a payload: what is judged of it stands behind the head
-record IsHeaded (head_size limit taken : ℕ) (left left1 : List ℕ) (count : ℕ) : Type 0 where
-  pub all : count ≡ head_size
-  pub had : head_size ≤ length (window limit taken left)
-  pub rest : IsBehind limit taken (taken + count) head_size left left1
+  -- a head was filled, and is wrong
+  pub wrong_comes : (reason : R) (offset : ℕ) → SaysHead (Wrong reason offset)
+      → records_to_come format now.limit now.taken state left ≡ ([], bad reason (now.taken + offset))
+  wrong_comes reason offset h =
+      let said = head_tells (Wrong reason offset) h in
+      to_come_end (first_record format) (stop format) now.limit now.taken (at state left) (rw said refl) ∙ rw said refl
 
-behind_head : (head_size limit taken : ℕ) (left left1 head : List ℕ) (count : ℕ)
-    → Fills (window limit taken left) left left1 head count → length head ≡ head_size → head_size ≤ count
-    → IsHeaded head_size limit taken left left1 count
-behind_head head_size limit taken left left1 head count fills len all =
-    let e : count ≡ min (length head) (length (window limit taken left)) = fills.count_is in
-    let same : count ≡ head_size = omega arith in
-    let had : head_size ≤ length (window limit taken left) = omega arith in
-    record {
-      all = same;
-      had = had;
-      rest = behind_took limit taken (taken + count) head_size left left1 had (omega arith) (fills.left ∙ ap (λ n. drop n left) same);
-    }
+  -- a head was filled only in part, and no field in it is wrong
+  pub short_comes : SaysHead Partial → count < format.head_size state
+      → records_to_come format now.limit now.taken state left ≡ ([], ends_short format.cut (now.taken + count == now.limit) now.taken count)
+  short_comes h short =
+      let e : count ≡ min (length h.head) (length octets_judged) = h.filled.count_is in
+      let size : count ≡ length octets_judged = omega (arith, e, h.sized, short) in
+      let said = head_tells Partial h in
+      to_come_end (first_record format) (stop format) now.limit now.taken (at state left) (rw said refl)
+      ∙ rw (said, limit_is now.limit now.taken (now.taken + count) count left now.within size refl, ← size) refl
 
--- the payload was filled only in part
-pub cut_comes : {S A B R : Type 0} (format : Format S A B R) (limit taken : ℕ) (state : S) (left left1 left2 head payload : List ℕ)
-    (count : ℕ) (said : A) (size got : ℕ)
-    → Fills (window limit taken left) left left1 head count → length head ≡ format.head_size state
-    → Whole said size ≡ format.head_of state (take count head) → format.head_size state ≤ count → taken ≤ limit
-    → Fills (window limit (taken + count) left1) left1 left2 payload got → length payload ≡ size → got < size
-    → records_to_come format limit taken state left ≡ ([], ends_short format.cut (taken + (count + got) == limit) taken (count + got))
-cut_comes format limit taken state left left1 left2 head payload count said size got fills len h all within more room short =
-    let n = format.head_size state in
-    let behind = behind_head n limit taken left left1 head count fills len all in
-    let e : got ≡ min (length payload) (length (window limit (taken + count) left1)) = more.count_is in
-    let whole : count + got ≡ length (window limit taken left) = omega (arith, behind.all, behind.had, behind.rest.size) in
-    let test : nat_le (n + size) (length (window limit taken left)) ≡ false = grind (arith, nat_tests, behind.all) in
-    let said = head_tells format state (window limit taken left) left left1 head count (Whole said size) fills len h in
-    to_come_end (first_record format) (stop format) limit taken (at state left) (rw (said, test) refl)
-    ∙ rw (said, limit_is limit taken (taken + (count + got)) (count + got) left within whole refl, ← whole) refl
+  -- a head was filled, and then a payload: what is judged of it stands behind the head
+  record IsHeaded : Type 0 where
+    pub all : count ≡ format.head_size state
+    pub had : format.head_size state ≤ length octets_judged
+    pub rest : IsBehind now.limit now.taken (now.taken + count) (format.head_size state) left left1
 
--- the payload was filled
-pub record_comes : {S A B R : Type 0} (format : Format S A B R) → HasHead format
-    → (limit taken : ℕ) (state : S) (left left1 left2 head payload : List ℕ) (count : ℕ) (said : A) (size got : ℕ)
-    → Fills (window limit taken left) left left1 head count → length head ≡ format.head_size state
-    → Whole said size ≡ format.head_of state (take count head) → format.head_size state ≤ count
-    → Fills (window limit (taken + count) left1) left1 left2 payload got → length payload ≡ size → size ≤ got
-    → records_to_come format limit taken state left
-    ≡ with_part (format.item_of said (take size payload))
-    (records_to_come format limit (taken + count + got) (format.behind state said) left2)
-record_comes format some limit taken state left left1 left2 head payload count said size got fills len h all more room enough =
-    let n = format.head_size state in
-    let behind = behind_head n limit taken left left1 head count fills len all in
-    let e : got ≡ min (length payload) (length (window limit (taken + count) left1)) = more.count_is in
-    let same : got ≡ size = omega arith in
-    let within : n + size ≤ length (window limit taken left) = omega (arith, behind.had, behind.rest.size) in
-    let test : nat_le (n + size) (length (window limit taken left)) ≡ true = grind (arith, nat_tests) in
-    let octets : take size payload ≡ take size (drop n (window limit taken left)) =
-    ap (λ n. take n payload) (sym same) ∙ more.filled
-    ∙ ap (λ n. take n (window limit (taken + count) left1)) same ∙ ap (take size) behind.rest.judged in
-    let rest : left2 ≡ drop (n + size) left =
-    more.left ∙ ap (drop got) fills.left ∙ drop-drop got count left
-    ∙ ap (λ m. drop m left) (let m : count + got ≡ n + size = omega (arith, behind.all) in m) in
-    let place : taken + count + got ≡ taken + (n + size) = omega (arith, behind.all) in
-    let said_is = head_tells format state (window limit taken left) left left1 head count (Whole said size) fills len h in
-    to_come_step (first_record format) (stop format) (records_shrink format some) limit taken (at state left)
-    (format.item_of said (take size (drop n (window limit taken left)))) (format.behind state said) (n + size)
-    within (rw (said_is, test) refl)
-    ∙ rw (octets, rest, place) refl
+  behind_head : (said : Head A R) → SaysHead said → format.head_size state ≤ count → IsHeaded
+  behind_head said h all =
+      let n = format.head_size state in
+      let e : count ≡ min (length h.head) (length octets_judged) = h.filled.count_is in
+      let same : count ≡ n = omega (arith, e, h.sized, all) in
+      let had : n ≤ length octets_judged = omega (arith, e, h.sized, all) in
+      record {
+        all = same;
+        had = had;
+        rest = behind_took now.limit now.taken (now.taken + count) n left left1 had (omega (arith, same)) (h.filled.left ∙ ap (λ n. drop n left) same);
+      }
+
+  module _ (left2 payload : List ℕ) (said : A) (size got : ℕ) (h : SaysHead (Whole said size)) (all : format.head_size state ≤ count)
+      (more : Fills (window now.limit (now.taken + count) left1) left1 left2 payload got) (room : length payload ≡ size) where
+    -- the payload was filled only in part
+    pub cut_comes : got < size
+        → records_to_come format now.limit now.taken state left
+        ≡ ([], ends_short format.cut (now.taken + (count + got) == now.limit) now.taken (count + got))
+    cut_comes short =
+        let n = format.head_size state in
+        let behind = behind_head (Whole said size) h all in
+        let e : got ≡ min (length payload) (length (window now.limit (now.taken + count) left1)) = more.count_is in
+        let whole : count + got ≡ length octets_judged = omega (arith, e, room, short, behind.all, behind.had, behind.rest.size) in
+        let test : nat_le (n + size) (length octets_judged) ≡ false = grind (arith, nat_tests, behind.all) in
+        let says = head_tells (Whole said size) h in
+        to_come_end (first_record format) (stop format) now.limit now.taken (at state left) (rw (says, test) refl)
+        ∙ rw (says, limit_is now.limit now.taken (now.taken + (count + got)) (count + got) left now.within whole refl, ← whole) refl
+
+    -- the payload was filled
+    pub record_comes : HasHead format → size ≤ got
+        → records_to_come format now.limit now.taken state left
+        ≡ with_part (format.item_of said (take size payload))
+        (records_to_come format now.limit (now.taken + count + got) (format.behind state said) left2)
+    record_comes some enough =
+        let n = format.head_size state in
+        let behind = behind_head (Whole said size) h all in
+        let e : got ≡ min (length payload) (length (window now.limit (now.taken + count) left1)) = more.count_is in
+        let same : got ≡ size = omega (arith, e, room, enough) in
+        let within : n + size ≤ length octets_judged = omega (arith, e, same, behind.had, behind.rest.size) in
+        let test : nat_le (n + size) (length octets_judged) ≡ true = grind (arith, nat_tests) in
+        let octets : take size payload ≡ take size (drop n octets_judged) =
+        ap (λ n. take n payload) (sym same) ∙ more.filled
+        ∙ ap (λ n. take n (window now.limit (now.taken + count) left1)) same ∙ ap (take size) behind.rest.judged in
+        let rest : left2 ≡ drop (n + size) left =
+        more.left ∙ ap (drop got) h.filled.left ∙ drop-drop got count left
+        ∙ ap (λ m. drop m left) (let m : count + got ≡ n + size = omega (arith, same, behind.all) in m) in
+        let place : now.taken + count + got ≡ now.taken + (n + size) = omega (arith, same, behind.all) in
+        let says = head_tells (Whole said size) h in
+        to_come_step (first_record format) (stop format) (records_shrink format some) now.limit now.taken (at state left)
+        (format.item_of said (take size (drop n octets_judged))) (format.behind state said) (n + size)
+        within (rw (says, test) refl)
+        ∙ rw (octets, rest, place) refl
 
 -- what a record that was read says: its head, its payload behind that, and what follows
 pub record IsFound {S A B R : Type 0} (format : Format S A B R) (now : At S) (found : B × At S) : Type 0 where

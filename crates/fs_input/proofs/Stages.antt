@@ -1,7 +1,7 @@
 -- Chains of fields that are read one by one: what of a chain is still to be read, behind the fields that were.
-use Rattle.fs_input.proofs.Words.{◌≡◌, ℕ, List, Bool, Option, Result, Ok, Err, IsTrue, ◌≤◌, ◌+◌, length, drop, refl, ap, sym, ◌∙◌, subst, arith}
-use Rattle.fs_input.proofs.Words.{drop-drop, at_limit, window, Counted, IfErr, Rose, Fault, Read, Scan, Scanner, and, behind, got, partial, wrong}
-use Rattle.fs_input.proofs.Words.{Calls, Fails, PassesOn, Reads, Scanned, Took, end_of, ends_by, rose_earlier, passes_none, passes_then}
+use Rattle.fs_input.proofs.Words.{◌≡◌, ℕ, List, Bool, Result, Ok, Err, IsTrue, ◌≤◌, ◌+◌, length, drop, refl, ap, sym, ◌∙◌, subst, arith}
+use Rattle.fs_input.proofs.Words.{drop-drop, at_limit, window, IfErr, Rose, Fault, Read, Scan, Scanner, and, behind, got, partial, wrong}
+use Rattle.fs_input.proofs.Words.{Fails, Moment, PassesTo, Reads, Scanned, Took, end_of, ends_by, rose_earlier, passes_none, passes_then}
 use Rattle.fs_input.proofs.Joining.{behind_took, chain_is, end_behind}
 
 -- so many octets of the chain were taken, and this rest of it is to be read
@@ -82,36 +82,41 @@ stage_field first next limit taken taken' left left' value took = record {
 }
 
 -- What reading a chain up to this rest of it did to the files.
-module _ {A R : Type 0} (told : Bool) (calls calls' : Calls) (left left' : ℕ → List ℕ) (holds holds' : List ℕ → Option (List ℕ)) where
-  pub record Going (chain rest : Scanner A R) (old now : Counted) : Type 0 where
-    pub passes : PassesOn told calls calls' left left' holds holds' old now
-    pub staged : IsTrue told → Stage chain rest old.limit old.taken now.taken (left old.slot) (left' old.slot)
+pub record Going {A R : Type 0} (told : Bool) (old now : Moment) (chain rest : Scanner A R) : Type 0 where
+  pub passes : PassesTo told old now
+  pub staged :
+      IsTrue told
+      → Stage chain rest old.counted.limit old.counted.taken now.counted.taken (old.left old.counted.slot) (now.left old.counted.slot)
 
-pub going_start : {A R : Type 0} {told : Bool} {calls : Calls} {left : ℕ → List ℕ} {holds : List ℕ → Option (List ℕ)} {now : Counted}
-    (chain : Scanner A R) → Going told calls calls left left holds holds chain chain now now
-going_start {left = left} {now = now} chain = record {
+pub going_start : {told : Bool} {A R : Type 0} {now : Moment} (chain : Scanner A R) → Going told now now chain chain
+going_start {now = now} chain = record {
   passes = passes_none;
-  staged = λ tells_so. stage_start chain now.limit now.taken (left now.slot);
+  staged = λ tells_so. stage_start chain now.counted.limit now.counted.taken (now.left now.counted.slot);
 }
 
+-- what was scanned of the slot and below the limit of the moment before is scanned of those of the first one
+scanned_from : {T B R : Type 0} (told : Bool) (first : Scanner B R) (cut : R) (tells : T → B) (old now new : Moment) (result : Result T (Fault R))
+    → PassesTo told old now
+    → Scanned first cut now.counted.limit now.counted.taken new.counted.taken (now.left now.counted.slot) (new.left now.counted.slot) tells result
+    → Scanned first cut old.counted.limit now.counted.taken new.counted.taken (now.left old.counted.slot) (new.left old.counted.slot) tells result
+scanned_from told first cut tells old now new result passes h =
+    subst (λ slot. Scanned first cut old.counted.limit now.counted.taken new.counted.taken (now.left slot) (new.left slot) tells result) passes.slot
+    (subst (λ limit. Scanned first cut limit now.counted.taken new.counted.taken (now.left now.counted.slot) (new.left now.counted.slot) tells result)
+    passes.limit h)
+
 -- one field more
-pub going_more : {T A B R : Type 0} {chain : Scanner A R} {first : Scanner B R} {cut : R} {tells : T → B} {told : Bool} {calls mid late : Calls}
-    {left left' left'' : ℕ → List ℕ} {holds holds' holds'' : List ℕ → Option (List ℕ)} {old now new : Counted} {answer : T}
-    (next : B → Scanner A R)
-    → Going told calls mid left left' holds holds' chain (and first next) old now
-    → Reads told mid late left' left'' holds' holds'' first cut now new tells (Ok answer)
-    → Going told calls late left left'' holds holds'' chain (next (tells answer)) old new
-going_more {chain = chain} {first = first} {cut = cut} {tells = tells} {left = left} {left' = left'} {left'' = left''} {old = old} {now = now}
-    {new = new} {answer = answer} next one more = record {
-      passes = passes_then one.passes more.passes;
-      staged = λ tells_so.
-          stages chain (and first next) old.limit old.taken now.taken new.taken (left old.slot) (left' old.slot) (left'' old.slot)
-          (next (tells answer)) (one.staged tells_so)
-          (stage_field first next old.limit now.taken new.taken (left' old.slot) (left'' old.slot) (tells answer)
-          (subst (λ slot. Scanned first cut old.limit now.taken new.taken (left' slot) (left'' slot) tells (Ok answer)) one.passes.slot
-          (subst (λ limit. Scanned first cut limit now.taken new.taken (left' now.slot) (left'' now.slot) tells (Ok answer)) one.passes.limit
-          (more.scanned tells_so))));
-    }
+module _ {told : Bool} {A R : Type 0} {chain : Scanner A R} {old now new : Moment} where
+  pub going_more : {T B : Type 0} {first : Scanner B R} {cut : R} {tells : T → B} {answer : T} (next : B → Scanner A R)
+      → Going told old now chain (and first next) → Reads told now new first cut tells (Ok answer) → Going told old new chain (next (tells answer))
+  going_more {first = first} {cut = cut} {tells = tells} {answer = answer} next one more = record {
+    passes = passes_then one.passes more.passes;
+    staged = λ tells_so.
+        let slot = old.counted.slot in
+        stages chain (and first next) old.counted.limit old.counted.taken now.counted.taken new.counted.taken (old.left slot) (now.left slot) (new.left slot)
+        (next (tells answer)) (one.staged tells_so)
+        (stage_field first next old.counted.limit now.counted.taken new.counted.taken (now.left slot) (new.left slot) (tells answer)
+        (scanned_from told first cut tells old now new (Ok answer) one.passes (more.scanned tells_so)));
+  }
 
 -- faults that rose in the later of two calls rose in both
 failed_later : {T R : Type 0} (result : Result T (Fault R)) (early mid late : ℕ) → early ≤ mid
@@ -119,29 +124,27 @@ failed_later : {T R : Type 0} (result : Result T (Fault R)) (early mid late : �
 failed_later (Ok answer) early mid late l h = h
 failed_later (Err fault) early mid late l h = λ read. rose_earlier early mid late l (h read)
 
-staged_reads : {T A R : Type 0} (chain rest : Scanner A R) (cut : R) (tells : T → A) (limit taken taken' taken'' : ℕ) (left left' left'' : List ℕ)
-    (result : Result T (Fault R))
-    → Stage chain rest limit taken taken' left left' → Scanned rest cut limit taken' taken'' left' left'' tells result
-    → Scanned chain cut limit taken taken'' left left'' tells result
-staged_reads chain rest cut tells limit taken taken' taken'' left left' left'' (Ok answer) one more =
-    stage_took chain rest limit taken taken' taken'' left left' left'' (tells answer) one more
-staged_reads chain rest cut tells limit taken taken' taken'' left left' left'' (Err fault) one more =
-    subst (λ end. Fails end fault) (sym (stage_ends chain rest limit taken taken' taken'' left left' left'' cut one)) more
+staged_reads : {T A R : Type 0} (chain rest : Scanner A R) (cut : R) (tells : T → A) (old now new : Moment) (result : Result T (Fault R))
+    → Stage chain rest old.counted.limit old.counted.taken now.counted.taken (old.left old.counted.slot) (now.left old.counted.slot)
+    → Scanned rest cut old.counted.limit now.counted.taken new.counted.taken (now.left old.counted.slot) (new.left old.counted.slot) tells result
+    → Scanned chain cut old.counted.limit old.counted.taken new.counted.taken (old.left old.counted.slot) (new.left old.counted.slot) tells result
+staged_reads chain rest cut tells old now new (Ok answer) one more =
+    let slot = old.counted.slot in
+    stage_took chain rest old.counted.limit old.counted.taken now.counted.taken new.counted.taken (old.left slot) (now.left slot) (new.left slot)
+    (tells answer) one more
+staged_reads chain rest cut tells old now new (Err fault) one more =
+    let slot = old.counted.slot in
+    subst (λ end. Fails end fault)
+    (sym (stage_ends chain rest old.counted.limit old.counted.taken now.counted.taken new.counted.taken (old.left slot) (now.left slot) (new.left slot)
+    cut one)) more
 
 -- and then the rest
-pub going_then : {T A R : Type 0} {chain rest : Scanner A R} {cut : R} {tells : T → A} {told : Bool} {calls mid late : Calls}
-    {left left' left'' : ℕ → List ℕ} {holds holds' holds'' : List ℕ → Option (List ℕ)} {old now new : Counted} {result : Result T (Fault R)}
-    → Going told calls mid left left' holds holds' chain rest old now
-    → Reads told mid late left' left'' holds' holds'' rest cut now new tells result
-    → Reads told calls late left left'' holds holds'' chain cut old new tells result
-going_then {chain = chain} {rest = rest} {cut = cut} {tells = tells} {calls = calls} {mid = mid} {late = late} {left = left} {left' = left'}
-    {left'' = left''} {old = old} {now = now} {new = new} {result = result} one more = record {
-      passes = passes_then one.passes more.passes;
-      failed = failed_later result calls.faults mid.faults late.faults one.passes.later more.failed;
-      scanned = λ tells_so.
-          staged_reads chain rest cut tells old.limit old.taken now.taken new.taken (left old.slot) (left' old.slot) (left'' old.slot) result
-          (one.staged tells_so)
-          (subst (λ slot. Scanned rest cut old.limit now.taken new.taken (left' slot) (left'' slot) tells result) one.passes.slot
-          (subst (λ limit. Scanned rest cut limit now.taken new.taken (left' now.slot) (left'' now.slot) tells result) one.passes.limit
-          (more.scanned tells_so)));
-    }
+pub going_then : {told : Bool} {T A R : Type 0} {chain rest : Scanner A R} {cut : R} {tells : T → A} {old now new : Moment} {result : Result T (Fault R)}
+    → Going told old now chain rest → Reads told now new rest cut tells result → Reads told old new chain cut tells result
+going_then {told = told} {chain = chain} {rest = rest} {cut = cut} {tells = tells} {old = old} {now = now} {new = new} {result = result} one more = record {
+  passes = passes_then one.passes more.passes;
+  failed = failed_later result old.calls.faults now.calls.faults new.calls.faults one.passes.later more.failed;
+  scanned = λ tells_so.
+      staged_reads chain rest cut tells old now new result (one.staged tells_so)
+      (scanned_from told rest cut tells old now new result one.passes (more.scanned tells_so));
+}

@@ -15,8 +15,8 @@ pub use Rattle.fs_input.specs.Coming.{Chain, IsTextOf, Placed, Takes, all_given,
 pub use Rattle.fs_input.specs.Coming.{parts_to_come, placed, stop, told_ahead, told_to_come}
 pub use Rattle.fs_input.specs.NextRecord.{Advances, short_answer, short_fault}
 pub use Rattle.fs_input.specs.Parts.{AllFrom, At, Fitting, Reader, ReadsText, Shrinks, SpellsText, at, judged, octets_before, text_from}
-pub use Rattle.fs_input.specs.Reads.{Calls, Fails, HasMore, IsOver, Passes, PassesIn, PassesOn, Reads, Scanned, Starts, Took, ahead, end_of, ends_by}
-pub use Rattle.fs_input.specs.Reads.{whole}
+pub use Rattle.fs_input.specs.Reads.{Calls, Fails, HasMore, IsOver, Moment, Passes, PassesIn, PassesOn, PassesTo, Reads, Scanned, Starts}
+pub use Rattle.fs_input.specs.Reads.{Took, again, ahead, end_of, ends_by, whole}
 pub use Rattle.fs_input.specs.Records.{End, Format, bad, done, end_by, ends_short, first_record, head_at, limited, record_in, records_to_come}
 pub use Rattle.fs_input.specs.Scan.{Scan, Scanner, and, and_then, behind, fails, field, gives, got, needs, partial, skips, wrong}
 pub use Rattle.fs_input.specs.declared.{fault.Fault.{Fault, TheVariants.{Bad, Limit, Read}}, head.Head.{Head, TheVariants.{Partial, Whole, Wrong}}}

@@ -39,35 +39,50 @@ Scanned scanner cut limit taken taken' left left' tells (Ok answer) =
     Took (scanner taken (window limit taken left)) (length (window limit taken left)) taken taken' left left' (tells answer)
 Scanned scanner cut limit taken taken' left left' tells (Err fault) = Fails (ends_by scanner cut limit taken left) fault
 
--- What a call that reads an input does to the files, and what it says.
-module _ (told : Bool) (calls calls' : Calls) (left left' : ℕ → List ℕ) (holds holds' : List ℕ → Option (List ℕ)) where
-  -- The octets are those of the chain. The faults rose where `Read` is answered.
-  pub record Reads {T A R : Type 0} (scanner : Scanner A R) (cut : R) (old new : Counted) (tells : T → A)
-      (result : Result T (Fault R)) : Type 0 where
-    pub passes : PassesOn told calls calls' left left' holds holds' old new
-    pub failed : IfErr result (λ fault. fault ≡ Read → Rose calls.faults calls'.faults)
-    pub scanned :
-        IsTrue told
-        → Scanned scanner cut old.limit old.taken new.taken (left old.slot) (left' old.slot) tells result
-
 -- what is left of an input, where octets of it were put back
 abbrev pub ahead : Counted → (ℕ → List ℕ) → ℕ → List ℕ
 ahead counted left slot = if slot == counted.slot then counted.back ++ left slot else left slot
+
+-- a moment of a run: what files show, and what was counted of the input that is read
+pub record Moment : Type 0 where
+  pub calls : Calls
+  pub left : ℕ → List ℕ
+  pub holds : List ℕ → Option (List ℕ)
+  pub counted : Counted
+
+abbrev pub moment : {F : Type 0} → files.Ghosts F → F → Counted → Moment
+moment of_files now counted =
+    record { calls = calls_of of_files now; left = of_files.left now; holds = of_files.holds now; counted = counted }
+
+-- octets that were put back are left
+abbrev pub again : Moment → Moment
+again now = record { calls = now.calls; left = ahead now.counted now.left; holds = now.holds; counted = now.counted }
+
+-- what a call does to the files that reads an input between two moments
+abbrev pub PassesTo : Bool → (old new : Moment) → Type 0
+PassesTo told old new = PassesOn told old.calls new.calls old.left new.left old.holds new.holds old.counted new.counted
+
+-- and what it says: the octets are those of the chain. The faults rose where `Read` is answered.
+pub record Reads {T A R : Type 0} (told : Bool) (old new : Moment) (scanner : Scanner A R) (cut : R) (tells : T → A)
+    (result : Result T (Fault R)) : Type 0 where
+  pub passes : PassesTo told old new
+  pub failed : IfErr result (λ fault. fault ≡ Read → Rose old.calls.faults new.calls.faults)
+  pub scanned :
+      IsTrue told
+      → Scanned scanner cut old.counted.limit old.counted.taken new.counted.taken (old.left old.counted.slot)
+      (new.left old.counted.slot) tells result
 
 -- so of files before and behind a call; in a clause: `Scans F.Files files.old files.new ..`
 abbrev pub Scans : {F T A R : Type 0} → files.Ghosts F → (old new : F) → Scanner A R → R → (before now : Counted)
     → (T → A) → Result T (Fault R) → Type 0
 Scans of_files old new scanner cut before now tells result =
-    Reads of_files.tells (calls_of of_files old) (calls_of of_files new) (of_files.left old) (of_files.left new)
-    (of_files.holds old) (of_files.holds new) scanner cut before now tells result
+    Reads of_files.tells (moment of_files old before) (moment of_files new now) scanner cut tells result
 
 -- and where octets of the input were put back
 abbrev pub ScansAgain : {F T A R : Type 0} → files.Ghosts F → (old new : F) → Scanner A R → R → (before now : Counted)
     → (T → A) → Result T (Fault R) → Type 0
 ScansAgain of_files old new scanner cut before now tells result =
-    Reads of_files.tells (calls_of of_files old) (calls_of of_files new)
-    (ahead before (of_files.left old)) (ahead now (of_files.left new))
-    (of_files.holds old) (of_files.holds new) scanner cut before now tells result
+    Reads of_files.tells (again (moment of_files old before)) (again (moment of_files new now)) scanner cut tells result
 
 -- the input ended below the limit, and nothing of it is left
 pub record IsOver (limit taken : ℕ) (left : List ℕ) : Type 0 where
@@ -91,19 +106,17 @@ Started size cut limit taken taken' left left' into (Err fault) =
     Fails (ends_by (field size whole) cut limit taken left) fault × (fault ≢ Read → HasMore limit taken left)
 
 -- a call that begins a part
-module _ (told : Bool) (calls calls' : Calls) (left left' : ℕ → List ℕ) (holds holds' : List ℕ → Option (List ℕ)) where
-  pub record Starts {R : Type 0} (size : ℕ) (cut : R) (old new : Counted) (into : List ℕ) (result : Result Bool (Fault R)) : Type 0 where
-    pub passes : PassesOn told calls calls' left left' holds holds' old new
-    pub failed : IfErr result (λ fault. fault ≡ Read → Rose calls.faults calls'.faults)
-    pub started :
-        IsTrue told
-        → Started size cut old.limit old.taken new.taken (left old.slot) (left' old.slot) into result
+pub record Starts {R : Type 0} (told : Bool) (old new : Moment) (size : ℕ) (cut : R) (into : List ℕ) (result : Result Bool (Fault R)) : Type 0 where
+  pub passes : PassesTo told old new
+  pub failed : IfErr result (λ fault. fault ≡ Read → Rose old.calls.faults new.calls.faults)
+  pub started :
+      IsTrue told
+      → Started size cut old.counted.limit old.counted.taken new.counted.taken (old.left old.counted.slot)
+      (new.left old.counted.slot) into result
 
 -- so of files before and behind a call, where octets may have been put back; in a clause:
 -- `StartsIn F.Files files.old files.new ..`
 abbrev pub StartsIn : {F R : Type 0} → files.Ghosts F → (old new : F) → (size : ℕ) → R → (before now : Counted)
     → (into : List ℕ) → Result Bool (Fault R) → Type 0
 StartsIn of_files old new size cut before now into result =
-    Starts of_files.tells (calls_of of_files old) (calls_of of_files new)
-    (ahead before (of_files.left old)) (ahead now (of_files.left new))
-    (of_files.holds old) (of_files.holds new) size cut before now into result
+    Starts of_files.tells (again (moment of_files old before)) (again (moment of_files new now)) size cut into result

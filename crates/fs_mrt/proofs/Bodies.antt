@@ -1,6 +1,6 @@
 -- What the parts of a body say.
 use Rattle.fs_mrt.proofs.Words.{◌≡◌, ℕ, List, Bool, true, false, Option, Some, Result, Ok, ◌≤◌, ◌+◌, ◌-◌, ◌*◌, max, take, drop, refl, ap, sym, ◌∙◌}
-use Rattle.fs_mrt.proofs.Words.{arith, nat_le, if◌then◌else◌, drop-take, nat_tests, big_number, big_from-take, Peer, Counted, Fault, Calls, Reads}
+use Rattle.fs_mrt.proofs.Words.{arith, nat_le, if◌then◌else◌, drop-take, nat_tests, big_number, big_from-take, Peer, Fault, Moment, Reads}
 use Rattle.fs_mrt.proofs.Words.{whole, and, field, gives, reads_as, reads_gives, reads_then, Spoken, addressed_in, body_in, ends_in, ends_size}
 use Rattle.fs_mrt.proofs.Words.{front_behind, front_in, front_of, asn_of, time_of, family_of, front_size, states_size, DumpReason, Cut, Front, Head}
 use Rattle.fs_mrt.proofs.Words.{Family}
@@ -56,33 +56,30 @@ passed spot seconds size shape start rest some most =
     let second : nat_le size 65536 ≡ true = let s = most in grind (arith, nat_tests) in
     rw (first, second) refl
 
-pub front_reads : {T : Type 0} {told : Bool} {calls mid : Calls} {left left' : ℕ → List ℕ} {holds holds' : List ℕ → Option (List ℕ)}
-    {old now : Counted} {answer : T} (spot seconds size : ℕ) (shape : RecordShape) (octets : List ℕ) (family : Family) (time asn : ℕ)
+pub front_reads : {T : Type 0} {told : Bool} {old now : Moment} {answer : T} (spot seconds size : ℕ) (shape : RecordShape)
+    (octets : List ℕ) (family : Family) (time asn : ℕ)
     → 4 ≤ front_size shape + 2 → front_size shape + 2 ≤ size → size ≤ 65536
     → family_of (big_number 2 (drop (front_size shape) octets)) ≡ Some family
     → ends_size shape family + states_size shape ≤ size → time ≡ time_of shape seconds octets → asn ≡ asn_of shape octets
-    → Reads told calls mid left left' holds holds' (field (front_size shape + 2) whole) Cut old now
-    (λ (_ : T). take (front_size shape + 2) octets) (Ok answer)
-    → Reads told calls mid left left' holds holds' (front_in spot seconds size shape) Cut old now (λ (front : Front). front)
-    (Ok (front_of time asn family))
+    → Reads told old now (field (front_size shape + 2) whole) Cut (λ (_ : T). take (front_size shape + 2) octets) (Ok answer)
+    → Reads told old now (front_in spot seconds size shape) Cut (λ (front : Front). front) (Ok (front_of time asn family))
 front_reads {old = old} {now = now} spot seconds size shape octets family time asn four some most is room at_time at_asn h =
-    reads_as (front_in spot seconds size shape) (λ rest. passed spot seconds size shape old.taken rest some most)
-    (reads_then (front_behind spot old.taken seconds size shape) (λ (front : Front). front) h
-    (reads_as (front_behind spot old.taken seconds size shape (take (front_size shape + 2) octets))
-    (λ rest. told_front spot seconds size shape octets family time asn old.taken now.taken rest four is room at_time at_asn)
+    reads_as (front_in spot seconds size shape) (λ rest. passed spot seconds size shape old.counted.taken rest some most)
+    (reads_then (front_behind spot old.counted.taken seconds size shape) (λ (front : Front). front) h
+    (reads_as (front_behind spot old.counted.taken seconds size shape (take (front_size shape + 2) octets))
+    (λ rest. told_front spot seconds size shape octets family time asn old.counted.taken now.counted.taken rest four is room at_time at_asn)
     (reads_gives (λ (front : Front). front) (front_of time asn family))))
 
 -- what stands behind the front of a body
-pub body_reads : {T : Type 0} {told : Bool} {calls mid late : Calls} {left left' left'' : ℕ → List ℕ} {holds holds' holds'' : List ℕ → Option (List ℕ)}
-    {old now new : Counted} {tells : T → Option Spoken} {result : Result T (Fault DumpReason)}
+pub body_reads : {T : Type 0} {told : Bool} {old now new : Moment} {tells : T → Option Spoken} {result : Result T (Fault DumpReason)}
     (peers : List Peer) (moment later front_end : ℕ) (head : Head) (shape : RecordShape) (front : Front)
     → head.shape ≡ Some shape → later ≡ max moment front.time → front_end ≡ ends_size shape front.family
-    → Reads told calls mid left left' holds holds' (front_in head.spot head.seconds head.size shape) Cut old now (λ (f : Front). f) (Ok front)
-    → Reads told mid late left' left'' holds' holds'' (addressed_in peers later (head.size - front_end) shape front.family) Cut now new tells result
-    → Reads told calls late left left'' holds holds'' (body_in peers moment head.spot head.seconds head.size head.shape) Cut old new tells result
+    → Reads told old now (front_in head.spot head.seconds head.size shape) Cut (λ (f : Front). f) (Ok front)
+    → Reads told now new (addressed_in peers later (head.size - front_end) shape front.family) Cut tells result
+    → Reads told old new (body_in peers moment head.spot head.seconds head.size head.shape) Cut tells result
 body_reads {old = old} {now = now} {tells = tells} peers moment later front_end head shape front is at_moment ends first more =
     reads_as (body_in peers moment head.spot head.seconds head.size head.shape)
-    (λ octets. ap (λ s. body_in peers moment head.spot head.seconds head.size s old.taken octets) (sym is))
+    (λ octets. ap (λ s. body_in peers moment head.spot head.seconds head.size s old.counted.taken octets) (sym is))
     (reads_then (ends_in peers moment head.size shape) tells first
     (reads_as (ends_in peers moment head.size shape front)
-    (λ octets i. addressed_in peers (at_moment i) (head.size - ends i) shape front.family now.taken octets) more))
+    (λ octets i. addressed_in peers (at_moment i) (head.size - ends i) shape front.family now.counted.taken octets) more))

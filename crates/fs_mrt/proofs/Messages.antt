@@ -1,7 +1,7 @@
 -- A message whose header and rest were taken is one, where no change of state stands.
-use Rattle.fs_mrt.proofs.Words.{◌≡◌, ℕ, List, ◌++◌, Bool, true, false, Option, Result, Ok, Err, ◌≤◌, ◌+◌, ◌-◌, ◌==◌, length, take, drop, refl, ap}
-use Rattle.fs_mrt.proofs.Words.{sym, ◌∙◌, arith, nat_le, drop-take, length-drop, take_all, nat_tests, big_number, big_from-take, Counted, Fault}
-use Rattle.fs_mrt.proofs.Words.{Calls, Reads, whole, Scanner, and, field, gives, gives_for, reads_as, reads_ends, reads_then, said_from, Said}
+use Rattle.fs_mrt.proofs.Words.{◌≡◌, ℕ, List, ◌++◌, Bool, true, false, Result, Ok, Err, ◌≤◌, ◌+◌, ◌-◌, ◌==◌, length, take, drop, refl, ap}
+use Rattle.fs_mrt.proofs.Words.{sym, ◌∙◌, arith, nat_le, drop-take, length-drop, take_all, nat_tests, big_number, big_from-take, Fault, Moment}
+use Rattle.fs_mrt.proofs.Words.{Reads, whole, Scanner, and, field, gives, gives_for, reads_as, reads_ends, reads_then, said_from, Said}
 use Rattle.fs_mrt.proofs.Words.{message, message_behind, message_in, said_in, DumpReason, Cut}
 use Rattle.fs_mrt.specs.declared.{fault.DumpReason.TheVariants.{Message as WrongMessage}, heard.What.{What, TheVariants.{Message}}}
 use Rattle.std.proofs.Math.Seq.{take-add}
@@ -32,28 +32,29 @@ behind_first n octets = take_all (length octets - n) (drop n octets) (let l = le
 abbrev rest_in : (size : ℕ) → List ℕ → Scanner Said DumpReason
 rest_in size front = and (field (size - 18) whole) (λ rest. gives (message (front ++ rest)))
 
-module _ {T : Type 0} {told : Bool} {calls mid late : Calls} {left left' left'' : ℕ → List ℕ} {holds holds' holds'' : List ℕ → Option (List ℕ)}
-    {old now new : Counted} {answer : T} {change : Bool} (plain : change ≡ false) (size : ℕ) (one two : List ℕ) (some : 19 ≤ size)
+module _ {T : Type 0} {told : Bool} {old now new : Moment} {answer : T} {change : Bool} (plain : change ≡ false) (size : ℕ)
+    (one two : List ℕ) (some : 19 ≤ size)
     (says : big_number 2 (drop 16 one) ≡ size)
-    (first : Reads told calls mid left left' holds holds' (field 18 whole) Cut old now (λ (_ : T). take 18 one) (Ok answer)) where
+    (first : Reads told old now (field 18 whole) Cut (λ (_ : T). take 18 one) (Ok answer)) where
   behind_header : {result : Result What (Fault DumpReason)}
-      → Reads told mid late left' left'' holds' holds'' (rest_in size (take 18 one)) Cut now new (λ what. said_from what two) result
-      → Reads told calls late left left'' holds holds'' (said_in change size) Cut old new (λ what. said_from what two) result
+      → Reads told now new (rest_in size (take 18 one)) Cut (λ what. said_from what two) result
+      → Reads told old new (said_in change size) Cut (λ what. said_from what two) result
   behind_header more =
-      reads_as (said_in change size) (λ octets. passed size some old.taken octets ∙ ap (λ b. said_in b size old.taken octets) (sym plain))
-      (reads_then (message_behind size old.taken) (λ what. said_from what two) first
-      (reads_as (message_behind size old.taken (take 18 one))
-      (needs_true (big_number 2 (drop 16 (take 18 one)) == size) WrongMessage old.taken (rest_in size (take 18 one))
-      (header_size size one says) now.taken) more))
+      reads_as (said_in change size) (λ octets. passed size some old.counted.taken octets
+      ∙ ap (λ b. said_in b size old.counted.taken octets) (sym plain))
+      (reads_then (message_behind size old.counted.taken) (λ what. said_from what two) first
+      (reads_as (message_behind size old.counted.taken (take 18 one))
+      (needs_true (big_number 2 (drop 16 (take 18 one)) == size) WrongMessage old.counted.taken (rest_in size (take 18 one))
+      (header_size size one says) now.counted.taken) more))
 
   pub message_ends : {U : Type 0} {fault : Fault DumpReason}
-      → Reads told mid late left' left'' holds' holds'' (field (size - 18) whole) Cut now new (λ (_ : U). take (size - 18) (drop 18 two)) (Err fault)
-      → Reads told calls late left left'' holds holds'' (said_in change size) Cut old new (λ what. said_from what two) (Err fault)
+      → Reads told now new (field (size - 18) whole) Cut (λ (_ : U). take (size - 18) (drop 18 two)) (Err fault)
+      → Reads told old new (said_in change size) Cut (λ what. said_from what two) (Err fault)
   message_ends second = behind_header (reads_ends (λ rest. gives (message (take 18 one ++ rest))) (λ what. said_from what two) second)
 
   pub message_reads : {U : Type 0} {last : U} → take 18 two ≡ take 18 one
-      → Reads told mid late left' left'' holds' holds'' (field (size - 18) whole) Cut now new (λ (_ : U). take (size - 18) (drop 18 two)) (Ok last)
-      → Reads told calls late left left'' holds holds'' (said_in change size) Cut old new (λ what. said_from what two) (Ok (Message size))
+      → Reads told now new (field (size - 18) whole) Cut (λ (_ : U). take (size - 18) (drop 18 two)) (Ok last)
+      → Reads told old new (said_in change size) Cut (λ what. said_from what two) (Ok (Message size))
   message_reads same second =
       behind_header
       (reads_then (λ rest. gives (message (take 18 one ++ rest))) (λ what. said_from what two) second

@@ -1,7 +1,8 @@
 -- What is noted of a record takes its octets.
 use Rattle.fs_mrt.proofs.Words.{◌≡◌, ℕ, List, Option, Some, None, ◌≤◌, ◌+◌, ◌-◌, ◌*◌, ◌++◌, length, length-append, take, arith, got, Takes, whole}
 use Rattle.fs_mrt.proofs.Words.{field, gives, skips, Peer, front_in, ends_size, states_size, heard_in, head_of, address_of, address_size, number_at}
-use Rattle.fs_mrt.proofs.Words.{Front, Head}
+use Rattle.fs_mrt.proofs.Words.{Front, Head, ap, refl, Bool, Result, Ok, Err, option_map, Moment, Reads, Scanner, Fault, and, Cut, DumpReason}
+use Rattle.fs_mrt.proofs.Words.{gives_for, reads_as, reads_ends, reads_then}
 use Rattle.fs_mrt.proofs.Written.{FrontSpelled, HeardSpelled, front_spells, heard_spells}
 use Rattle.std.specs.Prelude.{drop, ⊤}
 use Rattle.std.proofs.lemmas.List.{length-take}
@@ -65,3 +66,36 @@ pub note_takes : (peers : List Peer) (now : Notes) → Takes 1 (part_in 12 (note
 note_takes peers now place octets value count h =
     let long = part_long peers now place octets value count h in
     (omega (arith, long.1, length-take count octets), long.0)
+
+-- a note is told as it is
+same_told : (o : Option Note) → o ≡ option_map (λ (n : Note). n) o
+same_told None = refl
+same_told (Some note) = refl
+
+abbrev pub as_told : Notes → Option Note → Option Note × Notes
+as_told now told = (option_map (λ (n : Note). n) told, now)
+
+module _ {told : Bool} {old new : Moment} {scanner : Scanner (Option Note) DumpReason} (now : Notes) where
+  pub note_given : (result : Result (Option Note) (Fault DumpReason)) → Reads told old new scanner Cut (λ (note : Option Note). note) result
+      → Reads told old new (and scanner (λ note. gives (note, now))) Cut (as_told now) result
+  note_given (Ok note) h =
+      reads_then (λ note. gives (note, now)) (as_told now) h
+      (gives_for (note, now) (as_told now) note (ap (λ (o : Option Note). (o, now)) (same_told note)))
+  note_given (Err fault) h = reads_ends (λ note. gives (note, now)) (as_told now) h
+
+-- who speaks, where the addresses were read, and what stands behind them
+module _ {told : Bool} {old now new : Moment} {address : Address} (peers : List Peer) (size : ℕ) (shape : RecordShape) (front : Front)
+    (number : Option ℕ) where
+  pub speaker_reads : {result : Result (Option Note) (Fault DumpReason)} (ends : ℕ)
+      → ends ≡ ends_size shape front.family → number ≡ number_at address peers
+      → Reads told old now (field (2 * address_size front.family) (address_of front.family)) Cut (λ (a : Address). a) (Ok address)
+      → Reads told now new (and (heard_in 0 (size - ends) shape number) (λ _. gives (Some (spoke shape front address number)))) Cut
+      (λ (n : Option Note). n) result
+      → Reads told old new (note_ends peers size shape front) Cut (λ (n : Option Note). n) result
+  speaker_reads ends e n first more =
+      reads_as (note_ends peers size shape front)
+      (λ octets i. and (field (2 * address_size front.family) (address_of front.family)) (note_behind peers (size - e i) shape front) old.counted.taken octets)
+      (reads_then (note_behind peers (size - ends) shape front) (λ (n : Option Note). n) first
+      (reads_as (note_behind peers (size - ends) shape front address)
+      (λ octets. ap (λ peer. and (heard_in 0 (size - ends) shape peer) (λ _. gives (Some (spoke shape front address peer))) now.counted.taken octets) n)
+      more))

@@ -7,7 +7,7 @@ pub use Rattle.std.proofs.lemmas.{Bool.Decides.{nat_tests}, List.{drop-drop, dro
 pub use Rattle.std.specs.{Option.{option_map}, Prelude.{IsSome, find, if◌then◌else◌, nat_le, ⊤}}
 pub use Rattle.fs_base.specs.declared.{config.{Address.{Address}, Peer.{Peer}}, counted.Counted.{Counted}, prefix.Family.{Family}}
 pub use Rattle.fs_input.proofs.Lifting.{gives_for, reads_as, reads_ends, reads_gives, reads_then}
-pub use Rattle.fs_input.specs.{Coming.{Placed, Takes, all_told, first_part, placed}, Reads.{Calls, Reads, calls_of, whole}}
+pub use Rattle.fs_input.specs.{Coming.{Placed, Takes, all_told, first_part, placed}, Reads.{Moment, Reads, moment, whole}}
 pub use Rattle.fs_input.specs.{Scan.{Scanner, and, field, gives, got, skips}, declared.fault.Fault.{Fault}}
 pub use Rattle.fs_mrt.specs.{Dump.{said_from, spoken_from}, Laws.{AreHeard, HeardFits, IsHeard, IsSaid, ReadsBack}}
 pub use Rattle.fs_mrt.specs.Peers.{is_same, lesser, lowest, number_at}

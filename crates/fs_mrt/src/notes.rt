@@ -108,10 +108,7 @@ impl Parts for Notes {
         let kind = BigEndian::read_u16(&octets[4..]);
         let subtype = BigEndian::read_u16(&octets[6..]);
         let peers = config.peers.as_slice();
-        match take_note(peers, kind, subtype, head, counted, files, into) {
-            Ok(note) => Ok(note),
-            Err(fault) => Err(fault),
-        }
+        take_note(peers, kind, subtype, head, counted, files, into)
     }
 
     ghost stays = { λ now. tt };

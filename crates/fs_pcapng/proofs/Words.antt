@@ -14,7 +14,7 @@ pub use Rattle.fs_input.proofs.Spelling.{weaker_spells}
 pub use Rattle.fs_input.proofs.Stages.{Going, behind_more, behind_none, going_more, going_start, going_then}
 pub use Rattle.fs_input.proofs.Written.{IsSpelled, spelled_takes, told_text}
 pub use Rattle.fs_input.specs.{Coming.{IsTextOf, Takes, only_told}, Judging.{scan_of, settled}}
-pub use Rattle.fs_input.specs.Reads.{Calls, Fails, HasMore, Reads, Scanned, ahead, calls_of, end_of, ends_by, whole}
+pub use Rattle.fs_input.specs.Reads.{Fails, HasMore, Moment, Reads, Scanned, again, ahead, end_of, ends_by, moment, whole}
 pub use Rattle.fs_input.specs.Records.{End, bad, done, limited}
 pub use Rattle.fs_input.specs.Scan.{Scan, Scanner, and, and_then, behind, fails, field, gives, got, needs, partial, skips, wrong}
 pub use Rattle.fs_input.specs.declared.fault.Fault.{Fault, TheVariants.{Bad, Limit, Read}}

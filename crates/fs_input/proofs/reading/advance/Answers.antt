@@ -26,7 +26,7 @@ returns-in-Ok-clause-advances g c = λ told.
     later
     (part_advances chain c.first_size-size.ensures.takes g.P.Parts.cut c.args.parts.now told
     (part_reads first behind c.args.parts.now (search rules) starts
-    (reads_ahead (c.in-Ok-true.ensures.none (search rules)) c.take_behind.ensures.none c.in-Ok.ensures.reads))))
+    (reads_ahead _ _ (c.in-Ok-true.ensures.none (search rules)) c.take_behind.ensures.none c.in-Ok.ensures.reads))))
 
 pub returns-in-Err-take_behind-clause-advances : goal.returns-in-Err-take_behind-clause-advances
 returns-in-Err-take_behind-clause-advances g c = λ told.
@@ -42,7 +42,7 @@ returns-in-Err-take_behind-clause-advances g c = λ told.
     (ahead_here c.args.counted.now (g.F.Files.left c.args.files.now))
     (later_advances chain c.first_size-size.ensures.takes g.P.Parts.cut {T = Option g.row.P-Told.Denot} later c.args.parts.now told
     (part_reads first behind c.args.parts.now (search rules) starts
-    (reads_ahead (c.in-Ok-true.ensures.none (search rules)) c.take_behind.ensures.none c.in-Err-take_behind.ensures.reads))
+    (reads_ahead _ _ (c.in-Ok-true.ensures.none (search rules)) c.take_behind.ensures.none c.in-Err-take_behind.ensures.reads))
     (some_taken told (search rules) starts))
 
 pub returns-in-Ok-false-clause-advances : goal.returns-in-Ok-false-clause-advances

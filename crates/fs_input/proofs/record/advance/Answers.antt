@@ -10,9 +10,9 @@ pub returns-in-Wrong-clause-advances : goal.returns-in-Wrong-clause-advances
 returns-in-Wrong-clause-advances g c = λ told.
     let filled = fills_straight _ _ _ _ _ _ _ _ c.requires.none c.in-Ok.ensures.back (c.in-Ok.ensures.filled told) in
     let place : c.fill.new.counted.taken - c.in-Ok.count ≡ c.args.counted.now.taken = omega (arith, c.in-Ok.ensures.taken) in
-    rw place (wrong_comes g.H.Heads.format c.args.counted.now.limit c.args.counted.now.taken c.args.heads.now
-    (g.F.Files.left c.args.files.now c.args.counted.now.slot) _ _ c.in-Ok.count c.in-Wrong.reason c.in-Wrong.offset
-    filled (search rules) c.in-Wrong.ensures.exact)
+    rw place (wrong_comes g.H.Heads.format c.args.counted.now c.args.heads.now (g.F.Files.left c.args.files.now c.args.counted.now.slot) _
+    c.in-Ok.count c.in-Wrong.reason c.in-Wrong.offset
+    (record { head = c.fill.new.into; filled = filled; sized = search rules; says = c.in-Wrong.ensures.exact }))
 
 pub returns-in-Partial-clause-advances : goal.returns-in-Partial-clause-advances
 returns-in-Partial-clause-advances g c = λ told.
@@ -27,9 +27,8 @@ returns-in-Partial-clause-advances g c = λ told.
     ) in
     rw (c.stopped.ensures, c.cut.ensures, c.in-Ok.ensures.passes.limit)
     (short_advances g.H.Heads.format.cut _ _ c.args.counted.now.taken c.in-Ok.count c.fill.new.counted.taken c.args.counted.now.limit
-    (short_comes g.H.Heads.format c.args.counted.now.limit c.args.counted.now.taken c.args.heads.now
-    (g.F.Files.left c.args.files.now c.args.counted.now.slot) _ _ c.in-Ok.count
-    filled (search rules) c.in-Partial.ensures.exact short (search rules))
+    (short_comes g.H.Heads.format c.args.counted.now c.args.heads.now (g.F.Files.left c.args.files.now c.args.counted.now.slot) _ c.in-Ok.count
+    (record { head = c.fill.new.into; filled = filled; sized = search rules; says = c.in-Partial.ensures.exact }) short)
     c.in-Ok.ensures.taken)
 
 pub returns-then-count-size-clause-advances : goal.returns-then-count-size-clause-advances
@@ -48,10 +47,10 @@ returns-then-count-size-clause-advances g c = λ told.
     (records_to_come format c.args.counted.now.limit c.fill-in-Whole.new.counted.taken (format.behind c.args.heads.now found.said)
     (g.F.Files.left c.fill-in-Whole.new.files c.args.counted.now.slot)))
     c.args.counted.now.taken (c.in-Ok.count + c.in-Ok-fill.count) c.fill-in-Whole.new.counted.taken c.args.counted.now.limit
-    (cut_comes format c.args.counted.now.limit c.args.counted.now.taken c.args.heads.now
-    (g.F.Files.left c.args.files.now c.args.counted.now.slot) _ _ _ c.fill-in-Whole.new.into c.in-Ok.count
-    c.in-Whole.said c.in-Whole.size c.in-Ok-fill.count
-    filled (search rules) c.in-Whole.ensures.exact all (search rules) more (search rules) c.if-count-size.true)
+    (cut_comes format c.args.counted.now c.args.heads.now (g.F.Files.left c.args.files.now c.args.counted.now.slot) _ c.in-Ok.count _
+    c.fill-in-Whole.new.into c.in-Whole.said c.in-Whole.size c.in-Ok-fill.count
+    (record { head = c.fill.new.into; filled = filled; sized = search rules; says = c.in-Whole.ensures.exact }) all more (search rules)
+    c.if-count-size.true)
     (omega arith) (omega (arith, c.in-Ok-fill.ensures.taken, c.in-Ok.ensures.taken)))
 
 pub returns-else-count-size-clause-advances : goal.returns-else-count-size-clause-advances
@@ -65,10 +64,10 @@ returns-else-count-size-clause-advances g c = λ told.
     let size : length c.fill-in-Whole.new.into ≡ c.in-Whole.size = search rules in
     let octets : take c.in-Whole.size (c.fill-in-Whole.new.into ++ drop c.in-Whole.size c.args.into.now) ≡ take c.in-Whole.size c.fill-in-Whole.new.into =
     take-append-le c.in-Whole.size c.fill-in-Whole.new.into _ (omega arith) in
-    record_comes format g.met.H.Heads.some c.args.counted.now.limit c.args.counted.now.taken c.args.heads.now
-    (g.F.Files.left c.args.files.now c.args.counted.now.slot) _ _ _ c.fill-in-Whole.new.into c.in-Ok.count
-    c.in-Whole.said c.in-Whole.size c.in-Ok-fill.count
-    filled (search rules) c.in-Whole.ensures.exact all more size c.if-count-size.false
+    record_comes format c.args.counted.now c.args.heads.now (g.F.Files.left c.args.files.now c.args.counted.now.slot) _ c.in-Ok.count _
+    c.fill-in-Whole.new.into c.in-Whole.said c.in-Whole.size c.in-Ok-fill.count
+    (record { head = c.fill.new.into; filled = filled; sized = search rules; says = c.in-Whole.ensures.exact }) all more size
+    g.met.H.Heads.some c.if-count-size.false
     ∙ rw (
       c.in-Ok-fill.ensures.passes.limit,
       c.in-Ok.ensures.passes.limit,

@@ -1,4 +1,4 @@
-use Rattle.fs_mrt.proofs.Words.{rules, ◌≡◌, ◌≤◌, ◌+◌, Some, take, drop, subst, ap, sym, ◌∙◌, Ok, big_number, Reads, calls_of, whole, field, ends_size}
+use Rattle.fs_mrt.proofs.Words.{rules, ◌≡◌, ◌≤◌, ◌+◌, Some, take, drop, subst, ap, sym, ◌∙◌, Ok, big_number, Reads, moment, whole, field, ends_size}
 use Rattle.fs_mrt.proofs.Words.{family_of, front_size, states_size, Cut}
 use Rattle.fs_mrt.proofs.{Bodies.{front_reads}, Messages.{behind_first}}
 use Rattle.fs_mrt.proofs.record.take_front.Goals as goal
@@ -16,8 +16,6 @@ returns-clause-reads g c =
     front_reads c.args.head.spot c.args.head.seconds c.args.head.size c.args.shape octets c.in-Some.family c.time_of.result c.asn_of.result four some most
     (subst (λ n. family_of (big_number 2 (drop n octets)) ≡ Some c.in-Some.family) first says) room c.time_of.ensures c.asn_of.ensures
     (subst
-    (λ n. Reads g.F.Files.tells (calls_of g.F.Files c.args.files.now) (calls_of g.F.Files c.take_part.new.files)
-    (g.F.Files.left c.args.files.now) (g.F.Files.left c.take_part.new.files)
-    (g.F.Files.holds c.args.files.now) (g.F.Files.holds c.take_part.new.files) (field (n + 2) whole) Cut
-    c.args.counted.now c.take_part.new.counted (λ _. take (n + 2) octets) (Ok c.in_default.field-0))
+    (λ n. Reads g.F.Files.tells (moment g.F.Files c.args.files.now c.args.counted.now) (moment g.F.Files c.take_part.new.files c.take_part.new.counted)
+    (field (n + 2) whole) Cut (λ _. take (n + 2) octets) (Ok c.in_default.field-0))
     first c.in_default.ensures.reads)

@@ -1,4 +1,4 @@
-use Rattle.fs_pcapng.proofs.{Words.{◌≡◌, ◌≤◌, ◌+◌, [], calls_of}, Cursors.{Moved}}
+use Rattle.fs_pcapng.proofs.{Words.{◌≡◌, ◌≤◌, ◌+◌, [], moment}, Cursors.{Moved}}
 use Rattle.fs_pcapng.proofs.options.read_options.Given as goal
 
 abbrev pub invariant-options : goal.invariant-options
@@ -6,8 +6,7 @@ invariant-options g l = record {
   none : l.counted.back ≡ [];
   left : l.now.left ≤ l.size;
   taken : l.counted.taken + l.now.left ≡ l.fn.counted.taken + l.size;
-  walked : Moved l.order l.size g.F.Files.tells (calls_of g.F.Files l.fn.files) (calls_of g.F.Files l.files) (g.F.Files.left l.fn.files)
-      (g.F.Files.left l.files) (g.F.Files.holds l.fn.files) (g.F.Files.holds l.files) l.fn.counted l.counted l.now;
+  walked : Moved l.order l.size g.F.Files.tells (moment g.F.Files l.fn.files l.fn.counted) (moment g.F.Files l.files l.counted) l.now;
 }
 
 abbrev pub decreases-options : goal.decreases-options
