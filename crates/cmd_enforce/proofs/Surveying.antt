@@ -270,7 +270,7 @@ pub opened_verdict : (limit : ℕ) (holds : Names) (name left : List ℕ) → ho
 opened_verdict limit holds name left h = ap (λ (o : Option (List ℕ)). content_verdict limit (or_stop Outside o)) (sym h)
 
 -- A capture is surveyed from what is counted of its slot, up to this limit.
-module _ (limit : ℕ) {counted : Counted} (left : ℕ → List ℕ) (l : counted.limit ≡ limit) (b : counted.back ≡ []) (s : counted.slot ≡ 2) where
+module _ (limit : ℕ) (counted : Counted) (left : ℕ → List ℕ) (l : counted.limit ≡ limit) (b : counted.back ≡ []) (s : counted.slot ≡ 2) where
   all_is : survey_in counted.limit (counted.back ++ left counted.slot) ≡ survey_in limit (left 2)
   all_is = λ i. survey_in (l i) (b i ++ left (s i))
 

@@ -10,7 +10,7 @@ returns-in-Ok-2-clause-surveyed g c = λ told.
     let new = c.new.ensures in
     let counted = rw c.in-Ok-2.is at (c.in_ok-count_packets-in-Ok.ensures.counts told) in
     surveys_from (survey_in c.args.limit (before 2)) capture (left capture.slot) c.new-tally.result c.count_packets.new.tally
-    (begun c.args.limit before new.limit new.back new.slot left capture c.in-Ok.ensures.state.slot (c.in-Ok.ensures.begins told))
+    (begun c.args.limit c.new.result before new.limit new.back new.slot left capture c.in-Ok.ensures.state.slot (c.in-Ok.ensures.begins told))
     c.link.result c.new-tally.ensures (c.link.ensures ∙ c.in_ok-count_packets-in-Ok.ensures.link) counted.0 counted.1
 
 pub returns-in-Ok-clause-surveyed : goal.returns-in-Ok-clause-surveyed
@@ -21,7 +21,7 @@ returns-in-Ok-clause-surveyed g c = λ told.
     let new = c.new.ensures in
     let counted = rw c.in-Err-2.is at (c.in_ok-count_packets-in-Ok.ensures.counts told) in
     surveys_fault (survey_in c.args.limit (before 2)) capture (left capture.slot) c.new-tally.result c.count_packets.new.tally
-    (begun c.args.limit before new.limit new.back new.slot left capture c.in-Ok.ensures.state.slot (c.in-Ok.ensures.begins told))
+    (begun c.args.limit c.new.result before new.limit new.back new.slot left capture c.in-Ok.ensures.state.slot (c.in-Ok.ensures.begins told))
     c.in-Err-2.fault (Rose (g.F.Files.faults c.begin.new.files) (g.F.Files.faults c.count_packets.new.files))
     (Rose (g.F.Files.faults c.args.files.now) (g.F.Files.faults c.count_packets.new.files))
     counted (λ r. rose_earlier _ _ _ c.in-Ok.ensures.state.later r)
@@ -29,6 +29,6 @@ returns-in-Ok-clause-surveyed g c = λ told.
 pub returns-clause-surveyed : goal.returns-clause-surveyed
 returns-clause-surveyed g c = λ told.
     let new = c.new.ensures in
-    surveys_unbegun c.args.limit (g.F.Files.left c.args.files.now) new.limit new.back new.slot (g.F.Files.left c.begin.new.files c.new.result.slot)
+    surveys_unbegun c.args.limit c.new.result (g.F.Files.left c.args.files.now) new.limit new.back new.slot (g.F.Files.left c.begin.new.files c.new.result.slot)
     c.in-Err.fault (Rose (g.F.Files.faults c.args.files.now) (g.F.Files.faults c.begin.new.files))
     (c.in-Err.ensures.begins told) (λ same. c.in-Err.ensures.state.read (λ i. Err (same i)))
