@@ -241,7 +241,7 @@ fn may_go(
         as_path: path.copy()?,
         rules: SentList::new(vec![in alloc; copy]?),
     };
-    sending.may_be_sent(alloc, config, peer)
+    Ok(sending.may_be_sent(config, peer))
 }
 
 /// The place, counted from 1, of the first rule that may not be sent for the peer.

@@ -108,14 +108,14 @@ pub(crate) fn address_at(table: &Table, key: &str) -> Option<u32>
 }
 
 /// The same, where it may be sent for the peer with the lowest number.
-fn sendable(alloc: Global, config: &Config, sending: Sending) -> Result<Sending, ConfFault>
+fn sendable(config: &Config, sending: Sending) -> Result<Sending, ConfFault>
     ensures ok { IfOk result (λ found. sendable config.now sending ≡ Some found) }
     ensures refused { IsErrOf result ConfFault.Refused → sendable config.now sending ≡ None }
 {
     let Some(peer) = sender(config) else {
         return Err(ConfFault::Refused);
     };
-    if sending.may_be_sent(alloc, config, peer)? {
+    if sending.may_be_sent(config, peer) {
         Ok(sending)
     } else {
         Err(ConfFault::Refused)
@@ -132,7 +132,7 @@ fn sending_in(alloc: Global, table: &Table, config: &Config) -> Result<Sending, 
         as_path: as_path_at(alloc, table, "as_path")?,
         rules: rules_at(alloc, table, "rule")?,
     };
-    sendable(alloc, config, sending)
+    sendable(config, sending)
 }
 
 pub(crate) fn sending_from(

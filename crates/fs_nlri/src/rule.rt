@@ -1,6 +1,7 @@
 //! Rules.
 
 use crate::component::Component;
+use crate::size::frame_len;
 use fs_base::Family;
 use std::marker::Model;
 
@@ -23,8 +24,8 @@ impl Model for Rule {
 }
 
 impl Rule {
-    ghost use Rattle.std.specs.Prelude.{◌≡◌};
-    ghost use Rattle.fs_nlri.specs.{Component.{parts_of}, Rule.{IsRule}, Sound.{AreSound}};
+    ghost use Rattle.std.specs.Prelude.{◌≡◌, ◌≤◌, length};
+    ghost use Rattle.fs_nlri.specs.{Component.{parts_of}, Rule.{IsRule, canonical_frame}, Sound.{AreSound}};
 
     /// The family.
     pub fn family(&self) -> Family
@@ -40,5 +41,13 @@ impl Rule {
         ensures sound { AreSound self.now.parts }
     {
         self.components.as_slice()
+    }
+
+    /// How many octets its canonical frame has.
+    pub fn frame_len(&self) -> usize
+        ensures value { result ≡ length (canonical_frame self.now) }
+        ensures small { result ≤ 4097 }
+    {
+        frame_len(&self.components)
     }
 }

@@ -1,7 +1,7 @@
 //! The count of octets that a rule's value has (RFC 8955 section 4.1).
 
 ghost use Rattle.std.specs.Prelude.{◌≡◌, ◌<◌, ◌≤◌, nat_le, length};
-ghost use Rattle.fs_nlri.specs.{Spelling.{octets_for}, Component.{body_of, part_of, parts_of}, Rule.{canonical_body, canonical_part, canonical_value}};
+ghost use Rattle.fs_nlri.specs.{Spelling.{octets_for}, Component.{body_of, part_of, parts_of}, Rule.{canonical_body, canonical_part, canonical_value, framed}};
 
 use crate::component::{Component, Content, PrefixForm};
 
@@ -59,4 +59,14 @@ pub(crate) fn value_len(components: &[Component]) -> usize
         len += component_len(component);
     }
     len
+}
+
+/// How many octets the components' frame has, its length in its short form below 240.
+pub(crate) fn frame_len(components: &[Component]) -> usize
+    requires { length (canonical_value (parts_of components.now)) ≤ 4095 }
+    ensures value { result ≡ length (framed (parts_of components.now)) }
+    ensures small { result ≤ 4097 }
+{
+    let len = value_len(components);
+    if len < 240 { 1 + len } else { 2 + len }
 }

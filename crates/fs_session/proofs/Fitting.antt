@@ -1,35 +1,30 @@
--- The update of a rule can be written, and with AS numbers of two octets it is no longer than with four.
-use Rattle.fs_session.proofs.Words.{◌≡◌, ℕ, ◌+◌, ◌≤◌, ◌==◌, Bool, true, false, ◌&&◌, nat_le, nat_lt, List, [], ◌∷◌, ◌++◌, length, Result, refl, subst}
-use Rattle.fs_session.proofs.Words.{arith, if◌then◌else◌, length-append, IsTrue, bit_or, flat_map, list_all, nat_tests, leb-true, big_bytes, Config}
-use Rattle.fs_session.proofs.Words.{Peer, Terms, Update, as_text, segments_text, segment, attribute_text, long_text, flags_of, Writes, update_text}
-use Rattle.fs_session.proofs.Words.{written_attributes, local_pref_in, actions_in, reach_text, Sent, Sending, segments_sent, update_by, body_by}
-use Rattle.fs_session.proofs.Words.{is_short, is_sending, terms_of}
+-- How long the UPDATE of a rule is. With AS numbers of two octets it is no longer than with four.
+use Rattle.fs_session.proofs.Words.{◌≡◌, ℕ, ◌+◌, ◌*◌, ◌≤◌, ◌==◌, Bool, true, false, ◌&&◌, nat_le, nat_lt, List, [], ◌∷◌, ◌++◌, ◌∙◌, ap, length}
+use Rattle.fs_session.proofs.Words.{Result, refl, subst, arith, if◌then◌else◌, append-nil, length-append, IsTrue, bit_or, flat_map, list_all, nat_tests}
+use Rattle.fs_session.proofs.Words.{leb-true, big_bytes, AllByRecursion, Config, Peer, Terms, Update, as_text, as_width, segments_text, segment}
+use Rattle.fs_session.proofs.Words.{attribute_text, long_text, flags_of, Writes, update_text, local_pref_in, actions_in, reach_text, Sent, Sending}
+use Rattle.fs_session.proofs.Words.{attribute_size, path_size, segments_sent, update_by, body_by, is_short, is_sending, terms_of}
 use Rattle.fs_base.proofs.Bools.{and_both, and_parts}
+use Rattle.fs_nlri.specs.Rule.{canonical_frame}
+use Rattle.fs_actions.specs.{Actions.{IsActions}, Community.{IsAction}}
 use Rattle.fs_attrs.specs.{declared.update.{WriteFault.{WriteFault}, Routes.TheVariants.{Flow}}, Attributes.{attribute}}
+use Rattle.std.specs.List.{concat}
 
-numbers_shorter : (numbers : List ℕ) → length (flat_map (as_text false) numbers) ≤ length (flat_map (as_text true) numbers)
-numbers_shorter [] = omega arith
-numbers_shorter (asn ∷ numbers) =
-    let rest = numbers_shorter numbers in
-    let two : length (flat_map (as_text false) (asn ∷ numbers)) ≡ 2 + length (flat_map (as_text false) numbers) =
-    length-append (as_text false asn) (flat_map (as_text false) numbers) in
-    let four : length (flat_map (as_text true) (asn ∷ numbers)) ≡ 4 + length (flat_map (as_text true) numbers) =
-    length-append (as_text true asn) (flat_map (as_text true) numbers) in
-    omega (arith, rest, two, four)
+numbers_long : (four : Bool) (numbers : List ℕ) → length (flat_map (as_text four) numbers) ≡ as_width four * length numbers
+numbers_long true [] = refl
+numbers_long false [] = refl
+numbers_long true (asn ∷ numbers) = omega (arith, numbers_long true numbers, length-append (as_text true asn) (flat_map (as_text true) numbers))
+numbers_long false (asn ∷ numbers) = omega (arith, numbers_long false numbers, length-append (as_text false asn) (flat_map (as_text false) numbers))
 
-one_segment : (four : Bool) (numbers : List ℕ) → length (segments_text four (segment 2 numbers ∷ [])) ≡ 2 + length (flat_map (as_text four) numbers)
-one_segment four numbers = omega (arith, length-append (2 ∷ length numbers ∷ flat_map (as_text four) numbers) [])
-
-segments_shorter : (numbers : List ℕ) → length (segments_text false (segments_sent numbers)) ≤ length (segments_text true (segments_sent numbers))
-segments_shorter numbers = at (length numbers == 0)
+path_long : (four : Bool) (numbers : List ℕ) → length (segments_text four (segments_sent numbers)) ≡ path_size four (length numbers)
+path_long four numbers = at (length numbers == 0)
   where
-    at : (none : Bool) → length (segments_text false (if none then [] else segment 2 numbers ∷ []))
-        ≤ length (segments_text true (if none then [] else segment 2 numbers ∷ []))
-    at true = omega arith
-    at false = omega (arith, numbers_shorter numbers, one_segment false numbers, one_segment true numbers)
+    at : (none : Bool) → length (segments_text four (if none then [] else segment 2 numbers ∷ []))
+        ≡ (if none then 0 else 2 + as_width four * length numbers)
+    at true = refl
+    at false = omega (arith, length-append (2 ∷ length numbers ∷ flat_map (as_text four) numbers) [], numbers_long four numbers)
 
-attribute_long : (kind : ℕ) (value : List ℕ)
-    → length (attribute_text (attribute kind value)) ≡ (if nat_lt 255 (length value) then 4 + length value else 3 + length value)
+attribute_long : (kind : ℕ) (value : List ℕ) → length (attribute_text (attribute kind value)) ≡ attribute_size (length value)
 attribute_long kind value = at (nat_lt 255 (length value))
   where
     at : (wide : Bool) → length (if wide then bit_or (flags_of kind) 16 ∷ kind ∷ long_text value else flags_of kind ∷ kind ∷ length value ∷ value)
@@ -37,7 +32,64 @@ attribute_long kind value = at (nat_lt 255 (length value))
     at true = omega (arith, length-append (big_bytes 2 (length value)) value)
     at false = omega arith
 
-grows : (m n : ℕ) → m ≤ n → (if nat_lt 255 m then 4 + m else 3 + m) ≤ (if nat_lt 255 n then 4 + n else 3 + n)
+concat_long : (actions : List (List ℕ)) → AllByRecursion IsAction actions → length (concat actions) ≡ 8 * length actions
+concat_long [] each = refl
+concat_long (action ∷ actions) each = omega (arith, length-append action (concat actions), each.0.eight, concat_long actions each.1)
+
+-- the attribute of actions
+pub actions_long : (actions : List (List ℕ)) (none : Bool) → IsActions actions → (length actions == 0) ≡ none
+    → length (flat_map attribute_text (actions_in actions)) ≡ (if none then 0 else attribute_size (8 * length actions))
+actions_long actions none is e =
+    ap (λ (b : Bool). length (flat_map attribute_text (if b then [] else attribute 16 (concat actions) ∷ []))) e ∙ at none
+  where
+    at : (b : Bool) → length (flat_map attribute_text (if b then [] else attribute 16 (concat actions) ∷ []))
+        ≡ (if b then 0 else attribute_size (8 * length actions))
+    at true = refl
+    at false =
+        ap length (append-nil (attribute_text (attribute 16 (concat actions)))) ∙ attribute_long 16 (concat actions)
+        ∙ ap attribute_size (concat_long actions is.each)
+
+-- The body of a rule's UPDATE, by the octets of its frame, the count of its AS numbers, and the octets of its actions.
+abbrev pub body_size : Terms → ℕ → ℕ → ℕ → ℕ
+body_size terms frame count actions =
+    8 + (attribute_size (5 + frame) + (attribute_size (path_size terms.four count) + ((if terms.external then 0 else 7) + actions)))
+
+pub body_long : (terms : Terms) (numbers : List ℕ) (sent : Sent) → length (body_by terms numbers sent)
+    ≡ body_size terms (length (canonical_frame sent.rule)) (length numbers) (length (flat_map attribute_text (actions_in sent.actions)))
+unfolding body_by
+body_long terms numbers sent =
+    let value : List ℕ = reach_text terms.address (Flow sent.rule.family (sent.rule ∷ [])) in
+    let path : List ℕ = segments_text terms.four (segments_sent numbers) in
+    let reach : List ℕ = attribute_text (attribute 14 value) in
+    let origin : List ℕ = attribute_text (attribute 1 (0 ∷ [])) in
+    let own : List ℕ = attribute_text (attribute 2 path) in
+    let actions : List ℕ = flat_map attribute_text (actions_in sent.actions) in
+    let rest : List ℕ = flat_map attribute_text (local_pref_in terms 100 ++ ([] ++ actions_in sent.actions)) in
+    let valued : length value ≡ 5 + length (canonical_frame sent.rule) =
+    omega (arith, length-append (canonical_frame sent.rule) []) in
+    let reached : length reach ≡ attribute_size (5 + length (canonical_frame sent.rule)) = attribute_long 14 value ∙ ap attribute_size valued in
+    let owned : length own ≡ attribute_size (path_size terms.four (length numbers)) =
+    attribute_long 2 path ∙ ap attribute_size (path_long terms.four numbers) in
+    let all : List ℕ = reach ++ (origin ++ (own ++ rest)) in
+    omega (
+      arith,
+      reached,
+      owned,
+      rests terms.external,
+      length-append reach (origin ++ (own ++ rest)),
+      length-append own rest,
+      length-append (long_text []) (long_text all ++ []),
+      length-append (long_text all) [],
+      length-append (big_bytes 2 (length all)) all,
+    )
+  where
+    rests : (external : Bool)
+        → length (flat_map attribute_text ((if external then [] else attribute 5 (big_bytes 4 100) ∷ []) ++ ([] ++ actions_in sent.actions)))
+        ≡ (if external then 0 else 7) + length (flat_map attribute_text (actions_in sent.actions))
+    rests true = omega arith
+    rests false = omega (arith, length-append (attribute_text (attribute 5 (big_bytes 4 100))) (flat_map attribute_text (actions_in sent.actions)))
+
+grows : (m n : ℕ) → m ≤ n → attribute_size m ≤ attribute_size n
 grows m n h = at (nat_lt 255 m) (nat_lt 255 n) refl refl
   where
     at : (a b : Bool) → nat_lt 255 m ≡ a → nat_lt 255 n ≡ b → (if a then 4 + m else 3 + m) ≤ (if b then 4 + n else 3 + n)
@@ -46,48 +98,18 @@ grows m n h = at (nat_lt 255 m) (nat_lt 255 n) refl refl
     at false true p q = omega (arith, h)
     at false false p q = omega (arith, h)
 
-attribute_shorter : (kind : ℕ) (one other : List ℕ) → length one ≤ length other
-    → length (attribute_text (attribute kind one)) ≤ length (attribute_text (attribute kind other))
-attribute_shorter kind one other h =
-    let at = grows (length one) (length other) h in
-    omega (arith, attribute_long kind one, attribute_long kind other, at)
-
--- octets before, one attribute and octets behind it
-around : (front one other behind : List ℕ) → length one ≤ length other → length (front ++ (one ++ behind)) ≤ length (front ++ (other ++ behind))
-around front one other behind h =
-    omega (arith, h, length-append front (one ++ behind), length-append front (other ++ behind), length-append one behind, length-append other behind)
-
-long_shorter : (one other : List ℕ) → length one ≤ length other
-    → length (long_text [] ++ (long_text one ++ [])) ≤ length (long_text [] ++ (long_text other ++ []))
-long_shorter one other h =
-    omega (
-      arith,
-      h,
-      length-append (long_text []) (long_text one ++ []),
-      length-append (long_text []) (long_text other ++ []),
-      length-append (long_text one) [],
-      length-append (long_text other) [],
-      length-append (big_bytes 2 (length one)) one,
-      length-append (big_bytes 2 (length other)) other,
-    )
+path_shorter : (count : ℕ) → path_size false count ≤ path_size true count
+path_shorter count = at (count == 0)
+  where
+    at : (none : Bool) → (if none then 0 else 2 + 2 * count) ≤ (if none then 0 else 2 + 4 * count)
+    at true = omega arith
+    at false = omega arith
 
 body_shorter : (config : Config) (peer : Peer) (numbers : List ℕ) (sent : Sent)
     → length (body_by (terms_of config peer false) numbers sent) ≤ length (body_by (terms_of config peer true) numbers sent)
-unfolding body_by
 body_shorter config peer numbers sent =
-    let terms : Bool → Terms = terms_of config peer in
-    let update : Update = update_by (terms true) numbers sent in
-    let path_text : Bool → List ℕ = λ four. attribute_text (attribute 2 (segments_text four (segments_sent numbers))) in
-    let reach : List ℕ = attribute_text (attribute 14 (reach_text peer.address (Flow sent.rule.family (sent.rule ∷ [])))) in
-    let origin : List ℕ = attribute_text (attribute 1 (0 ∷ [])) in
-    let behind : List ℕ = flat_map attribute_text (local_pref_in (terms true) 100 ++ ([] ++ actions_in sent.actions)) in
-    let shorter : length (path_text false) ≤ length (path_text true) =
-    attribute_shorter 2 (segments_text false (segments_sent numbers)) (segments_text true (segments_sent numbers)) (segments_shorter numbers) in
-    let inner : length (origin ++ (path_text false ++ behind)) ≤ length (origin ++ (path_text true ++ behind)) =
-    around origin (path_text false) (path_text true) behind shorter in
-    let outer : length (reach ++ (origin ++ (path_text false ++ behind))) ≤ length (reach ++ (origin ++ (path_text true ++ behind))) =
-    omega (arith, inner, length-append reach (origin ++ (path_text false ++ behind)), length-append reach (origin ++ (path_text true ++ behind))) in
-    long_shorter (flat_map attribute_text (written_attributes (terms false) update)) (flat_map attribute_text (written_attributes (terms true) update)) outer
+    let less = grows (path_size false (length numbers)) (path_size true (length numbers)) (path_shorter (length numbers)) in
+    omega (arith, less, body_long (terms_of config peer false) numbers sent, body_long (terms_of config peer true) numbers sent)
 
 below : (m n k : ℕ) → m ≤ n → nat_le (19 + n) k ≡ true → nat_le (19 + m) k ≡ true
 below m n k less h = grind (arith, nat_tests)

@@ -1,9 +1,9 @@
 -- What an announcing end is to send: the rules of a file, under one path, to the peer that it speaks for.
-use Rattle.std.specs.Prelude.{ℕ, ◌+◌, ◌==◌, Bool, true, false, ◌&&◌, nat_le, nat_lt, if◌then◌else◌, List, [], ◌∷◌, length, find, Option, Some, None}
+use Rattle.std.specs.Prelude.{ℕ, ◌+◌, ◌*◌, ◌==◌, Bool, true, false, ◌&&◌, nat_le, nat_lt, if◌then◌else◌, List, [], ◌∷◌, length, find, Option, Some, None}
 use Rattle.std.specs.List.{list_all, list_any}
 use Rattle.fs_base.specs.{declared.{config.{Config.{Config}, Peer.{Peer}}, path.{Path.{Path}, Segment.{Segment}}}, Bits.{afi_of}}
 use Rattle.fs_message.specs.Write.{message_text}
-use Rattle.fs_attrs.specs.{declared.update.{Terms.{Terms}, Update.{Update}, Routes.TheVariants.{Flow}}, Segments.{segment}, Write.{update_text}}
+use Rattle.fs_attrs.specs.{declared.update.{Terms.{Terms}, Update.{Update}, Routes.TheVariants.{Flow}}, Segments.{as_width, segment}, Write.{update_text}}
 use Rattle.fs_session.specs.{declared.{sending.{Sent.{Sent}, Sending.{Sending}}, side.Needs.{Needs}}, Transition.{terms_of}}
 
 -- The peer that rules are sent for: the one with the lowest number.
@@ -45,6 +45,13 @@ body_by terms numbers sent = update_text terms (update_by terms numbers sent)
 
 abbrev pub text_by : Terms → List ℕ → Sent → List ℕ
 text_by terms numbers sent = message_text 2 (body_by terms numbers sent)
+
+-- The octets of an attribute, by those of its value, and those of the numbers as one AS_SEQUENCE.
+abbrev pub attribute_size : ℕ → ℕ
+attribute_size len = if nat_lt 255 len then 4 + len else 3 + len
+
+abbrev pub path_size : Bool → ℕ → ℕ
+path_size four count = if count == 0 then 0 else 2 + as_width four * count
 
 -- It fits the 4096 octets of a message.
 abbrev pub is_short : Terms → List ℕ → Sent → Bool

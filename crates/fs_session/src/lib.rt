@@ -7,6 +7,7 @@ mod laws;
 mod sending;
 mod session;
 mod side;
+mod size;
 mod state;
 mod times;
 mod transition;

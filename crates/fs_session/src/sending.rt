@@ -7,6 +7,7 @@ ghost use Rattle.fs_message.specs.Write.{AppendsWhole};
 ghost use Rattle.fs_session.specs.Sending.{is_lowest, sender_of, has_family, segments_sent, path_by, update_by, body_by, text_by, is_short};
 
 use crate::side::{Needs, terms};
+use crate::size::is_short;
 use fs_actions::Actions;
 use fs_attrs::{PrefixList, Routes, RuleList, Terms, Update, WriteFault, write_update};
 use fs_base::{AS_SEQUENCE, Config, Family, Items, Memory, Numbers, Path, Peer, Segment, Segments};
@@ -48,15 +49,15 @@ impl Sending {
 
     /// Whether it may be sent for this peer: it has at most 255 AS numbers, none of them is 0, and the UPDATE of
     /// each rule fits the 4096 octets of a message, with AS numbers of four octets.
-    pub fn may_be_sent(&self, alloc: Global, config: &Config, peer: &Peer) -> Result<bool, Memory>
-        ensures { IfOk result (λ yes. yes ≡ is_sending config.now peer.now self.now) }
+    pub fn may_be_sent(&self, config: &Config, peer: &Peer) -> bool
+        ensures { result ≡ is_sending config.now peer.now self.now }
     {
         let numbers = self.as_path.as_slice();
         if numbers.len() > 255 || !are_positive(numbers) {
-            return Ok(false);
+            return false;
         }
         let terms = terms(config, peer, true);
-        are_short(alloc, &terms, &self.as_path, self.rules.as_slice())
+        are_short(&terms, &self.as_path, self.rules.as_slice())
     }
 }
 
@@ -81,34 +82,18 @@ fn is_lowest(peers: &[Peer], peer: &Peer) -> bool
 }
 
 /// Whether the UPDATE of each rule fits the 4096 octets of a message.
-fn are_short(
-    alloc: Global,
-    terms: &Terms,
-    numbers: &Numbers,
-    rules: &[Sent],
-) -> Result<bool, Memory>
+fn are_short(terms: &Terms, numbers: &Numbers, rules: &[Sent]) -> bool
     requires { length numbers.now ≤ 255 }
-    ensures { IfOk result (λ yes. yes ≡ list_all (is_short terms.now numbers.now) rules.now) }
+    ensures { result ≡ list_all (is_short terms.now numbers.now) rules.now }
 {
     let mut rest = rules;
     while let [first, others @ ..] = rest {
-        if !is_short(alloc, terms, numbers, first)? {
-            return Ok(false);
+        if !is_short(terms, numbers, first) {
+            return false;
         }
         rest = others;
     }
-    Ok(true)
-}
-
-fn is_short(alloc: Global, terms: &Terms, numbers: &Numbers, sent: &Sent) -> Result<bool, Memory>
-    requires { length numbers.now ≤ 255 }
-    ensures { IfOk result (λ yes. yes ≡ is_short terms.now numbers.now sent.now) }
-{
-    match write_rule(terms, numbers, sent, &mut Vec::new(alloc)) {
-        Ok(()) => Ok(true),
-        Err(WriteFault::TooLong) => Ok(false),
-        Err(WriteFault::Memory) => Err(Memory),
-    }
+    true
 }
 
 fn are_positive(numbers: &[u32]) -> bool

@@ -107,10 +107,10 @@ fn sending(alloc: Global, config: &Config) -> Option<Sending>
 {
     let sending: Result<Sending, ConfFault> = read_rules(alloc, RULES, config);
     let sending = sending.ok()?;
-    match sending.may_be_sent(alloc, config, sender(config)?) {
-        Ok(true) => Some(sending),
-        _ => None,
+    if !sending.may_be_sent(config, sender(config)?) {
+        return None;
     }
+    Some(sending)
 }
 
 /// OCTETS OCTETS that peer 1's session hears, the second ones at 1000; it ticks at 2000, and ceases.
