@@ -32,4 +32,4 @@ impl fmt::Display for CaptureReason {
 pub type CaptureFault = Fault<CaptureReason>;
 
 /// What a call answers that reads a capture.
-pub type Answer<T> = Result<T, CaptureFault>;
+pub(crate) type Answer<T> = Result<T, CaptureFault>;

@@ -11,7 +11,7 @@ use std::alloc::Global;
 
 /// What a reading changes.
 #[derive(Drop)]
-pub enum Judged {
+pub(crate) enum Judged {
     /// These rules are to be kept.
     Accepted(Sending),
     /// The file isn't accepted, for this reason.
@@ -23,7 +23,7 @@ pub enum Judged {
 /// # Errors
 ///
 /// `Memory` where the machine refused memory.
-pub fn judge(alloc: Global, shelf: &Shelf, config: &Config) -> Result<Judged, Memory>
+pub(crate) fn judge(alloc: Global, shelf: &Shelf, config: &Config) -> Result<Judged, Memory>
     ensures judged { IfOk result (λ judged. IsJudged config.now (held_in shelf.now) (judged_as judged)) }
     ensures kept { IfOk result (λ judged. MayBeKept config.now (judged_as judged)) }
 {

@@ -10,7 +10,7 @@ use fs_speaker::Closed;
 use std::alloc::Global;
 
 /// The line of a session that ended before it was established.
-pub fn ended_line() -> &'static [u8]
+pub(crate) fn ended_line() -> &'static [u8]
     ensures { result.now ≡ ended_line }
 {
     b"session ended\n"
@@ -21,7 +21,7 @@ pub fn ended_line() -> &'static [u8]
 /// # Errors
 ///
 /// `Memory` where the machine refused memory, also where the session closed for that.
-pub fn closing_line(alloc: Global, why: Closed) -> Result<Vec<u8>, Memory>
+pub(crate) fn closing_line(alloc: Global, why: Closed) -> Result<Vec<u8>, Memory>
     ensures { IfOk result (λ text. text.items ≡ closing_line why) }
 {
     let mut text = Vec::new(alloc);
@@ -49,7 +49,7 @@ fn append_closing(why: Closed, text: &mut Vec<u8>) -> Result<(), Memory>
 /// # Errors
 ///
 /// `Memory` where the machine refused memory.
-pub fn sent_line(alloc: Global, count: usize) -> Result<Vec<u8>, Memory>
+pub(crate) fn sent_line(alloc: Global, count: usize) -> Result<Vec<u8>, Memory>
     ensures { IfOk result (λ text. text.items ≡ sent_line count) }
 {
     let mut text = Vec::new(alloc);

@@ -22,7 +22,7 @@ use std::alloc::Global;
 /// `Session` behind the line of a session that closed or ended, `Limit` where as many octets as the limit came,
 /// `Memory` where the machine refused memory, and then nothing is written; `Outside` where the sink failed, and then a
 /// front of the text is.
-pub fn tell_listing<S: Sink>(
+pub(crate) fn tell_listing<S: Sink>(
     alloc: Global,
     ending: Ending,
     desk: &Desk<'_>,

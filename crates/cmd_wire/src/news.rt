@@ -14,7 +14,7 @@ use std::alloc::Global;
 /// # Errors
 ///
 /// `Failed` where the sink failed, `Memory` where the machine refused memory; a front of the line was written then.
-pub fn write_news<S: Sink>(
+pub(crate) fn write_news<S: Sink>(
     alloc: Global,
     moment: u64,
     news: Option<News>,
@@ -40,7 +40,7 @@ pub fn write_news<S: Sink>(
 /// # Errors
 ///
 /// `Failed` where the sink failed, `Memory` where the machine refused memory; a front of the line was written then.
-pub fn write_kept<S: Sink>(
+pub(crate) fn write_kept<S: Sink>(
     alloc: Global,
     moment: u64,
     reason: &str,

@@ -13,7 +13,7 @@ const SECOND: u64 = 1000;
 
 /// What a reading found.
 #[derive(Drop)]
-pub enum Holding {
+pub(crate) enum Holding {
     /// A file that was read whole, with these octets.
     Whole(Vec<u8>),
     /// No file.
@@ -41,7 +41,7 @@ impl Holding {
 /// What a file holds, as its readings have it: at first what the first one finds; then what two of them find that are a
 /// second apart, so that a file which is being written doesn't count.
 #[derive(Drop)]
-pub struct Shelf {
+pub(crate) struct Shelf {
     settled: Option<Holding>,
     changed: Option<Holding>,
     since: u64,

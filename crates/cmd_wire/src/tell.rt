@@ -20,7 +20,7 @@ use std::alloc::Global;
 /// `Session` behind the line of a session that closed or ended, `Limit` where as many octets as the limit came,
 /// `Memory` where the machine refused memory, and then nothing is written; `Outside` where the sink failed, and then a
 /// front of the line is.
-pub fn tell_ending<S: Sink>(
+pub(crate) fn tell_ending<S: Sink>(
     alloc: Global,
     ending: Ending,
     count: usize,

@@ -16,7 +16,7 @@ const MOST: u32 = 1_000_000;
 
 /// A command, and what it is to read.
 #[derive(Clone, Copy, Drop)]
-pub enum Command<'w> {
+pub(crate) enum Command<'w> {
     /// Plays a tape, and judges the packets of a capture by the rules that it admits at their moments.
     Enforce(InputNames<'w>),
     /// Plays a tape, and surveys what it leaves.
@@ -58,7 +58,7 @@ pub enum Command<'w> {
 
 /// What a word is to be checked as.
 #[derive(Clone, Copy, Debug, PartialEq, Eq, Drop)]
-pub enum Subject {
+pub(crate) enum Subject {
     /// NLRI of the family, in hexadecimal.
     Nlri(Family),
     /// The text of a rule and its actions.
@@ -66,7 +66,7 @@ pub enum Subject {
 }
 
 /// The command that the words after the program's name ask for, or None where they ask for none.
-pub fn parse(words: &[String]) -> Option<Command<'_>>
+pub(crate) fn parse(words: &[String]) -> Option<Command<'_>>
     ensures { option_map form_shown result ≡ form_of (map string_bytes words.now) }
 {
     match words {

@@ -17,7 +17,7 @@ use std::alloc::Global;
 
 /// A file that is checked, by its kind.
 #[derive(Clone, Copy, Drop)]
-pub enum CheckedFile<'w> {
+pub(crate) enum CheckedFile<'w> {
     /// A configuration.
     Config(&'w str),
     /// A rules file beside a configuration.

@@ -15,7 +15,7 @@ use std::alloc::Global;
 
 /// What is told of the routes that a tape leaves.
 #[derive(Clone, Copy, Drop)]
-pub enum Survey {
+pub(crate) enum Survey {
     /// A line for each configured peer, by number, then for IPv4 and for IPv6 the admitted rules in order and the held
     /// routes that aren't valid.
     Rules,
@@ -30,7 +30,7 @@ pub enum Survey {
 /// # Errors
 ///
 /// The first of these, in this order of work: the configuration's, the tape's, the sink's.
-pub fn survey_tape<F: Files, S: Sink>(
+pub(crate) fn survey_tape<F: Files, S: Sink>(
     alloc: Global,
     files: &mut F,
     sink: &mut S,

@@ -28,7 +28,7 @@ const MOST: usize = 0xffff_ffff;
 
 /// The rules of a family in order, compiled, with their actions, and the buckets of their destinations.
 #[derive(Drop)]
-pub struct Index {
+pub(crate) struct Index {
     buckets: Buckets,
     rules: Vec<Fast>,
     filters: Filters,

@@ -16,7 +16,7 @@ use std::sync::ledger::Ledger;
 
 /// Takes away what the update takes, and then keeps what it gives. What it gives is taken away too where it is to be
 /// treated as a withdrawal (RFC 7606 section 2).
-pub fn apply<L: Ledger>(
+pub(crate) fn apply<L: Ledger>(
     table: &mut WatchedTable<'_>,
     peer: u16,
     update: Update,

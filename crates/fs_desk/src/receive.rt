@@ -16,7 +16,7 @@ use std::sync::ledger::{Blank, Ledger};
 
 /// Feeds the peer's session with the piece, and the table with the updates that come of it. The replies are appended to
 /// `replies`; after `Memory` those up to there stay.
-pub fn receive<L: Ledger>(
+pub(crate) fn receive<L: Ledger>(
     blank: Blank,
     session: &mut Session<'_>,
     table: &mut WatchedTable<'_>,

@@ -17,7 +17,7 @@ use std::marker::Model;
 
 /// A tape and the desk beside it. Each record is written before the desk hears of it.
 #[derive(Drop)]
-pub struct Books<'a> {
+pub(crate) struct Books<'a> {
     desk: Desk<'a>,
     scribe: Scribe,
 }

@@ -14,11 +14,11 @@ const SWEEP: u64 = 500;
 
 /// A connection has so many milliseconds from its taking to be established (RFC 4271, section 8.2.2: a large hold time, for
 /// which four minutes are suggested).
-pub const OPEN_TIME: u64 = 240_000;
+pub(crate) const OPEN_TIME: u64 = 240_000;
 
 /// A connection that waits, its address, and the time in milliseconds when it was taken.
 #[derive(Clone, Copy, Debug, PartialEq, Eq, Drop)]
-pub struct Guest {
+pub(crate) struct Guest {
     pub line: u64,
     pub from: Address,
     pub since: u64,
@@ -26,7 +26,7 @@ pub struct Guest {
 
 /// When the clock was last heard of all connections, and those that wait, in the order in which they were taken.
 #[derive(Drop)]
-pub struct Door {
+pub(crate) struct Door {
     swept: u64,
     guests: Vec<Guest>,
 }
@@ -123,7 +123,7 @@ fn forget_late(guests: &mut Vec<Guest>, time: u64)
 }
 
 /// Whether a connection that was taken then has time left at another time to be established.
-pub fn has_time(since: u64, time: u64) -> bool
+pub(crate) fn has_time(since: u64, time: u64) -> bool
     ensures { result ≡ nat_lt (time - since) open_time }
 {
     time.saturating_sub(since) < OPEN_TIME
@@ -148,7 +148,7 @@ fn close_where_late<G: Gate>(guest: Guest, time: u64, gate: &mut G)
 }
 
 /// The AS in the own field of an OPEN that stands at the front of these octets, as far as that field (RFC 4271, section 4.2).
-pub fn said_as(octets: &[u8]) -> Option<u16>
+pub(crate) fn said_as(octets: &[u8]) -> Option<u16>
     ensures { result ≡ said_as octets.now }
 {
     if octets.len() < 22 {

@@ -18,7 +18,7 @@ const MAGIC: [u8; 8] = *b"FSTAPE2\n";
 
 /// What a record says of its peer.
 #[derive(Clone, Copy, Debug, PartialEq, Eq, Drop)]
-pub enum Kind {
+pub(crate) enum Kind {
     /// It came up.
     Up,
     /// It sent the payload.
@@ -30,7 +30,7 @@ pub enum Kind {
 /// Where a tape stands that is written: the moment of its next record (nanoseconds from 1970), how many octets it has, and
 /// how many are too many.
 #[derive(Drop)]
-pub struct Scribe {
+pub(crate) struct Scribe {
     moment: u64,
     written: u64,
     limit: u64,

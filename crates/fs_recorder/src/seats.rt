@@ -21,7 +21,7 @@ pub struct Seat {
 /// # Errors
 ///
 /// `Memory` where the machine refused memory.
-pub fn add(seats: &mut Vec<Seat>, seat: Seat) -> Result<(), Memory>
+pub(crate) fn add(seats: &mut Vec<Seat>, seat: Seat) -> Result<(), Memory>
     ensures { OnOk result (seats.new.items ≡ seats.old.items ++ seat ∷ []) }
 {
     seats.push(seat)?;
@@ -29,14 +29,14 @@ pub fn add(seats: &mut Vec<Seat>, seat: Seat) -> Result<(), Memory>
 }
 
 /// The seat of this line goes.
-pub fn remove(seats: &mut Vec<Seat>, line: u64)
+pub(crate) fn remove(seats: &mut Vec<Seat>, line: u64)
     ensures { seats.new.items ≡ without line seats.old.items }
 {
     seats.retain(|seat| seat.line != line);
 }
 
 /// The seat of this line.
-pub fn seat_of(seats: &[Seat], line: u64) -> Option<Seat>
+pub(crate) fn seat_of(seats: &[Seat], line: u64) -> Option<Seat>
     ensures { result ≡ seat_of line seats.now }
 {
     of_line(seats, line).copied()
@@ -49,7 +49,7 @@ fn of_line(seats: &[Seat], line: u64) -> Option<&Seat>
 }
 
 /// The seat of this peer.
-pub fn seat_for(seats: &[Seat], peer: u16) -> Option<Seat>
+pub(crate) fn seat_for(seats: &[Seat], peer: u16) -> Option<Seat>
     ensures { result ≡ seat_for peer seats.now }
 {
     of_peer(seats, peer).copied()
@@ -110,7 +110,12 @@ fn free_of<'p>(peers: &'p [Peer], seats: &[Seat], from: Address, number: u16) ->
 
 /// The first of these peers that has this address, no seat and, where an AS was told as OPEN's own field has it, that AS; or
 /// else the first that has the address and no seat.
-pub fn free_by(peers: &[Peer], seats: &[Seat], from: Address, told: Option<u16>) -> Option<Peer>
+pub(crate) fn free_by(
+    peers: &[Peer],
+    seats: &[Seat],
+    from: Address,
+    told: Option<u16>,
+) -> Option<Peer>
     ensures { result ≡ free_by from told seats.now peers.now }
 {
     let named = match told {
@@ -124,7 +129,7 @@ pub fn free_by(peers: &[Peer], seats: &[Seat], from: Address, told: Option<u16>)
 }
 
 /// Whether the peers that have this address and no seat are told apart by their ASes as OPEN's own field has them.
-pub fn are_told_apart(peers: &[Peer], seats: &[Seat], from: Address) -> bool
+pub(crate) fn are_told_apart(peers: &[Peer], seats: &[Seat], from: Address) -> bool
     ensures { result ≡ are_told_apart from seats.now peers.now }
 {
     match free_peer(peers, seats, from) {
@@ -140,7 +145,7 @@ fn has_other(peers: &[Peer], seats: &[Seat], from: Address, number: u16) -> bool
 }
 
 /// The first of these peers that has this address.
-pub fn first_peer(peers: &[Peer], from: Address) -> Option<Peer>
+pub(crate) fn first_peer(peers: &[Peer], from: Address) -> Option<Peer>
     ensures { result ≡ first_peer from peers.now }
 {
     first(peers, from).copied()

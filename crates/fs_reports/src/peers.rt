@@ -11,7 +11,7 @@ use fs_speaker::{Closed, Standing, State};
 use std::alloc::Global;
 
 /// Appends the lines of the configured peers, by their numbers.
-pub fn append_peers(desk: &Desk<'_>, text: &mut Vec<u8>) -> Result<(), Memory>
+pub(crate) fn append_peers(desk: &Desk<'_>, text: &mut Vec<u8>) -> Result<(), Memory>
     ensures { OnOk result (text.new.items ≡ text.old.items ++ desk_peers desk.now) }
 {
     let numbers = peer_numbers(*text.allocator(), desk.config().peers.as_slice())?;

@@ -16,7 +16,11 @@ use fs_validate::Validity;
 
 /// Appends the lines of a family's rules: of the admitted ones in order, each with its number from 1, and then of each
 /// held route that isn't valid, with the reason, in the order of rules, then by peer.
-pub fn append_rules(family: Family, table: &Table<'_>, text: &mut Vec<u8>) -> Result<(), Memory>
+pub(crate) fn append_rules(
+    family: Family,
+    table: &Table<'_>,
+    text: &mut Vec<u8>,
+) -> Result<(), Memory>
     ensures { OnOk result (text.new.items ≡ text.old.items ++ family_text family table.now) }
 {
     let admitted = table.admitted(family)?;

@@ -8,7 +8,7 @@ use std::alloc::Global;
 
 /// A part of a word.
 #[derive(Clone, Copy)]
-pub enum Piece<'a> {
+pub(crate) enum Piece<'a> {
     /// Letters and digits.
     Run(&'a [u8]),
     /// An octet of another kind.
