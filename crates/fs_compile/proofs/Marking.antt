@@ -4,6 +4,7 @@ use Rattle.fs_compile.proofs.Words.{true≢false, ◌||◌, bit_or, set, take, L
 use Rattle.fs_compile.proofs.Words.{get_or-set_other, get_or-set_same, length-set, bit_at-lt, bit_at_or, bit_at_set_same, Fast, AreMarked}
 use Rattle.fs_compile.proofs.Words.{ArePortsMarked, Grown, IsClass, bit_in, Facts, key_of, facts_hold, hits, contains, is_in}
 use Rattle.std.proofs.lemmas.List.Folds.{list_any_more}
+use Rattle.fs_ranges.specs.declared.Field.{Field, TheVariants.{DestinationPort, SourcePort}}
 use Rattle.fs_ranges.specs.{declared.Limit.{Limit}, Limits.{allows, allows_port}, Facts.{number_of}}
 
 abbrev pub with_bit : ℕ → ℕ → ℕ
@@ -56,13 +57,13 @@ range_more rows new words class rule number i ranges range inside grown before h
       by false false e f t = absurd (true≢false (sym t))
 
 -- Of a run's rules one more is marked.
-pub rule_more : (rules : List Fast) (first number field words : ℕ) (bounds rows new : List ℕ) (fast : Fast) (limit : Limit) → number < length rules
+pub rule_more : (rules : List Fast) (first number words : ℕ) (field : Field) (bounds rows new : List ℕ) (fast : Fast) (limit : Limit) → number < length rules
     → fast ≡ get_or rules number fast → Grown rows new
     → AreMarked rules first number field bounds rows words
     → ((facts : Facts) → facts_hold facts fast ≡ true → allows limit (key_of facts field) ≡ true)
     → ((n class : ℕ) → allows limit n ≡ true → IsClass bounds n class → bit_in new words class (number - first) ≡ 1)
     → AreMarked rules first (number + 1) field bounds new words
-rule_more rules first number field words bounds rows new fast limit inside same grown before within marked facts k class from to hit classed =
+rule_more rules first number words field bounds rows new fast limit inside same grown before within marked facts k class from to hit classed =
     by (cases_lt k number) where
       by : (k < number) ⊎ (number ≤ k) → bit_in new words class (k - first) ≡ 1
       by (inl earlier) = grown.kept (class * words + (k - first) / 64) ((k - first) % 64) (before facts k class from earlier hit classed)
@@ -100,11 +101,11 @@ ports_more rules first number words destination source to from to_new from_new f
           let holds : facts_hold facts fast ≡ true = subst (λ (f : Fast). facts_hold facts f ≡ true) (sym same)
           (sym (get_or-map (facts_hold facts) rules number fast false inside) ∙ subst (λ (n : ℕ). get_or (hits facts rules) n false ≡ true) (sym here) hit) in
           subst (λ (n : ℕ). max (bit_in to_new words class (n - first)) (bit_in from_new words other (n - first)) ≡ 1) here
-          (set (allows limit (number_of facts 6)) (allows limit (number_of facts 5)) refl refl (within facts holds)) where
-            set : (a b : Bool) → allows limit (number_of facts 6) ≡ a → allows limit (number_of facts 5) ≡ b → (a || b) ≡ true
+          (set (allows limit (number_of facts SourcePort)) (allows limit (number_of facts DestinationPort)) refl refl (within facts holds)) where
+            set : (a b : Bool) → allows limit (number_of facts SourcePort) ≡ a → allows limit (number_of facts DestinationPort) ≡ b → (a || b) ≡ true
                 → max (bit_in to_new words class (number - first)) (bit_in from_new words other (number - first)) ≡ 1
-            set true b e f t = let s : bit_in from_new words other (number - first) ≡ 1 = again (number_of facts 6) other e others in
+            set true b e f t = let s : bit_in from_new words other (number - first) ≡ 1 = again (number_of facts SourcePort) other e others in
                 let l : bit_in to_new words class (number - first) < 2 = bit_at-lt _ _ in omega (arith, s, l)
-            set false true e f t = let s : bit_in to_new words class (number - first) ≡ 1 = marked (number_of facts 5) class f classed in
+            set false true e f t = let s : bit_in to_new words class (number - first) ≡ 1 = marked (number_of facts DestinationPort) class f classed in
                 let l : bit_in from_new words other (number - first) < 2 = bit_at-lt _ _ in omega (arith, s, l)
             set false false e f t = absurd (true≢false (sym t))

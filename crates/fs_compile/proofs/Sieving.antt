@@ -4,7 +4,7 @@ use Rattle.fs_compile.proofs.Words.{bit_and, map, List, get_or, length, w64, ari
 use Rattle.fs_compile.proofs.Words.{bit_at-trailing_zeros, bit_at-zero, bit_at_and, bit_at_or, false_from, Rows, PortRows, Fast, ArePortRows, IsClass}
 use Rattle.fs_compile.proofs.Words.{IsRow, bit_in, words_for, Facts, AreRows, first_at, front_of, word_of, Missed, hits}
 use Rattle.std.proofs.{Math.Nat.{div-div-eq-div-mul, div-le_self}, lemmas.Nat.{pow-add}}
-use Rattle.fs_ranges.specs.Facts.{number_of}
+use Rattle.fs_ranges.specs.{declared.Field.TheVariants.{DestinationPort, SourcePort}, Facts.{number_of}}
 
 -- the bits of a number without its lowest ones
 shifted : (n a i : ℕ) → bit_at (n / 2 ^ a) i ≡ bit_at n (a + i)
@@ -117,7 +117,7 @@ fewer_rows tests end to rows least are = record {
 -- where a rule matches, its bit is set in the row of one port or the other
 pub port_set : (rules : List Fast) (facts : Facts) (first end words class other : ℕ) (destination source to from : List ℕ) (rows : PortRows)
     → words ≡ words_for (end - first) → ArePortRows rules first end destination source rows
-    → IsClass destination (number_of facts 5) class → IsClass source (number_of facts 6) other
+    → IsClass destination (number_of facts DestinationPort) class → IsClass source (number_of facts SourcePort) other
     → ((k : ℕ) → k < words → get_or to k 0 ≡ get_or rows.to.items (class * words + k) 0)
     → ((k : ℕ) → k < words → get_or from k 0 ≡ get_or rows.from.items (other * words + k) 0)
     → (number : ℕ) → first ≤ number → number < end → get_or (hits facts rules) number false ≡ true

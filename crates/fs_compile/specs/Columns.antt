@@ -1,7 +1,7 @@
 -- The numbers of a field in classes, and which rules of a run a packet may match whose number is of a class.
 use Rattle.std.specs.{Prelude.{◌≡◌, ℕ, ◌+◌, ◌-◌, ◌*◌, ◌/◌, ◌%◌, ◌<◌, ◌≤◌, max, Bool, true, false, List, get_or, length}, Int.{bit_at}}
 use Rattle.fs_compile.specs.{declared.columns.{Column.{Column}, PortRows.{PortRows}}, Search.{hits}}
-use Rattle.fs_ranges.specs.{declared.Fast.{Fast}, Facts.{Facts, key_of, number_of}}
+use Rattle.fs_ranges.specs.{declared.{Fast.{Fast}, Field.{Field, TheVariants.{DestinationPort, SourcePort}}}, Facts.{Facts, key_of, number_of}}
 use Rattle.fs_buckets.specs.{Buckets.{AreRising}, Between.{IsPlaceOf}}
 
 -- the class of a number: classes before it end below the number, and it and those behind don't
@@ -27,7 +27,7 @@ pub record AreRowsOf (bounds rows : List ℕ) (words : ℕ) : Type 0 where
   pub size : length rows ≡ (length bounds + 1) * words
 
 -- where a packet matches a rule of the run, the rule's bit is set in the row of the packet's class
-abbrev pub AreMarked : (rules : List Fast) → (first end field : ℕ) → (bounds rows : List ℕ) → (words : ℕ) → Type 0
+abbrev pub AreMarked : (rules : List Fast) → (first end : ℕ) → Field → (bounds rows : List ℕ) → (words : ℕ) → Type 0
 AreMarked rules first end field bounds rows words =
     (facts : Facts) (number class : ℕ) → first ≤ number → number < end
     → get_or (hits facts rules) number false ≡ true
@@ -40,8 +40,8 @@ abbrev pub ArePortsMarked : (rules : List Fast) → (first end : ℕ) → (desti
 ArePortsMarked rules first end destination source to from words =
     (facts : Facts) (number class other : ℕ) → first ≤ number → number < end
     → get_or (hits facts rules) number false ≡ true
-    → IsClass destination (number_of facts 5) class
-    → IsClass source (number_of facts 6) other
+    → IsClass destination (number_of facts DestinationPort) class
+    → IsClass source (number_of facts SourcePort) other
     → max (bit_in to words class (number - first)) (bit_in from words other (number - first)) ≡ 1
 
 -- the column of a run of rules

@@ -1,7 +1,7 @@
 -- Which rules of a long run a packet may match.
 use Rattle.std.specs.Prelude.{◌≡◌, ℕ, ◌+◌, ◌-◌, ◌*◌, ◌/◌, ◌%◌, ◌<◌, ◌≤◌, max, Bool, true, false, List, get_or, length}
 use Rattle.std.specs.{Int.{bit_at, RustNames.{bit_and, bit_or}}, List.{All}}
-use Rattle.fs_ranges.specs.declared.Fast.{Fast}
+use Rattle.fs_ranges.specs.declared.{Fast.{Fast}, Field.TheVariants.{DestinationPort, Length, Protocol, SourcePort}}
 use Rattle.fs_compile.specs.{declared.filters.{Filter.{Filter}, Filters.{Filters}, Rows.{Rows}}, Columns.{ArePortRows, IsColumn, IsRow}}
 
 -- it is of a run of these rules
@@ -9,7 +9,8 @@ pub record IsFilter (rules : List Fast) (filter : Filter) : Type 0 where
   pub ordered : filter.first ≤ filter.end
   pub within : filter.end ≤ length rules
   pub source : IsColumn rules filter.first filter.end filter.source
-  pub fields : (filter.protocol.field ≡ 3) × (filter.destination_port.field ≡ 5) × (filter.source_port.field ≡ 6) × (filter.length.field ≡ 10)
+  pub fields : (filter.protocol.field ≡ Protocol) × (filter.destination_port.field ≡ DestinationPort) × (filter.source_port.field ≡ SourcePort)
+      × (filter.length.field ≡ Length)
   pub protocol : IsColumn rules filter.first filter.end filter.protocol
   pub destination_port : IsColumn rules filter.first filter.end filter.destination_port
   pub source_port : IsColumn rules filter.first filter.end filter.source_port

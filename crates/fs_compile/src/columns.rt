@@ -7,7 +7,7 @@ ghost use Rattle.fs_compile.specs.Search.{hits};
 ghost use Rattle.fs_ranges.specs.{Limits.{allows}, Facts.{Facts, key_of}, Spans.{contains, is_in}};
 
 use fs_base::Memory;
-use fs_ranges::{Fast, Limit};
+use fs_ranges::{Fast, Field, Limit};
 use std::alloc::Global;
 
 /// The most classes but the last.
@@ -28,7 +28,7 @@ pub(crate) struct Run<'a> {
 /// the rule may match a packet whose number is of the class.
 #[derive(Drop)]
 pub(crate) struct Column {
-    pub(crate) field: u8,
+    pub(crate) field: Field,
     /// The last number of each class but the last.
     pub(crate) bounds: Vec<u64>,
     /// The rows, one behind the other.
@@ -37,7 +37,7 @@ pub(crate) struct Column {
 
 impl Column {
     /// Of the rules of the run.
-    pub(crate) fn of(alloc: Global, run: Run<'_>, field: u8) -> Result<Column, Memory>
+    pub(crate) fn of(alloc: Global, run: Run<'_>, field: Field) -> Result<Column, Memory>
         requires ordered { run.first ≤ run.end }
         requires within { run.end ≤ length run.rules.now }
         requires few { length run.rules.now < 2 ^ 32 }
@@ -178,7 +178,7 @@ fn empty_rows(alloc: Global, classes: usize, words: usize) -> Result<Vec<u64>, M
 }
 
 /// Sets the bits of all rules of the run.
-fn mark_rules(rows: &mut [u64], words: usize, bounds: &[u64], run: Run<'_>, field: u8)
+fn mark_rules(rows: &mut [u64], words: usize, bounds: &[u64], run: Run<'_>, field: Field)
     requires within { run.end ≤ length run.rules.now }
     requires shaped { AreRowsOf bounds.now rows.old words }
     requires words { words ≡ words_for (run.end - run.first) }
@@ -258,7 +258,7 @@ fn set_bit(rows: &mut [u64], word: usize, bit: usize)
 }
 
 /// Where classes of the field's numbers end: at ends of the rules' ranges.
-fn bounds_of(alloc: Global, run: Run<'_>, field: u8) -> Result<Vec<u64>, Memory>
+fn bounds_of(alloc: Global, run: Run<'_>, field: Field) -> Result<Vec<u64>, Memory>
     requires ordered { run.first ≤ run.end }
     requires within { run.end ≤ length run.rules.now }
     ensures rising { IfOk result (λ bounds. AreRising bounds.items) }
@@ -293,13 +293,16 @@ fn thinned(alloc: Global, numbers: &[u64], step: usize, most: usize) -> Result<V
 }
 
 /// The numbers before the rules' ranges, and their last ones. Those of either port's ranges are among each port's.
-fn ends_of(alloc: Global, rules: &[Fast], field: u8) -> Result<Vec<u64>, Memory> {
+fn ends_of(alloc: Global, rules: &[Fast], field: Field) -> Result<Vec<u64>, Memory> {
     let mut ends = Vec::new(alloc);
     let step = rules.len() / MOST_ASKED + 1;
     for rule in rules.iter().step_by(step) {
         push_limit(&mut ends, rule.limit(field))?;
-        if field == 5 || field == 6 {
-            push_limit(&mut ends, rule.ports_limit())?;
+        match field {
+            Field::DestinationPort | Field::SourcePort => {
+                push_limit(&mut ends, rule.ports_limit())?
+            }
+            _ => {}
         }
     }
     Ok(ends)

@@ -6,7 +6,7 @@ ghost use Rattle.fs_compile.specs.{Filters.{AreFilters, AreRows, IsFilter, IsIns
 use crate::columns::{Column, PortRows, Run, row_of, words_of};
 use crate::tested::Tested;
 use fs_base::{Memory, Steps};
-use fs_ranges::Fast;
+use fs_ranges::{Fast, Field};
 use std::alloc::Global;
 use std::sync::ledger::Ledger;
 
@@ -217,17 +217,17 @@ impl Filter {
     {
         let run = Run { rules, first, end };
         let source = rules[first].source_field();
-        let destination_port = Column::of(alloc, run, 5)?;
-        let source_port = Column::of(alloc, run, 6)?;
+        let destination_port = Column::of(alloc, run, Field::DestinationPort)?;
+        let source_port = Column::of(alloc, run, Field::SourcePort)?;
         let ports = PortRows::of(alloc, run, &destination_port.bounds, &source_port.bounds)?;
         Ok(Filter {
             first,
             end,
             source: Column::of(alloc, run, source)?,
-            protocol: Column::of(alloc, run, 3)?,
+            protocol: Column::of(alloc, run, Field::Protocol)?,
             destination_port,
             source_port,
-            length: Column::of(alloc, run, 10)?,
+            length: Column::of(alloc, run, Field::Length)?,
             ports,
         })
     }
@@ -267,10 +267,12 @@ impl Filter {
         let facts = tested.facts;
         let words = words_of(self.end - self.first);
         let source = self.source.class(facts.key(self.source.field));
-        let protocol = self.protocol.class(facts.number(3));
-        let into = self.destination_port.class(facts.number(5));
-        let out_of = self.source_port.class(facts.number(6));
-        let length = self.length.class(facts.number(10));
+        let protocol = self.protocol.class(facts.number(Field::Protocol));
+        let into = self
+            .destination_port
+            .class(facts.number(Field::DestinationPort));
+        let out_of = self.source_port.class(facts.number(Field::SourcePort));
+        let length = self.length.class(facts.number(Field::Length));
         let (to_last, from_last) = (
             self.destination_port.bounds.len(),
             self.source_port.bounds.len(),

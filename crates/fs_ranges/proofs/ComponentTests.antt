@@ -2,6 +2,7 @@
 use Rattle.fs_ranges.proofs.Words.{◌≡◌, ℕ, ◌+◌, ◌-◌, ◌^◌, ◌<◌, ◌≤◌, List, Option, Some, None, refl, sym, ap, ◌∙◌, arith, inl, inr, subst, ◌⊎◌}
 use Rattle.fs_ranges.proofs.Words.{pow_pos, Family, width_of, IsBlock, block_of, ListBody, V4Body, V6Body, part, IsSoundBody, flags_hold, Pattern}
 use Rattle.fs_ranges.proofs.Words.{Range, Within, TcpFlags, Destination, Source, facts_of, range, range_holds, IsPatternOf, IsTestOf, flags_pass}
+use Rattle.fs_ranges.proofs.Words.{Field, DestinationAddress, SourceAddress, kind_of}
 use Rattle.fs_ranges.proofs.Blocks.{in_v4, in_v6}
 use Rattle.fs_base.specs.{declared.prefix.{Family.TheVariants.{V4}, Prefix.{Prefix}}, Prefix.{last_address}}
 use Rattle.fs_packet.proofs.Flags.{flags_same, sound_is_wide}
@@ -19,13 +20,14 @@ v4_high p sound =
     let last : last_address p + 1 ≡ p.bits + 2 ^ (32 - p.length) = v4_last p sound.0 in
     omega arith
 
-pub v4_prefix : (kind : ℕ) (p : Prefix) (r : Range) → (kind ≡ 1) ⊎ (kind ≡ 2) → IsSoundBody (V4Body p.family p.length p.bits)
-    → r ≡ range kind p.bits (last_address p) → IsTestOf (part kind (V4Body p.family p.length p.bits)) (Within r)
-v4_prefix kind p r (inl one) sound h = subst (λ k. IsTestOf (part k (V4Body p.family p.length p.bits)) (Within r)) (sym one) (λ view small.
-    ap (range_holds (facts_of view)) (h ∙ ap (λ k. range k p.bits (last_address p)) one)
+pub v4_prefix : (field : Field) (p : Prefix) (r : Range) → (field ≡ DestinationAddress) ⊎ (field ≡ SourceAddress)
+    → IsSoundBody (V4Body p.family p.length p.bits) → r ≡ range field p.bits (last_address p)
+    → IsTestOf (part (kind_of field) (V4Body p.family p.length p.bits)) (Within r)
+v4_prefix field p r (inl one) sound h = subst (λ f. IsTestOf (part (kind_of f) (V4Body p.family p.length p.bits)) (Within r)) (sym one) (λ view small.
+    ap (range_holds (facts_of view)) (h ∙ ap (λ f. range f p.bits (last_address p)) one)
     ∙ in_v4 p.family p.length p.bits (last_address p) view.destination sound.1 sound.2 (v4_last p sound.0) small.destination)
-v4_prefix kind p r (inr two) sound h = subst (λ k. IsTestOf (part k (V4Body p.family p.length p.bits)) (Within r)) (sym two) (λ view small.
-    ap (range_holds (facts_of view)) (h ∙ ap (λ k. range k p.bits (last_address p)) two)
+v4_prefix field p r (inr two) sound h = subst (λ f. IsTestOf (part (kind_of f) (V4Body p.family p.length p.bits)) (Within r)) (sym two) (λ view small.
+    ap (range_holds (facts_of view)) (h ∙ ap (λ f. range f p.bits (last_address p)) two)
     ∙ in_v4 p.family p.length p.bits (last_address p) view.source sound.1 sound.2 (v4_last p sound.0) small.source)
 
 pub v6_destination : (len offset bits : ℕ) (pattern : Pattern) → IsSoundBody (V6Body len offset bits) → IsPatternOf len offset bits pattern

@@ -1,33 +1,32 @@
 -- The test of a list by a field's number, of which an absent one is above all.
-use Rattle.fs_ranges.proofs.Words.{◌≡◌, inl, inr, ℕ, ◌-◌, ◌^◌, ◌<◌, ◌≤◌, min, List, [], ◌∷◌, Bool, true, false, true≢false, ◌&&◌, ◌||◌, nat_le}
+use Rattle.fs_ranges.proofs.Words.{◌≡◌, ℕ, ◌-◌, ◌^◌, ◌<◌, ◌≤◌, min, List, [], ◌∷◌, Bool, true, false, true≢false, ◌&&◌, ◌||◌, nat_le}
 use Rattle.fs_ranges.proofs.Words.{nat_lt, if◌then◌else◌, Option, Some, None, refl, sym, ap, subst, ◌∙◌, arith, and_right, le-leb, le-ltb, leb-true}
-use Rattle.fs_ranges.proofs.Words.{lt-leb, lt-ltb, same_tests, ListBody, part, Viewed, holds_of, list_matches, Test, Within, OneOf, PortWithin}
-use Rattle.fs_ranges.proofs.Words.{IsSmall, IsSmallField, facts_of, field_number, number_of, AreNumbersOf, IsOnlyRange, has_field, range, clipped}
-use Rattle.fs_ranges.proofs.Words.{contains, field_range, is_in, AsksOne, IsFieldTest, IsTestOf}
+use Rattle.fs_ranges.proofs.Words.{lt-leb, lt-ltb, same_tests, ListBody, part, holds_of, Test, Within, OneOf, PortWithin}
+use Rattle.fs_ranges.proofs.Words.{IsSmallField, facts_of, field_number, number_of, AreNumbersOf, IsOnlyRange, has_field, range, clipped}
+use Rattle.fs_ranges.proofs.Words.{contains, field_range, is_in, Field, Zero, DestinationAddress, SourceAddress, kind_of, asks_one, IsFieldTest, IsTestOf}
+use Rattle.fs_ranges.specs.declared.field.Field.TheVariants.{DestinationPort, Dscp, EitherPort, FlowLabel, FragmentBits, IcmpCode, IcmpType, Length}
+use Rattle.fs_ranges.specs.declared.field.Field.TheVariants.{Protocol, SourceFront, SourcePort, Syn}
 use Rattle.fs_ranges.proofs.Enclosing.{from_in}
 use Rattle.std.proofs.lemmas.Option.{same_Some}
 
--- the field that a type tests
-field_is : {kind k : ℕ} (pairs : List (ℕ × ℕ)) (field : Viewed → Option ℕ) (test : Test) → kind ≡ k
-    → ((view : Viewed) → number_of (facts_of view) k ≡ field_number (field view)) → ((view : Viewed) → IsSmall view → IsSmallField (field view))
-    → ((view : Viewed) → list_matches view k pairs ≡ holds_of pairs (field view)) → IsFieldTest kind pairs test → IsTestOf (part kind (ListBody pairs)) test
-field_is pairs field test e number small matches =
-    subst (λ (n : ℕ). IsFieldTest n pairs test → IsTestOf (part n (ListBody pairs)) test) (sym e)
-    (λ h view known. h (facts_of view) (field view) (number view) (small view known) ∙ sym (matches view))
-
-asked : (kind : ℕ) (pairs : List (ℕ × ℕ)) (test : Test) → AsksOne kind → IsFieldTest kind pairs test → IsTestOf (part kind (ListBody pairs)) test
-asked kind pairs test (inl e) = field_is pairs (λ view. view.protocol) test e (λ view. refl) (λ view small. small.protocol) (λ view. refl)
-asked kind pairs test (inr (inl e)) = field_is pairs (λ view. view.destination_port) test e (λ view. refl) (λ view small. small.destination_port) (λ view. refl)
-asked kind pairs test (inr (inr (inl e))) = field_is pairs (λ view. view.source_port) test e (λ view. refl) (λ view small. small.source_port) (λ view. refl)
-asked kind pairs test (inr (inr (inr (inl e)))) = field_is pairs (λ view. view.icmp_type) test e (λ view. refl) (λ view small. small.icmp_type) (λ view. refl)
-asked kind pairs test (inr (inr (inr (inr (inl e))))) =
-    field_is pairs (λ view. view.icmp_code) test e (λ view. refl) (λ view small. small.icmp_code) (λ view. refl)
-asked kind pairs test (inr (inr (inr (inr (inr (inl e)))))) =
-    field_is pairs (λ view. Some view.length) test e (λ view. refl) (λ view small. small.length) (λ view. refl)
-asked kind pairs test (inr (inr (inr (inr (inr (inr (inl e))))))) =
-    field_is pairs (λ view. Some view.dscp) test e (λ view. refl) (λ view small. small.dscp) (λ view. refl)
-asked kind pairs test (inr (inr (inr (inr (inr (inr (inr e))))))) =
-    field_is pairs (λ view. view.flow_label) test e (λ view. refl) (λ view small. small.flow_label) (λ view. refl)
+-- a list is held against the number of its field
+asked : (field : Field) (pairs : List (ℕ × ℕ)) (test : Test) → asks_one field ≡ true → IsFieldTest field pairs test
+    → IsTestOf (part (kind_of field) (ListBody pairs)) test
+asked Zero pairs test e h = absurd (true≢false (sym e))
+asked DestinationAddress pairs test e h = absurd (true≢false (sym e))
+asked SourceAddress pairs test e h = absurd (true≢false (sym e))
+asked Protocol pairs test e h = λ view small. h (facts_of view) view.protocol refl small.protocol
+asked EitherPort pairs test e h = absurd (true≢false (sym e))
+asked DestinationPort pairs test e h = λ view small. h (facts_of view) view.destination_port refl small.destination_port
+asked SourcePort pairs test e h = λ view small. h (facts_of view) view.source_port refl small.source_port
+asked IcmpType pairs test e h = λ view small. h (facts_of view) view.icmp_type refl small.icmp_type
+asked IcmpCode pairs test e h = λ view small. h (facts_of view) view.icmp_code refl small.icmp_code
+asked Syn pairs test e h = absurd (true≢false (sym e))
+asked Length pairs test e h = λ view small. h (facts_of view) (Some view.length) refl small.length
+asked Dscp pairs test e h = λ view small. h (facts_of view) (Some view.dscp) refl small.dscp
+asked FragmentBits pairs test e h = absurd (true≢false (sym e))
+asked FlowLabel pairs test e h = λ view small. h (facts_of view) view.flow_label refl small.flow_label
+asked SourceFront pairs test e h = absurd (true≢false (sym e))
 
 nothing_in : (n : ℕ) → is_in n (1, 0) ≡ false
 nothing_in n = same_tests (is_in n (1, 0)) false (λ h. let low : 1 ≤ n = (from_in n (1, 0) h).0 in let high : n ≤ 0 = (from_in n (1, 0) h).1 in
@@ -78,8 +77,8 @@ in_range : (pairs numbers : List (ℕ × ℕ)) (r : ℕ × ℕ) (n : ℕ) (numbe
 in_range pairs numbers r n None are h e small = ap (λ (k : ℕ). is_in k r) e ∙ and_right (nat_le r.0 (2 ^ 32)) (nat_le (2 ^ 32) r.1) (lt-leb (2 ^ 32) r.1 h.low)
 in_range pairs numbers r n (Some k) are h e small = ap (λ (k : ℕ). is_in k r) e ∙ h.same k small ∙ are k (omega arith)
 
-pub within_test : (field : ℕ) (pairs numbers : List (ℕ × ℕ)) (low high : ℕ) → AreNumbersOf pairs numbers → field_range numbers ≡ Some (low, high)
-    → AsksOne field → IsTestOf (part field (ListBody pairs)) (Within (range field low high))
+pub within_test : (field : Field) (pairs numbers : List (ℕ × ℕ)) (low high : ℕ) → AreNumbersOf pairs numbers → field_range numbers ≡ Some (low, high)
+    → asks_one field ≡ true → IsTestOf (part (kind_of field) (ListBody pairs)) (Within (range field low high))
 within_test field pairs numbers low high are h asks =
     asked field pairs (Within (range field low high)) asks
     (λ facts number e small. in_range pairs numbers (low, high) (number_of facts field) number are (range_of numbers (low, high) h) e small)
@@ -89,8 +88,8 @@ in_only : (pairs : List (ℕ × ℕ)) (r : ℕ × ℕ) (n : ℕ) (number : Optio
 in_only pairs r n None low only e small = ap (λ (k : ℕ). is_in k r) e ∙ and_right (nat_le r.0 (2 ^ 32)) (nat_le (2 ^ 32) r.1) (lt-leb (2 ^ 32) r.1 low)
 in_only pairs r n (Some k) low only e small = ap (λ (k : ℕ). is_in k r) e ∙ only k
 
-pub range_test : (field : ℕ) (pairs : List (ℕ × ℕ)) (low high : ℕ) → high < 2 ^ 32 → IsOnlyRange pairs (low, high)
-    → AsksOne field → IsTestOf (part field (ListBody pairs)) (Within (range field low high))
+pub range_test : (field : Field) (pairs : List (ℕ × ℕ)) (low high : ℕ) → high < 2 ^ 32 → IsOnlyRange pairs (low, high)
+    → asks_one field ≡ true → IsTestOf (part (kind_of field) (ListBody pairs)) (Within (range field low high))
 range_test field pairs low high small only asks =
     asked field pairs (Within (range field low high)) asks
     (λ facts number e is_small. in_only pairs (low, high) (number_of facts field) number small only e is_small)
@@ -102,8 +101,8 @@ has_same pairs numbers n None are e small = ap (λ (k : ℕ). has_field numbers 
 has_same pairs numbers n (Some k) are e small = ap (λ (k : ℕ). has_field numbers k) e
     ∙ ap (λ (b : Bool). b && contains numbers k) (lt-ltb k (2 ^ 32) small) ∙ are k (omega arith)
 
-pub one_of_test : (field : ℕ) (pairs numbers : List (ℕ × ℕ)) → AreNumbersOf pairs numbers → AsksOne field
-    → IsTestOf (part field (ListBody pairs)) (OneOf field numbers)
+pub one_of_test : (field : Field) (pairs numbers : List (ℕ × ℕ)) → AreNumbersOf pairs numbers → asks_one field ≡ true
+    → IsTestOf (part (kind_of field) (ListBody pairs)) (OneOf field numbers)
 one_of_test field pairs numbers are asks =
     asked field pairs (OneOf field numbers) asks (λ facts number e small. has_same pairs numbers (number_of facts field) number are e small)
 

@@ -1,4 +1,5 @@
 -- A list that says of TCP flags no more than that SYN is set, as a range.
+use Rattle.fs_ranges.specs.declared.field.Field.TheVariants.{Syn}
 use Rattle.fs_ranges.proofs.Words.{◌≡◌, ◌≤◌, ℕ, ◌==◌, Bool, true, false, true≢false, not, ◌&&◌, ◌||◌, nat_le, bit_and, if◌then◌else◌, List, [], ◌∷◌}
 use Rattle.fs_ranges.proofs.Words.{Option, Some, None, refl, sym, ap, ◌∙◌, arith, eq-eqb, eqb-true, le-leb, leb-true, and_first, and_second}
 use Rattle.fs_ranges.proofs.Words.{same_tests, ListBody, part, IsSoundBody, has_bit, holds, masks, Within, syn_number, is_match, is_syn, range}
@@ -39,5 +40,5 @@ syn_passes : (pairs : List (ℕ × ℕ)) (octets : Option ℕ) → is_syn pairs 
 syn_passes pairs None h = refl
 syn_passes pairs (Some octets) h = two (bit_and octets 2) ∙ sym (syn_holds pairs octets h)
 
-pub syn_is : (pairs : List (ℕ × ℕ)) → IsSoundBody (ListBody pairs) → is_syn pairs ≡ true → IsTestOf (part 9 (ListBody pairs)) (Within (range 9 2 2))
+pub syn_is : (pairs : List (ℕ × ℕ)) → IsSoundBody (ListBody pairs) → is_syn pairs ≡ true → IsTestOf (part 9 (ListBody pairs)) (Within (range Syn 2 2))
 syn_is pairs sound h = λ view small. syn_passes pairs view.tcp_octets h ∙ flags_are pairs pairs sound refl view small

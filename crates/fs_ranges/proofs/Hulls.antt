@@ -1,7 +1,7 @@
 -- The range from the least number of a list to the greatest, before the list's own test.
 use Rattle.fs_ranges.proofs.Words.{◌≡◌, ℕ, ◌+◌, ◌<◌, ◌≤◌, Bool, true, false, true≢false, ◌&&◌, ◌||◌, List, [], take, get_or, length, refl, sym, ap}
 use Rattle.fs_ranges.proofs.Words.{◌∙◌, arith, list_any_more, and_true, Range, Ranges, Test, Within, Facts, number_of, AreFree, range_holds}
-use Rattle.fs_ranges.proofs.Words.{ranges_hold, with_range, contains, is_in, passes}
+use Rattle.fs_ranges.proofs.Words.{ranges_hold, with_range, contains, is_in, passes, Zero}
 use Rattle.fs_ranges.proofs.{Enclosing.{from_in, to_in}, Placing.{put_placed}}
 
 pub wider : (n low high low' high' : ℕ) → low' ≤ low → high ≤ high' → is_in n (low, high) ≡ true → is_in n (low', high') ≡ true
@@ -31,7 +31,7 @@ both false false range false e f = refl
 
 -- a range more that holds of each packet that passes the test
 pub hull_placed : (ranges new : Ranges) (place : ℕ) (range : Range) (test : Test) (facts : Facts) → place < 4 → AreFree place ranges
-    → new ≡ with_range ranges range → number_of facts 0 ≡ 0
+    → new ≡ with_range ranges range → number_of facts Zero ≡ 0
     → (passes facts test ≡ true → range_holds facts range ≡ true)
     → (ranges_hold facts new && passes facts test) ≡ (ranges_hold facts ranges && passes facts test)
 hull_placed ranges new place range test facts below free made none within =

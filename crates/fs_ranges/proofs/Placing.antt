@@ -4,7 +4,7 @@ use Rattle.fs_ranges.proofs.Words.{sym, ap, subst, ◌∙◌, arith, list_all, d
 use Rattle.fs_ranges.proofs.Words.{Component, part_of, parts_of, AreSound, Viewed, part_matches, Range, Ranges, Test, Within, OneOf, PortWithin}
 use Rattle.fs_ranges.proofs.Words.{Ports, TcpFlags, Fragment, Destination, Source, Facts, AreFacts, IsSmall, facts_of, number_of, AreFree, AreTestsOf}
 use Rattle.fs_ranges.proofs.Words.{IsPut, all_pass, facts_hold, fast_holds, bounds_at, field_at, free_ranges, is_in_range, range_at, range_holds}
-use Rattle.fs_ranges.proofs.Words.{ranges_hold, with_range, IsTestOf, passes, test_range}
+use Rattle.fs_ranges.proofs.Words.{ranges_hold, with_range, IsTestOf, passes, test_range, Zero}
 use Rattle.fs_ranges.proofs.Truths.{and_swap}
 use Rattle.fs_ranges.specs.declared.fast.Fast.{Fast}
 use Rattle.std.proofs.Math.Seq.{drop-cons}
@@ -22,7 +22,7 @@ range_is facts (Fragment pairs) range h = cc
 range_is facts (Destination pattern) range h = cc
 range_is facts (Source pattern) range h = cc
 
-free_holds : (facts : Facts) (ranges : Ranges) (place : ℕ) → number_of facts 0 ≡ 0 → field_at ranges place ≡ 0 → bounds_at ranges place ≡ (0, 0)
+free_holds : (facts : Facts) (ranges : Ranges) (place : ℕ) → number_of facts Zero ≡ 0 → field_at ranges place ≡ Zero → bounds_at ranges place ≡ (0, 0)
     → range_at facts ranges place ≡ true
 free_holds facts ranges place none field bounds =
     (λ i. is_in_range facts (field i) (bounds i).0 (bounds i).1) ∙ ap (λ (n : ℕ). nat_le 0 n && nat_le n 0) none
@@ -31,7 +31,7 @@ pub put_placed : (ranges new : Ranges) (place : ℕ) (range : Range) (tests : Li
     → test_range test ≡ Some range → new ≡ with_range ranges range
     → IsPut test ranges tests new tests
 put_placed ranges new place range tests test below free is made = λ facts none.
-    let last : (field_at ranges 3 ≡ 0) × (bounds_at ranges 3 ≡ (0, 0)) = free.free 3 (omega (arith, below)) (omega arith) in
+    let last : (field_at ranges 3 ≡ Zero) × (bounds_at ranges 3 ≡ (0, 0)) = free.free 3 (omega (arith, below)) (omega arith) in
     let four : ranges_hold facts (with_range ranges range) ≡ (ranges_hold facts ranges && range_holds facts range) =
     first_of_four (range_at facts ranges 0) (range_at facts ranges 1) (range_at facts ranges 2) (range_at facts ranges 3) (range_holds facts range)
     (free_holds facts ranges 3 none last.0 last.1) in
@@ -41,7 +41,7 @@ put_placed ranges new place range tests test below free is made = λ facts none.
 
 pub put_free : (ranges new : Ranges) (used : ℕ) (range : Range) → AreFree used ranges → new ≡ with_range ranges range → AreFree (used + 1) new
 put_free ranges new used range free made = subst (AreFree (used + 1)) (sym made) (record { fields = refl; bounds = refl; free = by }) where
-  by : (k : ℕ) → used + 1 ≤ k → k < 4 → (field_at (with_range ranges range) k ≡ 0) × (bounds_at (with_range ranges range) k ≡ (0, 0))
+  by : (k : ℕ) → used + 1 ≤ k → k < 4 → (field_at (with_range ranges range) k ≡ Zero) × (bounds_at (with_range ranges range) k ≡ (0, 0))
   by zero low high = absurd (omega (arith, low))
   by (suc zero) low high = free.free 0 (omega (arith, low)) (omega arith)
   by (suc (suc zero)) low high = free.free 1 (omega (arith, low)) (omega arith)
@@ -100,7 +100,7 @@ ranges_held facts fast h = and_first (ranges_hold facts fast.ranges) (list_all (
 pub tests_held : (facts : Facts) (fast : Fast) → facts_hold facts fast ≡ true → list_all (passes facts) fast.tests.items ≡ true
 tests_held facts fast h = and_second (ranges_hold facts fast.ranges) (list_all (passes facts) fast.tests.items) (rule_held facts fast h)
 
-all_free : (k : ℕ) → 0 ≤ k → k < 4 → (field_at free_ranges k ≡ 0) × (bounds_at free_ranges k ≡ (0, 0))
+all_free : (k : ℕ) → 0 ≤ k → k < 4 → (field_at free_ranges k ≡ Zero) × (bounds_at free_ranges k ≡ (0, 0))
 all_free zero low high = (refl, refl)
 all_free (suc zero) low high = (refl, refl)
 all_free (suc (suc zero)) low high = (refl, refl)

@@ -20,12 +20,13 @@ pub use Rattle.fs_nlri.specs.{Component.{body_of, part_of, parts_of}, Parts.{Lis
 pub use Rattle.fs_nlri.specs.declared.component.Component.{Component}
 pub use Rattle.fs_packet.specs.{Fields.{Viewed, family_of}, Matching.{flags_hold, holds_of, is_prefix_of, list_matches, part_matches}}
 pub use Rattle.fs_ranges.specs.Facts.{AreFacts, Facts, IsSmall, IsSmallAddress, IsSmallField, address_number, facts_of, field_number, key_of}
-pub use Rattle.fs_ranges.specs.Facts.{number_of, syn_number}
+pub use Rattle.fs_ranges.specs.Facts.{kind_of, number_of, syn_number}
 pub use Rattle.fs_ranges.specs.{Fast.{AreFree, AreTestsOf, IsPut, all_pass}, Flags.{is_match, is_syn}, Gaps.{gap, gaps_from}}
 pub use Rattle.fs_ranges.specs.Numbers.{AreNumbersOf, IsOnlyRange, are_singles, has_field, is_equality, is_single, lone}
 pub use Rattle.fs_ranges.specs.Ranges.{bounds_at, field_at, free_ranges, is_in_range, range, range_at, range_holds, ranges_hold, with_range}
 pub use Rattle.fs_ranges.specs.Spans.{AreApart, IsRange, clipped, contains, encloses, field_range, is_in}
-pub use Rattle.fs_ranges.specs.Tests.{AsksOne, IsFieldTest, IsPatternOf, IsTestOf, flags_pass, is_under, passes, test_range}
+pub use Rattle.fs_ranges.specs.Tests.{IsFieldTest, IsPatternOf, IsTestOf, asks_one, flags_pass, is_under, passes, test_range}
+pub use Rattle.fs_ranges.specs.declared.field.Field.{Field, TheVariants.{DestinationAddress, SourceAddress, Zero}}
 pub use Rattle.fs_ranges.specs.declared.{pattern.Pattern.{Pattern}, ranges.{Range.{Range}, Ranges.{Ranges}}}
 pub use Rattle.fs_ranges.specs.declared.tests.Test.{Test, TheVariants.{Destination, Fragment, OneOf, PortWithin, Ports, Source, TcpFlags, Within}}
 unfoldable pub use Rattle.fs_ranges.specs.Fast.{facts_hold, fast_holds}

@@ -1,7 +1,10 @@
 -- The fields of a packet as numbers: one that the packet doesn't have is above each that a field can have.
-use Rattle.std.specs.Prelude.{◌≡◌, ℕ, ◌%◌, ◌/◌, ◌==◌, if◌then◌else◌, ◌^◌, ◌<◌, List, [], ◌∷◌, slice_index, bit_and, Option, Some, None}
+use Rattle.std.specs.Prelude.{◌≡◌, ℕ, ◌%◌, ◌/◌, Bool, true, false, if◌then◌else◌, ◌^◌, ◌<◌, List, [], ◌∷◌, slice_index, bit_and, Option, Some, None}
 use Rattle.fs_base.specs.declared.config.Address.{Address, TheVariants.{V4, V6}}
 use Rattle.fs_packet.specs.Fields.{Viewed, family_of}
+use Rattle.fs_ranges.specs.declared.field.Field.{Field}
+use Rattle.fs_ranges.specs.declared.field.Field.TheVariants.{Zero, DestinationAddress, SourceAddress, Protocol, EitherPort, DestinationPort, SourcePort}
+use Rattle.fs_ranges.specs.declared.field.Field.TheVariants.{IcmpType, IcmpCode, Syn, Length, Dscp, FragmentBits, FlowLabel, SourceFront}
 
 -- what a rule is tested on: a packet's fields, and those of one number by their types
 pub record Facts : Type 0 where
@@ -43,17 +46,39 @@ numbers_of view =
     ∷ 2 ^ 32
     ∷ []
 
-abbrev pub number_of : Facts → (field : ℕ) → ℕ
-number_of facts field = slice_index facts.numbers (field % 16)
+-- the type of the component that tests the field; of the front of a source, which none does, 14
+abbrev pub kind_of : Field → ℕ
+kind_of Zero = 0
+kind_of DestinationAddress = 1
+kind_of SourceAddress = 2
+kind_of Protocol = 3
+kind_of EitherPort = 4
+kind_of DestinationPort = 5
+kind_of SourcePort = 6
+kind_of IcmpType = 7
+kind_of IcmpCode = 8
+kind_of Syn = 9
+kind_of Length = 10
+kind_of Dscp = 11
+kind_of FragmentBits = 12
+kind_of FlowLabel = 13
+kind_of SourceFront = 14
+
+abbrev pub number_of : Facts → Field → ℕ
+number_of facts field = slice_index facts.numbers (kind_of field)
+
+abbrev pub is_front : Field → Bool
+is_front SourceFront = true
+is_front field = false
 
 -- the first 64 bits of an address of IPv6; one of IPv4 has none
 abbrev pub front_of : Address → ℕ
 front_of (V4 address) = 2 ^ 32
 front_of (V6 address) = address % 2 ^ 128 / 2 ^ 64
 
--- the number by which rules are told apart on a field; 14 stands for the front of the source
-abbrev pub key_of : Facts → (field : ℕ) → ℕ
-key_of facts field = if field == 14 then front_of facts.view.source else number_of facts field
+-- the number by which rules are told apart on a field
+abbrev pub key_of : Facts → Field → ℕ
+key_of facts field = if is_front field then front_of facts.view.source else number_of facts field
 
 -- the facts of a packet
 abbrev pub facts_of : Viewed → Facts

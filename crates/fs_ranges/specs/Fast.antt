@@ -3,7 +3,7 @@ use Rattle.std.specs.{Prelude.{◌≡◌, ℕ, ◌≤◌, ◌<◌, ◌==◌, Boo
 use Rattle.fs_base.specs.Bits.{afi_of}
 use Rattle.fs_nlri.specs.Parts.{Part, Ruled}
 use Rattle.fs_packet.specs.{Fields.{Viewed}, Matching.{is_match, part_matches}}
-use Rattle.fs_ranges.specs.declared.{fast.Fast.{Fast}, ranges.Ranges.{Ranges}, tests.Test.{Test}}
+use Rattle.fs_ranges.specs.declared.{field.Field.TheVariants.{Zero}, fast.Fast.{Fast}, ranges.Ranges.{Ranges}, tests.Test.{Test}}
 use Rattle.fs_ranges.specs.{Facts.{Facts, IsSmall, facts_of, number_of}, Ranges.{bounds_at, field_at, ranges_hold}, Tests.{passes}}
 
 -- the four ranges hold, and the tests behind are passed
@@ -34,10 +34,10 @@ AreTestsOf parts ranges tests = (view : Viewed)
 pub record AreFree (used : ℕ) (ranges : Ranges) : Type 0 where
   pub fields : length ranges.fields ≡ 4
   pub bounds : length ranges.bounds ≡ 4
-  pub free : (k : ℕ) → used ≤ k → k < 4 → (field_at ranges k ≡ 0) × (bounds_at ranges k ≡ (0, 0))
+  pub free : (k : ℕ) → used ≤ k → k < 4 → (field_at ranges k ≡ Zero) × (bounds_at ranges k ≡ (0, 0))
 
--- one test more; of no packet is field 0 another number than 0
+-- one test more
 abbrev pub IsPut : Test → (ranges : Ranges) → (tests : List Test) → (new : Ranges) → (more : List Test) → Type 0
 IsPut test ranges tests new more = (facts : Facts)
-    → number_of facts 0 ≡ 0
+    → number_of facts Zero ≡ 0
     → all_pass facts new more ≡ (all_pass facts ranges tests && passes facts test)

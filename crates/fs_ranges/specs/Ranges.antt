@@ -1,18 +1,18 @@
 -- Ranges of a packet's fields, of which four stand within a rule.
 use Rattle.std.specs.Prelude.{ℕ, Bool, ◌&&◌, nat_le, [], ◌∷◌, get_or}
-use Rattle.fs_ranges.specs.{declared.ranges.{Range.{Range}, Ranges.{Ranges}}, Facts.{Facts, number_of}}
+use Rattle.fs_ranges.specs.{declared.ranges.{Range.{Range}, Ranges.{Ranges}}, declared.field.Field.{Field, TheVariants.{Zero}}, Facts.{Facts, number_of}}
 
-abbrev pub is_in_range : Facts → (field low high : ℕ) → Bool
+abbrev pub is_in_range : Facts → Field → (low high : ℕ) → Bool
 is_in_range facts field low high = nat_le low (number_of facts field) && nat_le (number_of facts field) high
 
-abbrev pub range : (field low high : ℕ) → Range
+abbrev pub range : Field → (low high : ℕ) → Range
 range field low high = record { field = field; low = low; high = high }
 
 abbrev pub range_holds : Facts → Range → Bool
 range_holds facts range = is_in_range facts range.field range.low range.high
 
-abbrev pub field_at : Ranges → ℕ → ℕ
-field_at ranges k = get_or ranges.fields k 0
+abbrev pub field_at : Ranges → ℕ → Field
+field_at ranges k = get_or ranges.fields k Zero
 
 abbrev pub bounds_at : Ranges → ℕ → ℕ × ℕ
 bounds_at ranges k = get_or ranges.bounds k (0, 0)
@@ -26,7 +26,7 @@ ranges_hold facts ranges =
 
 abbrev pub free_ranges : Ranges
 free_ranges = record {
-  fields = 0 ∷ 0 ∷ 0 ∷ 0 ∷ [];
+  fields = Zero ∷ Zero ∷ Zero ∷ Zero ∷ [];
   bounds = (0, 0) ∷ (0, 0) ∷ (0, 0) ∷ (0, 0) ∷ [];
 }
 

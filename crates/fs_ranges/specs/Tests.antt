@@ -1,11 +1,13 @@
 -- What the test of a component says of a packet's fields, and which component it stands for.
-use Rattle.std.specs.Prelude.{◌≡◌, ◌⊎◌, ℕ, ◌+◌, ◌-◌, ◌*◌, ◌%◌, ◌^◌, Bool, false, ◌&&◌, ◌||◌, nat_le, bit_and, List, Option, Some, None}
+use Rattle.std.specs.Prelude.{◌≡◌, ℕ, ◌+◌, ◌-◌, ◌*◌, ◌%◌, ◌^◌, Bool, true, false, ◌&&◌, ◌||◌, nat_le, bit_and, List, Option, Some, None}
 use Rattle.fs_base.specs.declared.config.Address.{Address, TheVariants.{V4, V6}}
 use Rattle.fs_ops.specs.Evaluation.{holds, masks}
 use Rattle.fs_nlri.specs.Parts.{Part}
 use Rattle.fs_packet.specs.{Fields.{Viewed}, Matching.{holds_of, part_matches}}
 use Rattle.fs_ranges.specs.declared.{pattern.Pattern.{Pattern}, ranges.Range.{Range}}
 use Rattle.fs_ranges.specs.declared.tests.Test.{Test, TheVariants.{Within, OneOf, PortWithin, Ports, TcpFlags, Fragment, Destination, Source}}
+use Rattle.fs_ranges.specs.declared.field.Field.{Field, TheVariants.{DestinationAddress, DestinationPort, EitherPort, FragmentBits, SourceAddress}}
+use Rattle.fs_ranges.specs.declared.field.Field.TheVariants.{SourceFront, SourcePort, Syn, Zero}
 use Rattle.fs_ranges.specs.Facts.{Facts, IsSmall, IsSmallField, facts_of, field_number, number_of}
 use Rattle.fs_ranges.specs.{Numbers.{has_field}, Ranges.{is_in_range, range_holds}}
 
@@ -24,8 +26,8 @@ is_under pattern (V6 address) = lies_under pattern (address * 2 ^ pattern.offset
 abbrev pub passes : Facts → Test → Bool
 passes facts (Within range) = range_holds facts range
 passes facts (OneOf field numbers) = has_field numbers (number_of facts field)
-passes facts (PortWithin low high) = is_in_range facts 6 low high || is_in_range facts 5 low high
-passes facts (Ports numbers) = has_field numbers (number_of facts 6) || has_field numbers (number_of facts 5)
+passes facts (PortWithin low high) = is_in_range facts SourcePort low high || is_in_range facts DestinationPort low high
+passes facts (Ports numbers) = has_field numbers (number_of facts SourcePort) || has_field numbers (number_of facts DestinationPort)
 passes facts (TcpFlags pairs) = flags_pass pairs facts.view.tcp_octets
 passes facts (Fragment pairs) = holds (masks facts.view.fragment) pairs
 passes facts (Destination pattern) = is_under pattern facts.view.destination
@@ -40,16 +42,22 @@ abbrev pub IsTestOf : Part → Test → Type 0
 IsTestOf part test = (view : Viewed) → IsSmall view → passes (facts_of view) test ≡ part_matches view part
 
 -- the list holds of the field where the test is passed
-abbrev pub IsFieldTest : (field : ℕ) → List (ℕ × ℕ) → Test → Type 0
+abbrev pub IsFieldTest : Field → List (ℕ × ℕ) → Test → Type 0
 IsFieldTest field pairs test = (facts : Facts) (number : Option ℕ)
     → number_of facts field ≡ field_number number
     → IsSmallField number
     → passes facts test ≡ holds_of pairs number
 
--- the types whose lists are held against one number of a packet
-abbrev pub AsksOne : (kind : ℕ) → Type 0
-AsksOne kind =
-    (kind ≡ 3) ⊎ ((kind ≡ 5) ⊎ ((kind ≡ 6) ⊎ ((kind ≡ 7) ⊎ ((kind ≡ 8) ⊎ ((kind ≡ 10) ⊎ ((kind ≡ 11) ⊎ (kind ≡ 13)))))))
+-- the fields against which the list of a component is held
+abbrev pub asks_one : Field → Bool
+asks_one Zero = false
+asks_one DestinationAddress = false
+asks_one SourceAddress = false
+asks_one EitherPort = false
+asks_one Syn = false
+asks_one FragmentBits = false
+asks_one SourceFront = false
+asks_one field = true
 
 -- the pattern holds the addresses whose bits from the offset up to the length are these
 pub record IsPatternOf (len offset bits : ℕ) (pattern : Pattern) : Type 0 where

@@ -1,13 +1,15 @@
 //! The tests of a rule's components.
 
-ghost use Rattle.std.specs.Prelude.{◌≡◌, ◌<◌, ◌^◌, ◌⊎◌, IfOk, IfSome};
+ghost use Rattle.std.specs.Prelude.{◌≡◌, true, ◌<◌, ◌^◌, ◌⊎◌, IfOk, IfSome};
 ghost use Rattle.fs_base.specs.Prefix.{last_address};
 ghost use Rattle.fs_nlri.specs.{Component.{body_of, part_of}, Parts.{ListBody, V4Body, V6Body, part}, Sound.{IsSoundBody}};
 ghost use Rattle.fs_ranges.specs.{Flags.{is_match, is_syn}, Ranges.{range}};
 ghost use Rattle.fs_ranges.specs.Numbers.{IsOnlyRange, is_equality, is_joined_most, is_least};
-ghost use Rattle.fs_ranges.specs.Tests.{AsksOne, IsPatternOf, IsTestOf};
+ghost use Rattle.fs_ranges.specs.{Facts.{kind_of}, Tests.{IsPatternOf, IsTestOf, asks_one}};
+ghost use Rattle.fs_ranges.specs.declared.field.Field.TheVariants.{DestinationAddress, SourceAddress};
 
 use crate::facts::{ABSENT, SYN};
+use crate::field::Field;
 use crate::pattern::Pattern;
 use crate::ranges::Range;
 use crate::spans::Spans;
@@ -23,47 +25,46 @@ pub(crate) fn test_of(alloc: Global, component: &Component) -> Result<Test, Memo
     ensures { IfOk result (IsTestOf (part_of component.now)) }
 {
     match component {
-        Component::Destination(form) => Ok(prefix_test(1, form)),
-        Component::Source(form) => Ok(prefix_test(2, form)),
-        Component::Protocol(list) => field_test(alloc, 3, list),
+        Component::Destination(form) => Ok(prefix_test(Field::DestinationAddress, form)),
+        Component::Source(form) => Ok(prefix_test(Field::SourceAddress, form)),
+        Component::Protocol(list) => field_test(alloc, Field::Protocol, list),
         Component::Port(list) => ports_test(alloc, list),
-        Component::DestinationPort(list) => field_test(alloc, 5, list),
-        Component::SourcePort(list) => field_test(alloc, 6, list),
-        Component::IcmpType(list) => field_test(alloc, 7, list),
-        Component::IcmpCode(list) => field_test(alloc, 8, list),
+        Component::DestinationPort(list) => field_test(alloc, Field::DestinationPort, list),
+        Component::SourcePort(list) => field_test(alloc, Field::SourcePort, list),
+        Component::IcmpType(list) => field_test(alloc, Field::IcmpType, list),
+        Component::IcmpCode(list) => field_test(alloc, Field::IcmpCode, list),
         Component::TcpFlags(list) => flags_test(list),
-        Component::PacketLength(list) => field_test(alloc, 10, list),
-        Component::Dscp(list) => field_test(alloc, 11, list),
+        Component::PacketLength(list) => field_test(alloc, Field::Length, list),
+        Component::Dscp(list) => field_test(alloc, Field::Dscp, list),
         Component::Fragment(list) => Ok(Test::Fragment(list.copy()?)),
-        Component::FlowLabel(list) => field_test(alloc, 13, list),
+        Component::FlowLabel(list) => field_test(alloc, Field::FlowLabel, list),
     }
 }
 
 /// The test of a prefix of the destination or of the source.
-fn prefix_test(kind: u8, form: &PrefixForm) -> Test
-    requires kind { (kind ≡ 1) ⊎ (kind ≡ 2) }
+fn prefix_test(field: Field, form: &PrefixForm) -> Test
+    requires field { (field ≡ DestinationAddress) ⊎ (field ≡ SourceAddress) }
     requires sound { IsSoundBody (body_of form.now) }
-    ensures { IsTestOf (part kind (body_of form.now)) result }
+    ensures { IsTestOf (part (kind_of field) (body_of form.now)) result }
 {
     match form {
-        PrefixForm::V4(prefix) => Test::Within(prefix_range(kind, prefix)),
+        PrefixForm::V4(prefix) => Test::Within(prefix_range(field, prefix)),
         PrefixForm::V6 {
             length,
             offset,
             pattern,
         } => {
             let under = pattern_of(*length, *offset, *pattern);
-            if kind == 1 {
-                Test::Destination(under)
-            } else {
-                Test::Source(under)
+            match field {
+                Field::SourceAddress => Test::Source(under),
+                _ => Test::Destination(under),
             }
         }
     }
 }
 
 /// The addresses under a prefix of IPv4.
-fn prefix_range(field: u8, prefix: &Prefix) -> Range
+fn prefix_range(field: Field, prefix: &Prefix) -> Range
     requires { IsSoundBody (V4Body prefix.now.family prefix.now.length prefix.now.bits) }
     ensures { result ≡ range field prefix.now.bits (last_address prefix.now) }
 {
@@ -93,7 +94,7 @@ fn flags_test(list: &MaskList) -> Result<Test, Memory>
 {
     if is_syn(list.pairs()) {
         return Ok(Test::Within(Range {
-            field: 9,
+            field: Field::Syn,
             low: SYN as u32,
             high: SYN as u32,
         }));
@@ -117,10 +118,10 @@ fn is_match(operator: u8) -> bool
     operator & 2 == 0 && operator & 1 != 0
 }
 
-/// The test of a list by the field of the type: a range, where the numbers are one.
-fn field_test(alloc: Global, field: u8, list: &NumList) -> Result<Test, Memory>
-    requires { AsksOne field }
-    ensures { IfOk result (IsTestOf (part field (ListBody list.now))) }
+/// The test of a list by the field: a range, where the numbers are one.
+fn field_test(alloc: Global, field: Field, list: &NumList) -> Result<Test, Memory>
+    requires { asks_one field ≡ true }
+    ensures { IfOk result (IsTestOf (part (kind_of field) (ListBody list.now))) }
 {
     match only_range(list.pairs()) {
         Some((low, high)) => Ok(Test::Within(Range { field, low, high })),
@@ -167,9 +168,9 @@ fn is_joined_most(operator: u8) -> bool
     operator & 64 != 0 && operator & 4 != 0 && operator & 2 == 0 && operator & 1 != 0
 }
 
-fn numbers_test(alloc: Global, field: u8, list: &NumList) -> Result<Test, Memory>
-    requires { AsksOne field }
-    ensures { IfOk result (IsTestOf (part field (ListBody list.now))) }
+fn numbers_test(alloc: Global, field: Field, list: &NumList) -> Result<Test, Memory>
+    requires { asks_one field ≡ true }
+    ensures { IfOk result (IsTestOf (part (kind_of field) (ListBody list.now))) }
 {
     let numbers = Spans::of(alloc, list)?;
     match numbers.range() {

@@ -4,15 +4,13 @@ ghost use Rattle.std.specs.Prelude.{◌≡◌, ◌/◌, ◌<◌, ◌^◌};
 ghost use Rattle.fs_packet.specs.Fields.{family_of};
 ghost use Rattle.fs_ranges.specs.Facts.{AreFacts, IsSmallAddress, IsSmallField, address_number, field_number, front_of, key_of, number_of, syn_number};
 
+use crate::field::Field;
 use fs_base::Address;
 use fs_packet::View;
 use std::marker::Model;
 
 /// Above each number that a field can have: what stands for a field that the packet doesn't have.
 pub(crate) const ABSENT: u64 = 1 << 32;
-
-/// In place of a field's type, the first 64 bits of a source address of IPv6.
-pub(crate) const FRONT: u8 = 14;
 
 /// The SYN flag among the flags of a TCP header (RFC 9293 section 3.1).
 pub(crate) const SYN: u16 = 2;
@@ -22,8 +20,7 @@ pub(crate) const SYN: u16 = 2;
 #[derive(Drop)]
 pub struct Facts<'a> {
     pub(crate) view: &'a View<'a>,
-    /// By the type of the component that tests it; at 1 and 2 the addresses of IPv4, at 9 the SYN flag. Where the packet
-    /// doesn't have the field, or the type's test isn't one of a single number, `ABSENT`; at 0 always 0.
+    /// By the field; where the packet doesn't have it, or the number is that of no field, `ABSENT`.
     numbers: [u64; 16],
 }
 
@@ -67,23 +64,22 @@ impl<'a> Facts<'a> {
         }
     }
 
-    /// The number by which rules are told apart on a field: of that name the first 64 bits of a source of IPv6, else the
-    /// field's.
-    pub fn key(&self, field: u8) -> u64
+    /// The number by which rules are told apart on a field: the field's, or the front of a source.
+    pub fn key(&self, field: Field) -> u64
         ensures { result ≡ key_of self.now field }
     {
-        if field == FRONT {
+        if field.is_front() {
             front(self.view.source())
         } else {
             self.number(field)
         }
     }
 
-    /// The number of the field that a component of the type tests.
-    pub fn number(&self, field: u8) -> u64
+    /// The number of a field that isn't the front of a source.
+    pub fn number(&self, field: Field) -> u64
         ensures { result ≡ number_of self.now field }
     {
-        // no type is above 13: the remainder spares the test of the index
+        // no field is above 15: the remainder spares the test of the index
         self.numbers[field as usize % 16]
     }
 }

@@ -5,10 +5,11 @@ ghost use Rattle.fs_nlri.specs.{Component.{parts_of}, Parts.{Ruled}, Sound.{AreS
 ghost use Rattle.fs_packet.specs.Matching.{is_match};
 ghost use Rattle.fs_ranges.specs.{Limits.{allows, allows_port}, Facts.{Facts, IsSmall, front_of, key_of, number_of}};
 ghost use Rattle.fs_ranges.specs.Fast.{AreFree, AreTestsOf, IsPut, StandsFor, facts_hold, fast_holds, holds_of_facts};
-ghost use Rattle.fs_ranges.specs.{Ranges.{ranges_hold}, Tests.{passes}};
+ghost use Rattle.fs_ranges.specs.{Ranges.{ranges_hold}, Tests.{passes}, declared.field.Field.TheVariants.{Zero}};
 
 use crate::components::test_of;
-use crate::facts::{FRONT, Facts};
+use crate::facts::Facts;
+use crate::field::Field;
 use crate::limits::Limit;
 use crate::ranges::{PLACES, Ranges};
 use crate::tests::Test;
@@ -60,10 +61,10 @@ impl Fast {
     }
 
     /// Within which numbers the field is of each packet that the rule matches.
-    pub fn limit(&self, field: u8) -> Limit<'_>
+    pub fn limit(&self, field: Field) -> Limit<'_>
         ensures { (facts : Facts) → facts_hold facts self.now ≡ true → allows result (key_of facts field) ≡ true }
     {
-        if field == FRONT {
+        if field.is_front() {
             front_limit_of(&self.tests)
         } else {
             self.number_limit(field)
@@ -71,10 +72,10 @@ impl Fast {
     }
 
     /// The field on which sources of the rule's family are told apart.
-    pub fn source_field(&self) -> u8 {
+    pub fn source_field(&self) -> Field {
         match self.family {
-            Family::V4 => 2,
-            Family::V6 => FRONT,
+            Family::V4 => Field::SourceAddress,
+            Family::V6 => Field::SourceFront,
         }
     }
 
@@ -85,7 +86,7 @@ impl Fast {
         ports_limit_of(&self.tests)
     }
 
-    fn number_limit(&self, field: u8) -> Limit<'_>
+    fn number_limit(&self, field: Field) -> Limit<'_>
         ensures { (facts : Facts) → facts_hold facts self.now ≡ true → allows result (number_of facts field) ≡ true }
     {
         // a range of the field may be no more than the hull of a list's
@@ -137,7 +138,7 @@ fn all_pass(tests: &[Test], facts: &Facts<'_>) -> bool
 }
 
 /// Within which numbers the field is of each packet that passes the tests.
-fn limit_of(tests: &[Test], field: u8) -> Limit<'_>
+fn limit_of(tests: &[Test], field: Field) -> Limit<'_>
     ensures { (facts : Facts)
         → list_all (passes facts) tests.now ≡ true
         → allows result (number_of facts field) ≡ true }
@@ -224,7 +225,7 @@ const LAST: usize = PLACES - 1;
 fn place_hull(ranges: &mut Ranges, used: usize, test: &Test) -> usize
     requires { AreFree used ranges.old }
     ensures same { (facts : Facts)
-        → number_of facts 0 ≡ 0
+        → number_of facts Zero ≡ 0
         → (ranges_hold facts ranges.new && passes facts test.now)
         ≡ (ranges_hold facts ranges.old && passes facts test.now) }
     ensures free { AreFree result ranges.new }

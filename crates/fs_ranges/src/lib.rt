@@ -5,6 +5,7 @@
 mod components;
 mod facts;
 mod fast;
+mod field;
 mod gaps;
 mod groups;
 mod limits;
@@ -16,5 +17,6 @@ mod tests;
 
 pub use facts::Facts;
 pub use fast::Fast;
+pub use field::Field;
 pub use limits::Limit;
 pub use spans::Spans;

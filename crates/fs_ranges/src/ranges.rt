@@ -5,13 +5,13 @@ ghost use Rattle.fs_ranges.specs.{Limits.{allows}, Facts.{Facts, number_of}, Spa
 ghost use Rattle.fs_ranges.specs.Ranges.{is_in_range, free_ranges, range_at, range_holds, ranges_hold, with_range};
 
 use crate::facts::Facts;
+use crate::field::Field;
 use crate::limits::Limit;
 
 /// From which number to which a field lies. No absent field's does: its number is above each `high`.
 #[derive(Clone, Copy)]
 pub(crate) struct Range {
-    /// The type of the component.
-    pub(crate) field: u8,
+    pub(crate) field: Field,
     pub(crate) low: u32,
     pub(crate) high: u32,
 }
@@ -27,11 +27,11 @@ impl Range {
 /// How many ranges stand within a rule.
 pub(crate) const PLACES: usize = 4;
 
-/// The four ranges that stand within a rule. In a free place stands that of field 0 from 0 to 0, which always holds, so
+/// The four ranges that stand within a rule. In a free place stands that of no field from 0 to 0, which always holds, so
 /// that the places are tested without a count. The fields stand apart from the bounds, so that they take no padding.
 #[derive(Drop)]
 pub(crate) struct Ranges {
-    fields: [u8; 4],
+    fields: [Field; 4],
     bounds: [(u32, u32); 4],
 }
 
@@ -41,7 +41,7 @@ impl Ranges {
         ensures { result ≡ free_ranges }
     {
         Ranges {
-            fields: [0; 4],
+            fields: [Field::Zero; 4],
             bounds: [(0, 0); 4],
         }
     }
@@ -68,7 +68,7 @@ impl Ranges {
     }
 
     /// Within which numbers the field is where all four hold.
-    pub(crate) fn limit(&self, field: u8) -> Limit<'_>
+    pub(crate) fn limit(&self, field: Field) -> Limit<'_>
         ensures { (facts : Facts)
             → ranges_hold facts self.now ≡ true
             → allows result (number_of facts field) ≡ true }
@@ -80,13 +80,13 @@ impl Ranges {
     }
 
     /// The range of the field.
-    fn of(&self, field: u8) -> Option<(u32, u32)>
+    fn of(&self, field: Field) -> Option<(u32, u32)>
         ensures { (facts : Facts)
             → ranges_hold facts self.now ≡ true
             → IfSome result (λ range. is_in (number_of facts field) range ≡ true) }
     {
         for place in 0..PLACES {
-            if self.fields[place] == field {
+            if self.fields[place].kind() == field.kind() {
                 return Some(self.bounds[place]);
             }
         }
@@ -104,7 +104,7 @@ impl Ranges {
 }
 
 #[inline(always)]
-pub(crate) fn is_in_range(field: u8, low: u32, high: u32, facts: &Facts<'_>) -> bool
+pub(crate) fn is_in_range(field: Field, low: u32, high: u32, facts: &Facts<'_>) -> bool
     ensures { result ≡ is_in_range facts.now field low high }
 {
     let number = facts.number(field);

@@ -5,6 +5,7 @@ ghost use Rattle.fs_ranges.specs.{Limits.{allows, allows_port}, Facts.{Facts, fr
 ghost use Rattle.fs_ranges.specs.Tests.{flags_pass, is_under, passes, test_range};
 
 use crate::facts::{Facts, top};
+use crate::field::Field;
 use crate::limits::Limit;
 use crate::pattern::Pattern;
 use crate::ranges::{Range, is_in_range};
@@ -17,8 +18,8 @@ use fs_ops::MaskList;
 pub(crate) enum Test {
     /// A field lies in the range; prefixes of IPv4 are ranges too.
     Within(Range),
-    /// The field of the type is one of the numbers.
-    OneOf(u8, Spans),
+    /// The field is one of the numbers.
+    OneOf(Field, Spans),
     /// The source port or the destination port lies in the range.
     PortWithin(u32, u32),
     /// The source port or the destination port is one of the numbers.
@@ -39,10 +40,12 @@ impl Test {
             Test::Within(range) => range.holds(facts),
             Test::OneOf(field, numbers) => numbers.contains_field(facts.number(*field)),
             Test::PortWithin(low, high) => {
-                is_in_range(6, *low, *high, facts) || is_in_range(5, *low, *high, facts)
+                is_in_range(Field::SourcePort, *low, *high, facts)
+                    || is_in_range(Field::DestinationPort, *low, *high, facts)
             }
             Test::Ports(numbers) => {
-                numbers.contains_field(facts.number(6)) || numbers.contains_field(facts.number(5))
+                numbers.contains_field(facts.number(Field::SourcePort))
+                    || numbers.contains_field(facts.number(Field::DestinationPort))
             }
             Test::TcpFlags(list) => flags_pass(list, facts.view.tcp_octets()),
             Test::Fragment(list) => list.eval(facts.view.fragment().into()),
@@ -52,16 +55,18 @@ impl Test {
     }
 
     /// Within which numbers the field is of each packet that passes the test, if the test is of the field.
-    pub(crate) fn limit(&self, field: u8) -> Option<Limit<'_>>
+    pub(crate) fn limit(&self, field: Field) -> Option<Limit<'_>>
         ensures { (facts : Facts)
             → passes facts self.now ≡ true
             → IfSome result (λ limit. allows limit (number_of facts field) ≡ true) }
     {
         match self {
-            Test::Within(range) if range.field == field => {
+            Test::Within(range) if range.field.kind() == field.kind() => {
                 Some(Limit::Range(range.low.into(), range.high.into()))
             }
-            Test::OneOf(of, numbers) if *of == field => Some(Limit::Ranges(numbers.ranges())),
+            Test::OneOf(of, numbers) if of.kind() == field.kind() => {
+                Some(Limit::Ranges(numbers.ranges()))
+            }
             _ => None,
         }
     }

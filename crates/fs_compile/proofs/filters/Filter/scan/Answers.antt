@@ -1,4 +1,5 @@
 use Rattle.fs_compile.proofs.{Words.{◌≡◌, ℕ, ◌+◌, ◌*◌, List, get_or, sym, ap, subst, ◌∙◌, arith, IsClass, key_of, tests_of}, Sieving.{fewer_rows, port_set}}
+use Rattle.fs_ranges.specs.declared.Field.TheVariants.{DestinationPort, Length, Protocol, SourcePort}
 use Rattle.fs_compile.proofs.filters.Filter.scan.Goals as goal
 
 pub scan-requires-clause-rows : goal.scan-requires-clause-rows
@@ -32,6 +33,6 @@ scan-requires-clause-rows g c =
           (λ k below. c.row_of-2.ensures.row k below
           ∙ ap (λ (rows : List ℕ). get_or rows (c.class-out_of.result * c.words_of-words.result + k) 0) c.deref-2.ensures.value);
     }) where
-      fields : (c.args.self.now.protocol.field ≡ 3) × (c.args.self.now.destination_port.field ≡ 5) × (c.args.self.now.source_port.field ≡ 6)
-          × (c.args.self.now.length.field ≡ 10)
+      fields : (c.args.self.now.protocol.field ≡ Protocol) × (c.args.self.now.destination_port.field ≡ DestinationPort)
+          × (c.args.self.now.source_port.field ≡ SourcePort) × (c.args.self.now.length.field ≡ Length)
       fields = c.requires.filter.fields
