@@ -3,7 +3,7 @@
 ghost use Rattle.std.specs.Prelude.{◌≡◌, ◌<◌, IsSome, OnOk, OnErr};
 ghost use Rattle.fs_desk.specs.{HoldTimer.{TicksSession}, Idle.{KeepsAll}, Watched.{Tells}};
 
-use crate::receive::close;
+use crate::receive::drop_routes;
 use crate::watched::WatchedTable;
 use fs_base::{Memory, Steps};
 use fs_speaker::Session;
@@ -38,7 +38,7 @@ pub(crate) fn tick_session<L: Ledger>(
         Ok(()) => Ok(()),
         Err(why) => {
             let mut steps = Steps::<L>::new(blank);
-            close(table, peer, why, &mut steps)
+            drop_routes(table, peer, why, &mut steps)
         }
     }
 }

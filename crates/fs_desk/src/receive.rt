@@ -84,7 +84,7 @@ fn take_message<L: Ledger>(
             Ok(Some(count))
         }
         Err(why) => {
-            close(table, peer, why, steps)?;
+            drop_routes(table, peer, why, steps)?;
             Ok(None)
         }
     }
@@ -112,7 +112,7 @@ fn take_update<L: Ledger>(
     if !is_over(session.max_routes(), table.held_by(peer)) {
         return Ok(true);
     }
-    close(table, peer, TOO_MANY_ROUTES, steps)?;
+    drop_routes(table, peer, TOO_MANY_ROUTES, steps)?;
     match session.cease(MAXIMUM_REACHED, replies) {
         Ok(()) => Ok(false),
         Err(why) => {
@@ -132,7 +132,7 @@ const TOO_MANY_ROUTES: Closed = Closed::Fault {
 
 /// The peer's session has closed: takes all that the peer holds out of the table. Where it closed for want of memory
 /// the table stays, and `Memory` is answered.
-pub(crate) fn close<L: Ledger>(
+pub(crate) fn drop_routes<L: Ledger>(
     table: &mut WatchedTable<'_>,
     peer: u16,
     why: Closed,

@@ -27,11 +27,11 @@ returns-then-not-is_open-clause-taken g c =
     c.feed.new.replies.items c.take_update.new.replies.items c.args.piece.now fed.count fed.update _ c.if-not-is_open.true
     fed.field-0-1 fed.field-0-1-is fed.ensures.exact fed.ensures.closed fed.ensures.same.0 fed.ensures.same.1 c.in_ok-is_open-in-Ok-default-Some.ensures.taken
 
-pub returns-in_ok-close-in-Err-clause-taken : goal.returns-in_ok-close-in-Err-clause-taken
-returns-in_ok-close-in-Err-clause-taken g c =
-    fed_closed c.args.peer c.args.session.now c.feed.new.self c.args.table.now.held c.close.new.table.held c.args.piece.now c.in-Err.why
-    (λ h. (c.in-Err.ensures.exact h).0) (not_memory c.in-Err.why c.in_ok-close-in-Err.ensures.octets) c.in-Err.ensures.closed
-    (lost_to c.args.peer c.args.table.now.held c.close.new.table.held c.in_ok-close-in-Err.ensures.lost)
+pub returns-in_ok-drop_routes-in-Err-clause-taken : goal.returns-in_ok-drop_routes-in-Err-clause-taken
+returns-in_ok-drop_routes-in-Err-clause-taken g c =
+    fed_closed c.args.peer c.args.session.now c.feed.new.self c.args.table.now.held c.drop_routes.new.table.held c.args.piece.now c.in-Err.why
+    (λ h. (c.in-Err.ensures.exact h).0) (not_memory c.in-Err.why c.in_ok-drop_routes-in-Err.ensures.octets) c.in-Err.ensures.closed
+    (lost_to c.args.peer c.args.table.now.held c.drop_routes.new.table.held c.in_ok-drop_routes-in-Err.ensures.lost)
 
 pub returns-then-is_empty-clause-replied : goal.returns-then-is_empty-clause-replied
 returns-then-is_empty-clause-replied g c =
@@ -60,20 +60,20 @@ returns-then-not-is_open-clause-replied g c =
     (found_does c.args.session.now c.feed.new.self c.args.piece.now fed.count fed.field-0-1 fed.update fed.field-0-1-is fed.ensures.exact)
     fed.ensures.closed fed.ensures.same.0 fed.ensures.same.1 c.in_ok-is_open-in-Ok-default-Some.ensures.taken
 
-pub returns-in_ok-close-in-Err-clause-replied : goal.returns-in_ok-close-in-Err-clause-replied
-returns-in_ok-close-in-Err-clause-replied g c =
+pub returns-in_ok-drop_routes-in-Err-clause-replied : goal.returns-in_ok-drop_routes-in-Err-clause-replied
+returns-in_ok-drop_routes-in-Err-clause-replied g c =
     replies_closed c.args.peer c.args.session.now c.feed.new.self c.args.table.now.held c.args.replies.now.items c.feed.new.replies.items
     c.args.piece.now c.in-Err.why
-    c.in-Err.ensures.exact (not_memory c.in-Err.why c.in_ok-close-in-Err.ensures.octets) c.in-Err.ensures.closed
+    c.in-Err.ensures.exact (not_memory c.in-Err.why c.in_ok-drop_routes-in-Err.ensures.octets) c.in-Err.ensures.closed
 
-pub returns-in_ok-close-in-Err-clause-grows : goal.returns-in_ok-close-in-Err-clause-grows
-returns-in_ok-close-in-Err-clause-grows g c =
+pub returns-in_ok-drop_routes-in-Err-clause-grows : goal.returns-in_ok-drop_routes-in-Err-clause-grows
+returns-in_ok-drop_routes-in-Err-clause-grows g c =
     extends_fed c.args.session.now.closed c.args.session.now c.feed.new.self _ c.args.replies.now.items c.feed.new.replies.items
     (reply_at c.in-Err.why) c.in-Err.ensures.again
     (λ h. (c.in-Err.ensures.exact h).1)
 
-pub returns-in_err-close-in-Err-clause-grows : goal.returns-in_err-close-in-Err-clause-grows
-returns-in_err-close-in-Err-clause-grows g c =
+pub returns-in_err-drop_routes-in-Err-clause-grows : goal.returns-in_err-drop_routes-in-Err-clause-grows
+returns-in_err-drop_routes-in-Err-clause-grows g c =
     extends_fed c.args.session.now.closed c.args.session.now c.feed.new.self _ c.args.replies.now.items c.feed.new.replies.items
     (reply_at c.in-Err.why) c.in-Err.ensures.again
     (λ h. (c.in-Err.ensures.exact h).1)
@@ -109,8 +109,8 @@ pub returns-then-not-is_open-clause-handed : goal.returns-then-not-is_open-claus
 returns-then-not-is_open-clause-handed g c = λ h alive.
     comes_shut c.take_update.new.session too_many (c.in_ok-is_open-in-Ok-default-Some.ensures.taken.ceases c.if-not-is_open.true).0 alive
 
-pub returns-in_ok-close-in-Err-clause-handed : goal.returns-in_ok-close-in-Err-clause-handed
-returns-in_ok-close-in-Err-clause-handed g c = λ h alive. comes_shut c.feed.new.self c.in-Err.why c.in-Err.ensures.closed alive
+pub returns-in_ok-drop_routes-in-Err-clause-handed : goal.returns-in_ok-drop_routes-in-Err-clause-handed
+returns-in_ok-drop_routes-in-Err-clause-handed g c = λ h alive. comes_shut c.feed.new.self c.in-Err.why c.in-Err.ensures.closed alive
 
 pub returns-then-is_empty-clause-handed : goal.returns-then-is_empty-clause-handed
 returns-then-is_empty-clause-handed g c =
@@ -145,6 +145,6 @@ returns-then-not-is_open-clause-idle g c = λ alive idle keeps.
     (held_nothing c.args.peer c.take_update.new.session c.args.table.now too_many
     (c.in_ok-is_open-in-Ok-default-Some.ensures.taken.ceases c.if-not-is_open.true).0 keeps)
 
-pub returns-in_ok-close-in-Err-clause-idle : goal.returns-in_ok-close-in-Err-clause-idle
-returns-in_ok-close-in-Err-clause-idle g c = λ alive idle keeps.
-    c.close.ensures.idle (held_nothing c.args.peer c.feed.new.self c.args.table.now c.in-Err.why c.in-Err.ensures.closed keeps)
+pub returns-in_ok-drop_routes-in-Err-clause-idle : goal.returns-in_ok-drop_routes-in-Err-clause-idle
+returns-in_ok-drop_routes-in-Err-clause-idle g c = λ alive idle keeps.
+    c.drop_routes.ensures.idle (held_nothing c.args.peer c.feed.new.self c.args.table.now c.in-Err.why c.in-Err.ensures.closed keeps)
