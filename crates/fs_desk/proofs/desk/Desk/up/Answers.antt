@@ -1,4 +1,4 @@
-use Rattle.fs_desk.proofs.{Words.{Result, Ok, Err, OnErr, ap, sym, ◌∙◌, Desked}, Played.{desk_begun, desk_up, desk_stays, others_put}}
+use Rattle.fs_desk.proofs.{Words.{Result, Ok, Err, OnErr, ap, subst, sym, ◌∙◌, Covers, Desked}, Played.{desk_begun, desk_up, desk_stays, others_put}}
 use Rattle.fs_desk.proofs.desk.Desk.up.Goals as goal
 
 on_err : {T E P : Type 0} (result : Result T E) → P → OnErr result P
@@ -29,3 +29,7 @@ returns-clause-others c =
     others_put c.self.inside.table.changes c.args.peer c.in_ok-session.session c.self.inside.config.now c.self.inside.table.held
     c.self.inside.table.held c.self.inside.sessions.entries c.insert.new.self.entries
     c.args.self.now c.lost.new.self (sym c.self.view_is) c.in_ok-insert.ensures.entries c.lost.ensures.others
+
+pub returns-clause-told : goal.returns-clause-told
+returns-clause-told c = λ base covers.
+    subst (λ (d : Desked). Covers base d.changes d.held) (sym c.self.view_is) (c.lost.ensures.told base covers)
