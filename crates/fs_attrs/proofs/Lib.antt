@@ -1,7 +1,6 @@
 mod Words
 pub mod Alike
 mod PartLists
-pub mod RulesRead
 mod FieldOutcome
 mod PartSizes
 mod AttributeScans

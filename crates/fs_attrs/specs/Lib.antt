@@ -4,7 +4,6 @@ pub mod Lists
 pub mod Same
 pub mod Segments
 pub mod Paths
-pub mod Rules
 pub mod Routes
 pub mod Update
 pub mod Texts

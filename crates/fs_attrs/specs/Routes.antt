@@ -4,8 +4,9 @@ use Rattle.std.specs.Prelude.{Result, Ok, Err, ⊤}
 use Rattle.byteorder.specs.Endian.{big_number}
 use Rattle.fs_base.specs.declared.prefix.Family.{Family, TheVariants.{V4, V6}}
 use Rattle.fs_nlri.specs.{declared.fault.{Reason.{Reason}, NlriFault.{NlriFault, TheVariants.{Bad, Memory as NoMemory}}}, Outcome.{AreBadFrames}}
+use Rattle.fs_nlri.specs.Reading.{rules_of}
 use Rattle.fs_attrs.specs.declared.update.{Routes.{Routes, TheVariants.{Unicast, Flow}}, UpdateFault.{UpdateFault, TheVariants.{Optional, Memory}}}
-use Rattle.fs_attrs.specs.{Attributes.{Valued}, Prefixes.{are_prefixes, prefixes_of}, Rules.{rules_of}}
+use Rattle.fs_attrs.specs.{Attributes.{Valued}, Prefixes.{are_prefixes, prefixes_of}}
 
 -- a fault of MP_REACH_NLRI or MP_UNREACH_NLRI, with the reason and the place of an NLRI's own fault
 abbrev pub Wrong : Type 0

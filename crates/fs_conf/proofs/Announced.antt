@@ -10,7 +10,7 @@ use Rattle.fs_conf.proofs.Words.{sent_of_text, text_keys, all_each}
 use Rattle.fs_conf.proofs.{Accepted.{as_within, written_reads, written_small}, Found.{cond_within}, ListedActions.{listed_are}}
 use Rattle.fs_conf.proofs.TextSought.{rule_is, text_found}
 use Rattle.hex.{specs.{Hex.{decode_of}, declared.error.FromHexError.{FromHexError}}, proofs.HexLemmas.{decode_of-ok}}
-use Rattle.fs_attrs.proofs.RulesRead.{outcome_is}
+use Rattle.fs_nlri.proofs.Reading.{field_is}
 use Rattle.fs_speaker.specs.{declared.Sending.{Sending}, Laws.{IsSent}, Sending.{is_sending, is_short, sender_of}, Transition.{terms_of}}
 
 -- hexadecimal
@@ -25,7 +25,7 @@ text_octets text octets is = octets_from octets (decode_of-ok text octets (decod
 -- the rule of octets that are one frame
 
 pub rule_sound : (family : Family) (octets : List ℕ) (rule : Ruled) → IsOctets octets → rule_of family octets ≡ Some rule → IsRule rule
-rule_sound = rule_is outcome_is
+rule_sound = rule_is field_is
 
 -- a rule with its actions
 
@@ -61,7 +61,7 @@ members_sent members sent is =
 
 text_sent : (text : List ℕ) (sent : Sent) → sent_of_text text ≡ Some sent → IsSent sent
 text_sent text sent is =
-    let own = text_found outcome_is text sent is in
+    let own = text_found field_is text sent is in
     record { rule = own.rule; actions = own.actions.rising; octets = own.actions.octets }
 
 table_sent : (members : Members) (sent : Sent) → sent_of_table members ≡ Some sent → IsSent sent

@@ -12,7 +12,7 @@ single found = option_and_then only (if_ok found)
 
 module _ (law : IsTheOutcome) (family : Family) (octets : List ℕ) (small : IsOctets octets) where
   found_is : (found : Found) → IsFieldOutcome family octets found → rules_of family octets ≡ found
-  found_is found h = one_field_outcome family octets (rules_of family octets) found small (law family octets small) h
+  found_is found h = one_field_outcome family octets (rules_of family octets) found small (law family octets) h
 
   pub one_frame : (rule : Ruled) (taken : ℕ) → taken ≡ length octets → rule.family ≡ family → IsFrame (take taken octets) rule
       → rule_of family octets ≡ Some rule
@@ -31,7 +31,7 @@ module _ (law : IsTheOutcome) (family : Family) (octets : List ℕ) (small : IsO
 
   pub goes_on : (goes : NoFrameGoesOn) (rule : Ruled) (taken : ℕ) → taken ≤ length octets → (taken ≡ length octets → ⊥) → rule.family ≡ family
       → IsFrame (take taken octets) rule → rule_of family octets ≡ None
-  goes_on goes rule taken within more own frame = by (rules_of family octets) (law family octets small)
+  goes_on goes rule taken within more own frame = by (rules_of family octets) (law family octets)
     where
       by : (found : Found) → IsFieldOutcome family octets found → single found ≡ None
       by (Err bad) h = refl

@@ -29,7 +29,7 @@ single_rule family octets rule (Ok (one ∷ [])) small h is =
     subst IsRule same (frame_is_rule octets one small (subst (λ (z : List ℕ). IsFrame z one) (sym whole) h.4))
 
 pub rule_is : IsTheOutcome → (family : Family) (octets : List ℕ) (rule : Ruled) → IsOctets octets → rule_of family octets ≡ Some rule → IsRule rule
-rule_is law family octets rule small is = single_rule family octets rule (rules_of family octets) small (law family octets small) is
+rule_is law family octets rule small is = single_rule family octets rule (rules_of family octets) small (law family octets) is
 
 rule_back : IsTheOutcome → (rule : Ruled) → IsRule rule → rule_of rule.family (canonical_frame rule) ≡ Some rule
 rule_back law rule is =

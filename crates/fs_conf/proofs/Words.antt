@@ -21,13 +21,13 @@ unfoldable pub use Rattle.std.specs.Net.Addr.{ipv4_bits, ipv6_bits}
 pub use Rattle.fs_base.proofs.Lists.{all_each, each_append, each_mapped, each_weaker}
 pub use Rattle.fs_base.proofs.Octets.{octets_drop, octets_from, octets_of_each, octets_take}
 pub use Rattle.fs_base.specs.{Language.{IsOctets}, declared.{config.{Config.{Config}, Peer.{Peer}}, prefix.Family.{Family}}}
-pub use Rattle.fs_nlri.specs.{Outcome.{IsFieldOutcome}, Parts.{Ruled}}
+pub use Rattle.fs_nlri.specs.{Outcome.{IsFieldOutcome}, Parts.{Ruled}, Reading.{rules_of}}
 pub use Rattle.fs_nlri.specs.Rule.{IsRule, canonical_frame, canonical_length, canonical_value}
 pub use Rattle.fs_nlri.specs.{Spelling.{IsFrame}, declared.fault.Reason.{Reason}}
 pub use Rattle.fs_order.specs.Comparison.{rule_cmp}
 pub use Rattle.fs_actions.proofs.ReadBack.{communities_joined, each_length, read_back, whole_joined}
 pub use Rattle.fs_text.specs.Text.{AreActions, ReadsAs}
-pub use Rattle.fs_attrs.specs.{Laws.{IsTheOutcome}, Rules.{rules_of}}
+pub use Rattle.fs_attrs.specs.Laws.{IsTheOutcome}
 pub use Rattle.fs_speaker.specs.declared.Sent.{Sent}
 pub use Rattle.fs_conf.specs.Address.{address_of, around_double_colon, begin_field, colon, decimal_octet, dot, each_of, exactly, fields_of, group_of}
 pub use Rattle.fs_conf.specs.Address.{groups_of, ipv4_octets_of, ipv4_of, ipv6_form_2, ipv6_groups_of, ipv6_of}

@@ -5,9 +5,8 @@ use Rattle.std.specs.{List.{list_all}, Str.{bytes_eq}}
 use Rattle.hex.specs.Hex.{decode_of}
 use Rattle.toml.specs.Data.{Data, as_str, as_table, Members, get_member}
 use Rattle.fs_base.specs.declared.prefix.Family.{Family, TheVariants.{V4, V6}}
-use Rattle.fs_nlri.specs.Parts.{Ruled}
+use Rattle.fs_nlri.specs.{Parts.{Ruled}, Reading.{rules_of}}
 use Rattle.fs_actions.specs.{Actions.{actions_of, are_communities, communities}, Community.{normal_form}}
-use Rattle.fs_attrs.specs.Rules.{rules_of}
 use Rattle.fs_speaker.specs.declared.Sent.{Sent}
 use Rattle.fs_conf.specs.{Config.{written}, Fields.{keys_among}, Worded.{has_text, octet_lists, with_each}}
 

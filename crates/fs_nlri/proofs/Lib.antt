@@ -8,7 +8,7 @@ pub mod Made
 pub mod NormalForm
 pub mod Frames
 pub mod Writable
-pub mod Every
+pub mod Reading
 pub mod Fed
 pub mod OneOutcome
 pub mod Again

@@ -7,7 +7,7 @@ use Rattle.fs_nlri.proofs.Words.{octets_right, Kind, text, behind, no_list, Reas
 use Rattle.fs_nlri.proofs.Words.{V4Form, V6Form, ListForm, form_of, Part, Ruled, Spells, IsValue, IsFrame, IsTypePlace, IsBodyPlace, IsRole, HasRole}
 use Rattle.fs_nlri.proofs.Words.{IsValueBad, IsOpen, IsBadFrame, IsFrameBad, IsBody, Frames, IsFrameOutcome, IsFieldOutcome}
 use Rattle.fs_nlri.proofs.{Bodies.{no_empty_body}, Fronts.{whole_front, front_behind}, ValueFaults.{opening}}
-use Rattle.fs_nlri.proofs.{Frames.{one_rule, same_frame, frame_no_fault}, Every.{frame_some}}
+use Rattle.fs_nlri.proofs.{Frames.{one_rule, same_frame, frame_no_fault}, Reading.{frame_some}}
 
 -- Before the octet of a role no body ends
 

@@ -8,6 +8,7 @@ pub mod Rule
 pub mod Same
 pub mod Sound
 pub mod Making
+pub mod Reading
 pub mod Writing
 pub mod Feed
 pub mod Outcome

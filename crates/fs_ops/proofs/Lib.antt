@@ -1,6 +1,5 @@
 mod Words
 pub mod Canonical
-pub mod Every
 pub mod Found
 pub mod Grammar
 pub mod Groups

@@ -1,5 +1,5 @@
-use Rattle.fs_attrs.proofs.RulesRead.{outcome_is}
+use Rattle.fs_nlri.proofs.Reading.{field_is}
 use Rattle.fs_attrs.proofs.laws.rules_are_the_outcome.Goals as goal
 
 pub returns : goal.returns
-returns c = outcome_is
+returns c = field_is

@@ -1,26 +1,62 @@
--- The rules of a field as they are read from the front are the outcome that the grammar of flow rules gives.
-use Rattle.std.proofs.Common.{append-nil}
-use Rattle.fs_attrs.proofs.Words.{◌≡◌, ℕ, zero, suc, ◌+◌, ◌-◌, ◌<◌, ◌≤◌, ◌==◌, Bool, true, false, List, [], ◌∷◌, ◌++◌, Option, Some, None, Result, Ok}
-use Rattle.fs_attrs.proofs.Words.{Err, Any, Contains, length, take, drop, refl, ap, sym, subst, ◌∙◌, arith, ◌⊎◌, inl, inr, bit_and, append_assoc}
-use Rattle.fs_attrs.proofs.Words.{length-append, length-drop, list_any, take-append-drop, take_rest, Contains-append_right, Contains-push_cases}
-use Rattle.fs_attrs.proofs.Words.{Contains-append_cases, cases_lt, cases_eq, cases_Bool, lt-ltb, le-ltb, le-leb, eq-eqb, ne_eqb, big_number, Family}
-use Rattle.fs_attrs.proofs.Words.{IsOctets, octets_drop, counted_bits, ends, width_code, text, Reason, Bad, Form, V4Form, V6Form, ListForm, form_of}
-use Rattle.fs_attrs.proofs.Words.{forms, Body, Part, part, Ruled, SpellsBody, Spells, IsRange, IsLength, IsFrame, octets_for, IsFrameOutcome}
-use Rattle.fs_attrs.proofs.Words.{IsFieldOutcome, list_bad, v4_at, v6_at, with_pair, pairs_at, list_body, body_at, behind_type, typed_at}
-use Rattle.fs_attrs.proofs.Words.{with_component, components_of, components_in, length_at, framed, sized_at, frame_at, with_rule, frames_of, rules_of}
-use Rattle.fs_ops.specs.declared.{kind.Kind.{Kind}, fault.OpsFault.TheVariants.{Cut as ListCut, Width as ListWidth}}
-use Rattle.fs_ops.specs.{Operator.{width_of}, OperatorList.{Spells as SpellsPairs}, Fault.{IsFault}}
+-- What is read of the front of octets is the outcome that the grammar of flow rules gives: of a prefix, a list, a value, a frame, a field.
+use Rattle.fs_nlri.proofs.Words.{Any, Bad, Body, Bool, Contains, Cut, Err, Family, Form, IsBodyBad, IsFieldOutcome, IsFrame, IsFrameOutcome, IsLength}
+use Rattle.fs_nlri.proofs.Words.{IsOpen, IsRange, IsSome, IsValueBad, Kind, Length, List, ListForm, NoType, None, Offset, Ok, Option, Order, Part}
+use Rattle.fs_nlri.proofs.Words.{PrefixLength, Reason, Result, Ruled, Some, Spells, SpellsAt, SpellsBody, SpellsV4, SpellsV6, V4, V4Body, V4Form, V6}
+use Rattle.fs_nlri.proofs.Words.{V6Body, V6Form, Width, [], ap, append_assoc, arith, big_number, bit_and, both_ways, cases_eq, cases_lt, drop, eq-eqb}
+use Rattle.fs_nlri.proofs.Words.{false, first_bits, form_of, forms, get_or, inl, inr, le-leb, length, length-append, length-drop, length-take-le}
+use Rattle.fs_nlri.proofs.Words.{list_any, lt-ltb, octets_for, part, refl, subst, suc, sym, take, take-append-drop, take_rest, text, true, width_code}
+use Rattle.fs_nlri.proofs.Words.{append-nil, is_range, zero, ℕ, ◌++◌, ◌+◌, ◌-◌, ◌<◌, ◌==◌, ◌∙◌, ◌∷◌, ◌≡◌, ◌≤◌, ◌⊎◌}
+use Rattle.std.proofs.lemmas.{Bool.{cases_Bool, le-ltb, ne_eqb}, List.Elements.{Contains-append_cases, Contains-append_right, Contains-push_cases}}
+use Rattle.fs_ops.specs.{Operator.{counted_bits, ends, width_of}, OperatorList.{Spells as SpellsPairs}, Fault.{IsFault}}
+use Rattle.fs_ops.specs.declared.fault.OpsFault.TheVariants.{Cut as ListCut, Width as ListWidth}
 use Rattle.fs_ops.proofs.Found.{cut_between, cut_within, bad_width, next_found, goes_on, ends_here, HasRead as HasPairs}
-use Rattle.fs_nlri.specs.declared.fault.Reason.TheVariants.{Cut, NoType, Order, PrefixLength, Offset, Width, Length}
-use Rattle.fs_nlri.specs.{Making.{is_range}, Fault.{IsValueBad, IsOpen}}
+use Rattle.fs_nlri.specs.Reading.{behind_type, body_at, components_in, components_of, frame_at, framed, frames_of, length_at, list_body, pairs_at}
+use Rattle.fs_nlri.specs.Reading.{rules_of, sized_at, typed_at, v4_at, v6_at, with_component, with_pair, with_rule}
 use Rattle.fs_nlri.proofs.Bodies.{v4_empty, v4_length, v4_cut, v6_empty, v6_length, v6_one, v6_offset, v6_cut}
+use Rattle.fs_nlri.proofs.{BodyReaders.{list_bad}, Fronts.{front_more}, Frames.{same_head, frame_found, frame_bad}, InNormalForm.{range_is}}
 use Rattle.fs_nlri.proofs.ValueSteps.{HasRead, start, finished, no_type, not_above, bad_at}
-use Rattle.fs_nlri.proofs.Frames.{frame_found, frame_bad}
-use Rattle.fs_nlri.proofs.Every.{IsBodyOutcome, IsValueOutcome, AllowsSome, allows_at, all_allow, v4_whole, v6_whole, range_or_not, more_part}
-use Rattle.fs_nlri.proofs.Every.{none_is_not_some, some_is, open_empty, open_one, passes_end, frame_before_bad, frame_some}
-use Rattle.fs_nlri.proofs.InNormalForm.{range_is}
 
 -- Prefixes
+
+abbrev IsBodyOutcome : Form → List ℕ → Result (Body × ℕ) (Reason × ℕ) → Type 0
+IsBodyOutcome form octets (Ok read) = (read.1 ≤ length octets) × SpellsBody form (take read.1 octets) read.0
+IsBodyOutcome form octets (Err bad) = IsBodyBad form octets bad.0 bad.1
+
+v4_whole : (len : ℕ) (tail : List ℕ) → len ≤ 32 → octets_for len ≤ length tail
+    → SpellsV4 (take (1 + octets_for len) (len ∷ tail)) (V4Body V4 len (first_bits 32 len (take (octets_for len) tail)))
+v4_whole len tail short room = record {
+  len = len;
+  address = take (octets_for len) tail;
+  split = let e : 1 + octets_for len ≡ suc (octets_for len) = omega arith in ap (λ (n : ℕ). take n (len ∷ tail)) e;
+  short = short;
+  size = length-take-le (octets_for len) tail room;
+  says = refl;
+}
+
+range_or_not : (len offset : ℕ) → len ≤ 128 → IsRange len offset ⊎ (IsRange len offset → ⊥)
+range_or_not len offset short = elim (cases_lt offset len) [
+  | inl less ↦ inl (short, inl less)
+  | inr more ↦ elim (cases_eq len 0) [
+    | inl none ↦ elim (cases_eq offset 0) [
+      | inl first ↦ inl (short, inr (none, first))
+      | inr other ↦ inr (λ range. elim range.1 [ inl less ↦ absurd (omega arith) | inr both ↦ other both.1 ])
+    ]
+    | inr some ↦ inr (λ range. elim range.1 [ inl less ↦ absurd (omega arith) | inr both ↦ some both.0 ])
+  ]
+]
+
+v6_whole : (len offset : ℕ) (tail : List ℕ) → IsRange len offset → octets_for (len - offset) ≤ length tail
+    → SpellsV6 (take (2 + octets_for (len - offset)) (len ∷ offset ∷ tail))
+    (V6Body len offset (first_bits 128 (len - offset) (take (octets_for (len - offset)) tail)))
+v6_whole len offset tail range room = record {
+  len = len;
+  offset = offset;
+  pattern = take (octets_for (len - offset)) tail;
+  split = let e : 2 + octets_for (len - offset) ≡ suc (suc (octets_for (len - offset))) = omega arith in ap (λ (n : ℕ). take n (len ∷ offset ∷ tail)) e;
+  range = range;
+  size = length-take-le (octets_for (len - offset)) tail room;
+  says = refl;
+}
 
 v4_is : (octets : List ℕ) → IsBodyOutcome V4Form octets (v4_at octets)
 v4_is [] = v4_empty
@@ -195,12 +231,67 @@ list_is kind widths bits octets some =
     by (Ok found) h = (h.0, record { pairs = found.0; spells = h.1; says = refl })
     by (Err fault) h = bad fault.0 fault.1 h
 
+-- Components
+
+-- each list form allows some width
+abbrev AllowsSome : Form → Type 0
+AllowsSome V4Form = Unit {0}
+AllowsSome V6Form = Unit {0}
+AllowsSome (ListForm kind widths bits) = Any (λ code. code < 4) widths
+
+abbrev AllAllow : List (Option Form) → Type 0
+AllAllow [] = Unit {0}
+AllAllow (None ∷ forms) = AllAllow forms
+AllAllow (Some form ∷ forms) = AllowsSome form × AllAllow forms
+
+allows_at : (forms : List (Option Form)) (kind : ℕ) (form : Form) → AllAllow forms → get_or forms kind None ≡ Some form → AllowsSome form
+allows_at [] kind form all is = cc
+allows_at (None ∷ forms) zero form all is = cc
+allows_at (None ∷ forms) (suc kind) form all is = allows_at forms kind form all is
+allows_at (Some own ∷ forms) zero form all is = let same : own ≡ form = cc in subst AllowsSome same all.0
+allows_at (Some own ∷ forms) (suc kind) form all is = allows_at forms kind form all.1 is
+
+zero_allowed : (widths : List ℕ) → Any (λ code. code < 4) (0 ∷ widths)
+zero_allowed widths = (0, 0, omega arith, refl, omega arith)
+
+all_allow : (family : Family) → AllAllow (forms family)
+all_allow V4 = let some = zero_allowed (1 ∷ 2 ∷ 3 ∷ []) in
+    (tt, (tt, (some, (some, (some, (some, (some, (some, (zero_allowed (1 ∷ []), (some, (zero_allowed [], (zero_allowed [], tt))))))))))))
+all_allow V6 = let some = zero_allowed (1 ∷ 2 ∷ 3 ∷ []) in
+    (tt, (tt, (some, (some, (some, (some, (some, (some, (zero_allowed (1 ∷ []), (some, (zero_allowed [], (zero_allowed [], (some, tt)))))))))))))
+
 body_is : (form : Form) (octets : List ℕ) → AllowsSome form → IsBodyOutcome form octets (body_at form octets)
 body_is V4Form octets some = v4_is octets
 body_is V6Form octets some = v6_is octets
 body_is (ListForm kind widths bits) octets some = list_is kind widths bits octets some
 
 -- Values
+
+-- one more component
+more_part : (family : Family) (octets : List ℕ) (kind : ℕ) (tail : List ℕ) (last : ℕ) (parts : List Part) (form : Form) (taken : ℕ) (body : Body)
+    → HasRead family octets (kind ∷ tail) last parts → last < kind → form_of family kind ≡ Some form → SpellsBody form (take taken tail) body
+    → HasRead family octets (drop taken tail) kind (parts ++ part kind body ∷ [])
+more_part family octets kind tail last parts form taken body read rises is spells = record {
+  front = read.front ++ kind ∷ take taken tail;
+  had = front_more family 0 last read.front (take taken tail) parts (part kind body) read.had rises
+      (subst (λ (at : Option Form). SpellsAt at (take taken tail) body) (sym is) spells);
+  split =
+      read.split
+      ∙ ap (λ (l : List ℕ). read.front ++ kind ∷ l) (sym (take-append-drop taken tail))
+      ∙ sym (append_assoc read.front (kind ∷ take taken tail) (drop taken tail));
+}
+
+abbrev IsValueOutcome : Family → List ℕ → Result (List Part) (Reason × ℕ) → Type 0
+IsValueOutcome family octets (Ok parts) = Spells family 0 octets parts
+IsValueOutcome family octets (Err bad) = IsValueBad family octets bad.0 bad.1
+
+none_is_not_some : (o : Option Form) → o ≡ None → IsSome o → ⊥
+none_is_not_some None is some = both_ways false refl some
+none_is_not_some (Some form) is some = cc
+
+some_is : (o : Option Form) (form : Form) → o ≡ Some form → IsSome o
+some_is None form is = cc
+some_is (Some own) form is = refl
 
 -- a component that may come next, or the fault of the value
 abbrev IsTyped : Family → List ℕ → ℕ → List ℕ → ℕ → Result (Body × ℕ) (Reason × ℕ) → Type 0
@@ -296,19 +387,60 @@ value_is family octets =
 
 -- Frames
 
+-- a length at the front with what it says, or none that is whole
 abbrev IsLengthOutcome : List ℕ → Option (ℕ × ℕ) → Type 0
 IsLengthOutcome octets None = IsOpen octets
-IsLengthOutcome octets (Some found) = (found.0 ≤ length octets) × IsLength (take found.0 octets) found.1
+IsLengthOutcome octets (Some read) = (read.0 ≤ length octets) × IsLength (take read.0 octets) read.1
 
-length_is : (octets : List ℕ) → IsOctets octets → IsLengthOutcome octets (length_at octets)
-length_is [] small = open_empty
-length_is (first ∷ []) small = elim (cases_lt first 240) [
+open_empty : IsOpen []
+open_empty [] value rest is split = is
+open_empty (a ∷ head) value rest is split = cc
+
+open_one : (a : ℕ) → 240 ≤ a → IsOpen (a ∷ [])
+open_one a large [] value rest is split = is
+open_one a large (b ∷ []) value rest is split =
+    let heads : a ≡ b = cc in
+    let small : b < 240 = is.0 in
+    absurd (omega arith)
+open_one a large (b ∷ c ∷ head) value rest is split = cc
+
+open_two : (a b : ℕ) (tail : List ℕ) → 240 ≤ a → ((a < 256) × (b < 256) → ⊥) → IsOpen (a ∷ b ∷ tail)
+open_two a b tail large none [] value rest is split = is
+open_two a b tail large none (c ∷ []) value rest is split =
+    let heads : a ≡ c = cc in
+    let small : c < 240 = is.0 in
+    absurd (omega arith)
+open_two a b tail large none (c ∷ d ∷ []) value rest is split =
+    let firsts : a ≡ c = cc in
+    let seconds : b ≡ d = cc in
+    none (subst (λ (x : ℕ). x < 256) (sym firsts) is.1, subst (λ (x : ℕ). x < 256) (sym seconds) is.2)
+open_two a b tail large none (c ∷ d ∷ e ∷ head) value rest is split = is
+
+-- a length that passes the end of the octets
+passes_end : (octets : List ℕ) (head len : ℕ) → IsLength (take head octets) len → length (take (length octets - head) (drop head octets)) < len
+    → IsOpen octets
+passes_end octets head len is few own value rest own_is split =
+    let found = same_head own (take head octets) (length value) len (value ++ rest) (drop head octets) own_is is (sym split
+    ∙ sym (take-append-drop head octets)) in
+    let left : length (value ++ rest) ≡ length (take (length octets - head) (drop head octets)) = ap length (found.rest ∙ sym (take_rest octets head)) in
+    let size : length value ≡ len = found.size in
+    absurd (omega (arith, length-append value rest, left, size, few))
+
+length_is : (octets : List ℕ) → IsLengthOutcome octets (length_at octets)
+length_is [] = open_empty
+length_is (first ∷ []) = elim (cases_lt first 240) [
   | inl low ↦ rw (lt-ltb first 240 low) (omega arith, (low, refl))
   | inr large ↦ rw (le-ltb first 240 large) (open_one first large)
 ]
-length_is (first ∷ second ∷ tail) small = elim (cases_lt first 240) [
+length_is (first ∷ second ∷ tail) = elim (cases_lt first 240) [
   | inl low ↦ rw (lt-ltb first 240 low) (omega arith, (low, refl))
-  | inr large ↦ rw (le-ltb first 240 large) (omega arith, (large, small 0 0 (omega arith), small 1 0 (omega arith), refl))
+  | inr large ↦ rw (le-ltb first 240 large) (elim (cases_lt first 256) [
+    | inr past ↦ rw (le-ltb first 256 past) (open_two first second tail large (λ both. let small : first < 256 = both.0 in omega arith))
+    | inl small ↦ rw (lt-ltb first 256 small) (elim (cases_lt second 256) [
+      | inr past ↦ rw (le-ltb second 256 past) (open_two first second tail large (λ both. let less : second < 256 = both.1 in omega arith))
+      | inl less ↦ rw (lt-ltb second 256 less) (omega arith, (large, small, less, refl))
+    ])
+  ])
 ]
 
 sized_is : (family : Family) (octets : List ℕ) (head len : ℕ) → head ≤ length octets → IsLength (take head octets) len
@@ -333,8 +465,8 @@ sized_is family octets head len inside is = elim (cases_lt (length (drop head oc
         frame_bad family octets head len (Bad bad.0 bad.1) is (subst (λ (l : List ℕ). len ≤ length l) (sym (take_rest octets head)) room)
         (subst (λ (l : List ℕ). IsValueBad family (take len l) bad.0 bad.1) (sym (take_rest octets head)) h)
 
-frame_is : (family : Family) (octets : List ℕ) → IsOctets octets → IsFrameOutcome family octets (frame_at family octets)
-frame_is family octets small = by (length_at octets) (length_is octets small)
+pub frame_is : (family : Family) (octets : List ℕ) → IsFrameOutcome family octets (frame_at family octets)
+frame_is family octets = by (length_at octets) (length_is octets)
   where
     by : (found : Option (ℕ × ℕ)) → IsLengthOutcome octets found
         → IsFrameOutcome family octets (elim found [ None ↦ Err (Length, length octets) | Some found ↦ sized_at family found.0 found.1 octets ])
@@ -342,6 +474,26 @@ frame_is family octets small = by (length_at octets) (length_is octets small)
     by (Some found) h = sized_is family octets found.0 found.1 h.0 h.1
 
 -- Fields
+
+-- a frame is never empty
+pub frame_some : (frame : List ℕ) (rule : Ruled) → IsFrame frame rule → frame ≡ [] → ⊥
+frame_some frame rule is none = some is.head is.value is.size (sym is.split ∙ none) where
+  some : (head value : List ℕ) → IsLength head (length value) → head ++ value ≡ [] → ⊥
+  some [] value size empty = size
+  some (a ∷ head) value size empty = cc
+
+-- a frame before a field with a fault
+frame_before_bad : (family : Family) (frame rest : List ℕ) (rule : Ruled) (bad : Reason × ℕ) → rule.family ≡ family → IsFrame frame rule
+    → IsFieldOutcome family rest (Err bad) → IsFieldOutcome family (frame ++ rest) (Err bad)
+frame_before_bad family frame rest rule bad families is holds = record {
+  front = frame ++ holds.front;
+  rules = rule ∷ holds.rules;
+  rest = holds.rest;
+  frames = (frame, holds.front, refl, families, is, holds.frames);
+  split = ap (λ (l : List ℕ). frame ++ l) holds.split ∙ sym (append_assoc frame holds.front holds.rest);
+  some = holds.some;
+  bad = holds.bad;
+}
 
 framed_more : (family : Family) (frame rest : List ℕ) (rule : Ruled) (later : Result (List Ruled) (Reason × ℕ)) → rule.family ≡ family
     → IsFrame frame rule → IsFieldOutcome family rest later
@@ -357,25 +509,25 @@ shorter (suc n) (octet ∷ rest) most enough some = omega (arith, length-drop n 
 not_nil : (octet : ℕ) (tail : List ℕ) → octet ∷ tail ≡ [] → ⊥
 not_nil octet tail none = cc
 
-frames_are : (family : Family) (most : ℕ) (octets : List ℕ) → IsOctets octets → length octets < most
+frames_are : (family : Family) (most : ℕ) (octets : List ℕ) → length octets < most
     → IsFieldOutcome family octets (frames_of family most octets)
 unfolding frames_of
-frames_are family zero octets small enough = absurd (omega arith)
-frames_are family (suc most) [] small enough = refl
-frames_are family (suc most) (octet ∷ tail) small enough =
+frames_are family zero octets enough = absurd (omega arith)
+frames_are family (suc most) [] enough = refl
+frames_are family (suc most) (octet ∷ tail) enough =
     let octets : List ℕ = octet ∷ tail in
     elim (frame_at family octets) as (λ found. IsFrameOutcome family octets found → IsFieldOutcome family octets (elim found [
       | Ok found ↦ with_rule found.0 (frames_of family most (drop found.1 octets))
       | Err bad ↦ Err bad
     ])) [
       | Ok found ↦ λ h.
-          let later = frames_are family most (drop found.1 octets) (octets_drop found.1 octets small)
+          let later = frames_are family most (drop found.1 octets)
           (shorter found.1 octets most enough (frame_some (take found.1 octets) found.0 h.2)) in
           subst (λ (l : List ℕ). IsFieldOutcome family l (with_rule found.0 (frames_of family most (drop found.1 octets)))) (take-append-drop found.1 octets)
           (framed_more family (take found.1 octets) (drop found.1 octets) found.0 (frames_of family most (drop found.1 octets)) h.1 h.2 later)
       | Err bad ↦ λ h. record { front = []; rules = []; rest = octets; frames = refl; split = refl; some = λ none. not_nil octet tail none; bad = h }
-    ] (frame_is family octets small)
+    ] (frame_is family octets)
 
-pub outcome_is : (family : Family) (octets : List ℕ) → IsOctets octets → IsFieldOutcome family octets (rules_of family octets)
+pub field_is : (family : Family) (octets : List ℕ) → IsFieldOutcome family octets (rules_of family octets)
 unfolding rules_of
-outcome_is family octets small = let enough : length octets < suc (length octets) = omega arith in frames_are family (suc (length octets)) octets small enough
+field_is family octets = frames_are family (suc (length octets)) octets (omega arith)

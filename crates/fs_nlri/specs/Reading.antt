@@ -1,7 +1,7 @@
 -- The rules of a field of flow specification NLRI (RFC 8955, section 4; RFC 8956, section 3), or the reason and the
 -- place of the fault of its first faulty frame. Each word answers what stands at the front with the number of its
 -- octets, or a reason and a place that counts from the front. That this is the one outcome which the grammar of flow
--- rules gives is a law (`rules_are_the_outcome`).
+-- rules gives is a law (`rules_are_the_outcome` of `fs_attrs`).
 use Rattle.std.specs.Prelude.{ℕ, suc, zero, ◌+◌, ◌-◌, ◌*◌, ◌==◌, Bool, true, false, not, bit_and, nat_lt, if◌then◌else◌, List, [], ◌∷◌, length, take}
 use Rattle.std.specs.Prelude.{drop, Option, Some, None, Result, Ok, Err}
 use Rattle.std.specs.List.{list_any}
@@ -88,10 +88,11 @@ components_of family (suc most) last (kind ∷ tail) = elim (typed_at (form_of f
 abbrev pub components_in : Family → List ℕ → Result (List Part) (Reason × ℕ)
 components_in family octets = components_of family (suc (length octets)) 0 octets
 
--- the number of the octets that say a length, and the length
+-- the number of the octets that say a length, and the length; numbers that are no octets say none
 abbrev pub long_length : ℕ → List ℕ → Option (ℕ × ℕ)
 long_length first [] = None
-long_length first (second ∷ tail) = Some (2, (first - 240) * 256 + second)
+long_length first (second ∷ tail) =
+    if nat_lt first 256 then (if nat_lt second 256 then Some (2, (first - 240) * 256 + second) else None) else None
 
 abbrev pub length_at : List ℕ → Option (ℕ × ℕ)
 length_at [] = None
