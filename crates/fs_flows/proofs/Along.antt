@@ -3,7 +3,7 @@ use Rattle.fs_flows.proofs.Words.{ℕ, ◌≡◌, refl, sym, ap, ap₂, subst, �
 use Rattle.fs_flows.proofs.Words.{filter, map, Option, Some, None, is_eq, AllByRecursion, keys_of, MatchOption, eqb-true, sorted_head, sorted_tail}
 use Rattle.fs_flows.proofs.Words.{Config, Prefix, prefix_cmp, true_of_not, each, each_weaker, each_both, filter-append, filter_all, each_filtered}
 use Rattle.fs_flows.proofs.Words.{destination_prefix, Route, Kept, mended, retested, is_related_kept, is_of_other, Entry, kept_in, IsTo, ArePlaced}
-use Rattle.fs_flows.proofs.Words.{AreInOrder, IsGrouped, with_group, keep_at, Listed, lists, is_among, StaysListed, IsAmong, IsListed, keep_along}
+use Rattle.fs_flows.proofs.Words.{AreInOrder, IsGrouped, with_group, keep_at, Destinations, lists, is_among, StaysListed, IsAmong, IsListed, keep_along}
 use Rattle.fs_flows.proofs.{Apart.{each_front, each_back}, Changed.{each-filtered}}
 use Rattle.fs_flows.proofs.TakingFromGroups.{kept_with, placed_at, each_at, sorted_at, other_keys}
 use Rattle.fs_flows.proofs.Grouping.{few_left}
@@ -116,17 +116,17 @@ module _ (keeps : Kept → Bool) where
     }
 
 -- What is listed stays so.
-pub listed_still : (old new : Listed) → StaysListed old new → (ks : List Kept) → AllByRecursion (IsListed old) ks → AllByRecursion (IsListed new) ks
+pub listed_still : (old new : Destinations) → StaysListed old new → (ks : List Kept) → AllByRecursion (IsListed old) ks → AllByRecursion (IsListed new) ks
 listed_still old new stays ks h = each_weaker (IsListed old) (IsListed new) (λ k l. at k.route.peer (destination_prefix k.route.rule) l) ks h where
   at : (peer : ℕ) (d : Option Prefix) → MatchOption d (Unit {0}) (λ p. lists old peer p ≡ true) → MatchOption d (Unit {0}) (λ p. lists new peer p ≡ true)
   at peer None l = tt
   at peer (Some p) l = stays peer p l
 
-pub listed_left : (listed : Listed) (keeps : Kept → Bool) (old new : List Kept) → new ≡ filter keeps old → AllByRecursion (IsListed listed) old
+pub listed_left : (listed : Destinations) (keeps : Kept → Bool) (old new : List Kept) → new ≡ filter keeps old → AllByRecursion (IsListed listed) old
     → AllByRecursion (IsListed listed) new
 listed_left listed keeps old new e h = subst (AllByRecursion (IsListed listed)) (sym e) (each_filtered (IsListed listed) keeps old h)
 
-mended_each : (listed : Listed) (p : Prefix) (unicast : List Route) (config : Config) (ks : List Kept) → AllByRecursion (IsListed listed) ks
+mended_each : (listed : Destinations) (p : Prefix) (unicast : List Route) (config : Config) (ks : List Kept) → AllByRecursion (IsListed listed) ks
     → AllByRecursion (IsListed listed) (map (mended p unicast config) ks)
 mended_each listed p unicast config [] h = tt
 mended_each listed p unicast config (k ∷ ks) h = (at (is_related_kept p k), mended_each listed p unicast config ks h.1) where
@@ -134,19 +134,19 @@ mended_each listed p unicast config (k ∷ ks) h = (at (is_related_kept p k), me
   at true = h.0
   at false = h.0
 
-pub listed_mended : (listed : Listed) (p : Prefix) (unicast : List Route) (config : Config) (old new : List Kept)
+pub listed_mended : (listed : Destinations) (p : Prefix) (unicast : List Route) (config : Config) (old new : List Kept)
     → new ≡ map (mended p unicast config) old → AllByRecursion (IsListed listed) old → AllByRecursion (IsListed listed) new
 listed_mended listed p unicast config old new e h = subst (AllByRecursion (IsListed listed)) (sym e) (mended_each listed p unicast config old h)
 
-abbrev StaysBut : ℕ → Listed → Listed → Type 0
+abbrev StaysBut : ℕ → Destinations → Destinations → Type 0
 StaysBut peer old new = (other : ℕ) (d : Prefix) → (other == peer) ≡ false → lists old other d ≡ true → lists new other d ≡ true
 
-still_one : (old now : Listed) (peer other : ℕ) (d : Option Prefix) → StaysBut peer old now → (other == peer) ≡ false
+still_one : (old now : Destinations) (peer other : ℕ) (d : Option Prefix) → StaysBut peer old now → (other == peer) ≡ false
     → MatchOption d (Unit {0}) (λ p. lists old other p ≡ true) → MatchOption d (Unit {0}) (λ p. lists now other p ≡ true)
 still_one old now peer other None stays n l = tt
 still_one old now peer other (Some p) stays n l = stays other p n l
 
-others_each : (old now : Listed) (peer : ℕ) (ks : List Kept) → StaysBut peer old now → AllByRecursion (IsListed old) ks
+others_each : (old now : Destinations) (peer : ℕ) (ks : List Kept) → StaysBut peer old now → AllByRecursion (IsListed old) ks
     → AllByRecursion (IsListed now) (filter (is_of_other peer) ks)
 others_each old now peer [] stays h = tt
 others_each old now peer (k ∷ ks) stays h = at (k.route.peer == peer) refl (others_each old now peer ks stays h.1) where
@@ -156,12 +156,12 @@ others_each old now peer (k ∷ ks) stays h = at (k.route.peer == peer) refl (ot
   at false n ih = (still_one old now peer k.route.peer (destination_prefix k.route.rule) stays n h.0, ih)
 
 -- of the other peers
-pub listed_others : (old now : Listed) (peer : ℕ) (kept new : List Kept) → StaysBut peer old now → new ≡ filter (is_of_other peer) kept
+pub listed_others : (old now : Destinations) (peer : ℕ) (kept new : List Kept) → StaysBut peer old now → new ≡ filter (is_of_other peer) kept
     → AllByRecursion (IsListed old) kept → AllByRecursion (IsListed now) new
 listed_others old now peer kept new stays e h = subst (AllByRecursion (IsListed now)) (sym e) (others_each old now peer kept stays h)
 
 -- the destinations of the peer's routes are those that are handed out
-pub among_taken : (old : Listed) (peer : ℕ) (keys : List Prefix) (ks : List Kept) → ((d : Prefix) → lists old peer d ≡ true → is_among keys d ≡ true)
+pub among_taken : (old : Destinations) (peer : ℕ) (keys : List Prefix) (ks : List Kept) → ((d : Prefix) → lists old peer d ≡ true → is_among keys d ≡ true)
     → AllByRecursion (IsListed old) ks
     → AllByRecursion (λ k. not (k.route.peer == peer) ≡ false → IsAmong keys k) ks
 among_taken old peer keys ks taken h =

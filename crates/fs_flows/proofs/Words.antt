@@ -41,7 +41,7 @@ pub use Rattle.fs_flows.specs.Group.{place_in, put_kept, rejudged, retested, ret
 pub use Rattle.fs_flows.specs.Groups.{AreInOrder, AreNoShorter, ArePlaced, Entry, HasSortedGroups, IsGrouped, IsSound, IsTo, keep_at, keep_each}
 pub use Rattle.fs_flows.specs.Groups.{kept_in, put_entry, with_group}
 pub use Rattle.fs_flows.specs.{Kept.{Kept}, Lending.{AreLent, chosen_in, group_at}}
-pub use Rattle.fs_flows.specs.Listed.{IsAmong, IsListed, Listed, StaysListed, is_among, keep_along, lists}
+pub use Rattle.fs_flows.specs.Destinations.{IsAmong, IsListed, Destinations, StaysListed, is_among, keep_along, lists}
 pub use Rattle.fs_flows.specs.Parts.{AreWell, routes_in}
 pub use Rattle.fs_flows.specs.Search.{AreRightSince, IsNextAfter, IsNextRelated, IsRightEither, IsRightWhere, Marks, Mends, MendsKept, Progress}
 pub use Rattle.fs_flows.specs.Search.{WereRight, is_before, progress, size, touched}

@@ -1,11 +1,11 @@
 pub mod Blocks
 pub mod Changes
+pub mod Destinations
 pub mod Flows
 pub mod Group
 pub mod Groups
 pub mod Kept
 pub mod Lending
-pub mod Listed
 pub mod Parts
 pub mod Search
 pub mod Shared

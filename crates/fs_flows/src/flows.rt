@@ -7,9 +7,9 @@ ghost use Rattle.fs_flows.specs.{Lending.{AreLent}, Search.{MendsKept, WereRight
 ghost use Rattle.fs_base.specs.declared.prefix.Family.{Family};
 ghost use Rattle.fs_nlri.specs.Rule.{IsRule};
 
+use crate::destinations::Destinations;
 use crate::groups::{Groups, LentGroups};
 use crate::kept::Kept;
-use crate::listed::Listed;
 use crate::noted::Changes;
 use fs_base::{Config, Family, Memory, Steps};
 use fs_nlri::Rule;
@@ -23,12 +23,12 @@ use std::sync::ledger::Ledger;
 pub struct Flows {
     v4: Groups,
     v6: Groups,
-    listed: Listed,
+    listed: Destinations,
 }
 
 impl Model for Flows {
     ghost use Rattle.std.specs.Prelude.{List, ◌++◌};
-    ghost use Rattle.fs_flows.specs.{Kept.{Kept}, Flows.{AreOfFamilies}, Listed.{AreListed}};
+    ghost use Rattle.fs_flows.specs.{Kept.{Kept}, Flows.{AreOfFamilies}, Destinations.{AreListed}};
 
     ghost Value = { List Kept };
 
@@ -45,7 +45,7 @@ impl Flows {
         Flows {
             v4: Groups::new(alloc),
             v6: Groups::new(alloc),
-            listed: Listed::new(alloc),
+            listed: Destinations::new(alloc),
         }
     }
 

@@ -6,7 +6,7 @@ ghost use Rattle.fs_nlri.specs.Rule.{IsRule};
 ghost use Rattle.fs_flows.specs.Table.{is_key};
 ghost use Rattle.fs_flows.specs.Group.{has_key, put_kept, AreSorted, routes_of, chosen, is_other_key, is_of_other, HaveRules};
 ghost use Rattle.fs_flows.specs.Groups.{IsSound, HasSortedGroups, AreInOrder, AreNoShorter, put_entry, keep_at, keep_each, IsHeldAt};
-ghost use Rattle.fs_flows.specs.{Listed.{IsAmong, keep_along}, Lending.{AreLent}, Search.{MendsKept, WereRight}};
+ghost use Rattle.fs_flows.specs.{Destinations.{IsAmong, keep_along}, Lending.{AreLent}, Search.{MendsKept, WereRight}};
 
 use crate::group::Group;
 use crate::kept::{Kept, destination_key};

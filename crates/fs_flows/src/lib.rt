@@ -3,11 +3,11 @@
 
 mod actions;
 mod block;
+mod destinations;
 mod flows;
 mod group;
 mod groups;
 mod kept;
-mod listed;
 mod noted;
 mod route;
 mod search;
@@ -15,11 +15,11 @@ mod shared;
 
 pub use actions::SharedActions;
 pub use block::{Block, compare_key, place_of};
+pub use destinations::Prefixes;
 pub use flows::Flows;
 pub use group::Group;
 pub use groups::LentGroups;
 pub use kept::Kept;
-pub use listed::Prefixes;
 pub use noted::{Change, Changes};
 pub use route::{SharedRoute, seen, validate};
 pub use shared::SharedFlow;

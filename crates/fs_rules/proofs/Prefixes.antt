@@ -8,7 +8,7 @@ use Rattle.fs_rules.proofs.Words.{StaysHeld, AreHeld, AreAmong, IsKept, routes_o
 use Rattle.fs_rules.proofs.{Chosen.{with_unicast}, Counting.{counted_as}}
 use Rattle.fs_rules.proofs.Losing.{is_place, peers_equal, Hit, hit_at, IsLosing, losing_more}
 use Rattle.std.proofs.lemmas.Bool.{eqb-true}
-use Rattle.fs_flows.specs.Listed.{is_among}
+use Rattle.fs_flows.specs.Destinations.{is_among}
 
 -- What was listed still is.
 pub held_still : (old new : Counts) (unicast : List Route) → StaysHeld old new → AreHeld old unicast → AreHeld new unicast

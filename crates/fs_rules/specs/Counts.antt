@@ -3,7 +3,7 @@ use Rattle.std.specs.Prelude.{◌≡◌, ℕ, ◌+◌, ◌<◌, ◌^◌, ◌==�
 use Rattle.std.specs.{BTreeMap.{is_at}, List.{AllByRecursion, Sorted.{IsStrictlySortedBy}}, Map.{keys_of, lookup}, Ordering.{nat_cmp}}
 use Rattle.fs_base.specs.declared.{config.Config.{Config}, prefix.Prefix.{Prefix}}
 use Rattle.fs_unicast.specs.Unicast.{Route, place_cmp}
-use Rattle.fs_flows.specs.{Kept.{Kept}, Group.{Keeps, routes_of}, Listed.{Prefixes, has, is_among}, Table.{count_in}}
+use Rattle.fs_flows.specs.{Kept.{Kept}, Group.{Keeps, routes_of}, Destinations.{Prefixes, has, is_among}, Table.{count_in}}
 
 -- how many routes a peer holds, and the prefixes at which it gave unicast routes
 pub record Holding : Type 0 where

@@ -52,7 +52,7 @@ fn can_rise(count: usize) -> Result<(), Memory>
 impl Counts {
     ghost use Rattle.std.specs.Prelude.{◌≡◌, ℕ, ◌+◌, ◌-◌, ◌==◌, ◌&&◌, true, false, [], OnOk, IfSome, if◌then◌else◌};
     ghost use Rattle.fs_base.specs.declared.prefix.Prefix.{Prefix};
-    ghost use Rattle.fs_flows.specs.Listed.{is_among};
+    ghost use Rattle.fs_flows.specs.Destinations.{is_among};
     ghost use Rattle.fs_rules.specs.Counts.{count_of, may_hold, HasRoom, StaysHeld};
 
     /// No peer holds a route.

@@ -1,7 +1,7 @@
 //! At which prefixes each peer gave routes, as long as these are few.
 
 ghost use Rattle.std.specs.Prelude.{◌≡◌};
-ghost use Rattle.fs_flows.specs.Listed.{is_among};
+ghost use Rattle.fs_flows.specs.Destinations.{is_among};
 
 use crate::kept::Kept;
 use fs_base::Prefix;
@@ -22,7 +22,7 @@ pub struct Prefixes {
 }
 
 impl Model for Prefixes {
-    ghost use Rattle.fs_flows.specs.Listed.{Prefixes};
+    ghost use Rattle.fs_flows.specs.Destinations.{Prefixes};
 
     ghost Value = { Prefixes };
 
@@ -32,7 +32,7 @@ impl Model for Prefixes {
 impl Prefixes {
     ghost use Rattle.std.specs.Prelude.{◌≡◌, true, false, [], IfSome};
     ghost use Rattle.fs_base.specs.declared.prefix.Prefix.{Prefix};
-    ghost use Rattle.fs_flows.specs.Listed.{is_among, has, HasDestination};
+    ghost use Rattle.fs_flows.specs.Destinations.{is_among, has, HasDestination};
 
     /// No prefix.
     pub fn new(alloc: Global) -> Prefixes
@@ -110,27 +110,27 @@ fn is_among(keys: &[PrefixKey], prefix: &PrefixKey) -> bool
 
 /// The destinations to which each peer gave flow routes.
 #[derive(Drop)]
-pub(crate) struct Listed {
+pub(crate) struct Destinations {
     alloc: Global,
     by_peer: BTreeMap<u16, Prefixes>,
     all: bool,
 }
 
-impl Model for Listed {
-    ghost use Rattle.fs_flows.specs.Listed.{Listed};
+impl Model for Destinations {
+    ghost use Rattle.fs_flows.specs.Destinations.{Destinations};
 
-    ghost Value = { Listed };
+    ghost Value = { Destinations };
 
     ghost view = { λ a. record { by_peer = a.by_peer.entries; all = a.all } };
 }
 
-impl Listed {
+impl Destinations {
     ghost use Rattle.std.specs.Prelude.{◌≡◌, ◌==◌, ℕ, true, false, IfSome};
     ghost use Rattle.fs_base.specs.declared.prefix.Prefix.{Prefix};
-    ghost use Rattle.fs_flows.specs.Listed.{is_among, has, has_in, of_peer, lists, StaysListed, IsListed};
+    ghost use Rattle.fs_flows.specs.Destinations.{is_among, has, has_in, of_peer, lists, StaysListed, IsListed};
 
-    pub(crate) fn new(alloc: Global) -> Listed {
-        Listed {
+    pub(crate) fn new(alloc: Global) -> Destinations {
+        Destinations {
             alloc,
             by_peer: BTreeMap::new(alloc),
             all: false,

@@ -11,7 +11,7 @@ pub record Prefixes : Type 0 where
   pub all : Bool
 
 -- the destinations to which each peer gave flow routes, or any of each
-pub record Listed : Type 0 where
+pub record Destinations : Type 0 where
   pub by_peer : List (ℕ × Prefixes)
   pub all : Bool
 
@@ -30,14 +30,14 @@ abbrev pub HasDestination : Prefixes → Kept → Type 0
 HasDestination held k = MatchOption (destination_prefix k.route.rule) (Unit {0}) (λ d. has held d ≡ true)
 
 -- what is listed for a peer
-abbrev pub of_peer : ℕ → Listed → Option Prefixes
+abbrev pub of_peer : ℕ → Destinations → Option Prefixes
 of_peer peer listed = lookup (is_at (nat_cmp peer)) listed.by_peer
 
-abbrev pub lists : Listed → ℕ → Prefix → Bool
+abbrev pub lists : Destinations → ℕ → Prefix → Bool
 lists listed peer destination = listed.all || has_in (of_peer peer listed) destination
 
 -- what was listed still is
-abbrev pub StaysListed : Listed → Listed → Type 0
+abbrev pub StaysListed : Destinations → Destinations → Type 0
 StaysListed old new = (peer : ℕ) (d : Prefix) → lists old peer d ≡ true → lists new peer d ≡ true
 
 -- the route's destination, if it has one, is among these
@@ -45,10 +45,10 @@ abbrev pub IsAmong : List Prefix → Kept → Type 0
 IsAmong keys k = MatchOption (destination_prefix k.route.rule) (Unit {0}) (λ d. is_among keys d ≡ true)
 
 -- the route's destination, if it has one, is listed for its peer
-abbrev pub IsListed : Listed → Kept → Type 0
+abbrev pub IsListed : Destinations → Kept → Type 0
 IsListed listed k = MatchOption (destination_prefix k.route.rule) (Unit {0}) (λ d. lists listed k.route.peer d ≡ true)
 
-pub record AreListed (listed : Listed) (v4 v6 : List Kept) : Type 0 where
+pub record AreListed (listed : Destinations) (v4 v6 : List Kept) : Type 0 where
   pub first : AllByRecursion (IsListed listed) v4
   pub second : AllByRecursion (IsListed listed) v6
 
