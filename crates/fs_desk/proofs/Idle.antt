@@ -59,19 +59,19 @@ idle_update old new piece count update c p did idle =
     (all.0, all.1)
 
 -- where the session has closed the peer held nothing
-pub held_nothing : (peer : ℕ) (session : Live) (table : Watched) (why : Closed) → session.closed ≡ Some why → KeepsAll peer session table
-    → held_count peer table.held ≡ 0
-held_nothing peer session table why shut (inl alive) = absurd (never (sym shut ∙ alive))
+pub held_nothing : (peer : ℕ) (session : Live) (watched : Watched) (why : Closed) → session.closed ≡ Some why → KeepsAll peer session watched
+    → held_count peer watched.table ≡ 0
+held_nothing peer session watched why shut (inl alive) = absurd (never (sym shut ∙ alive))
   where
     never : Some why ≡ None → ⊥
     never e = cc
-held_nothing peer session table why shut (inr zero_is) = zero_is
+held_nothing peer session watched why shut (inr zero_is) = zero_is
 
 -- so of a desk's session
-pub keeps_all : (peer : ℕ) (old new : Desked) (session session' : Live) (table : Watched) → session_at peer old.sessions ≡ Some session
+pub keeps_all : (peer : ℕ) (old new : Desked) (session session' : Live) (watched : Watched) → session_at peer old.sessions ≡ Some session
     → session_at peer new.sessions ≡ Some session'
-    → table.held ≡ old.held → session.closed ≡ None → LosesNothing peer old new → KeepsAll peer session' table
-keeps_all peer old new session session' table there there' same alive loses = by session'.closed refl loses
+    → watched.table ≡ old.held → session.closed ≡ None → LosesNothing peer old new → KeepsAll peer session' watched
+keeps_all peer old new session session' watched there there' same alive loses = by session'.closed refl loses
   where
     never : (why : Closed) → LiveIn session.phase.state ≡ Ended why → ⊥
     never why e = cc
@@ -82,26 +82,26 @@ keeps_all peer old new session session' table there there' same alive loses = by
     now_stands : (why : Closed) → session'.closed ≡ Some why → standing_at_desk new peer ≡ Ended why
     now_stands why shut = ap standing_by there' ∙ ap (λ (c : Option Closed). elim c [ Some w ↦ Ended w | None ↦ LiveIn session'.phase.state ]) shut
 
-    by : (c : Option Closed) → session'.closed ≡ c → LosesNothing peer old new → KeepsAll peer session' table
+    by : (c : Option Closed) → session'.closed ≡ c → LosesNothing peer old new → KeepsAll peer session' watched
     by None open_ k = inl open_
     by (Some why) shut (inr zero_is) = inr (ap (held_count peer) same ∙ zero_is)
     by (Some why) shut (inl same_ends) = absurd (never why (sym did_stand ∙ same_ends why (now_stands why shut)))
 
 -- A piece, or the clock: a closed session does nothing, and an open one as said.
-pub desk_notes_none : (n : ℕ) (session session' : Live) (own : Config) (table table' : Watched) (sessions sessions' : List (ℕ × Live)) (old : Desked)
-    → old ≡ desk_of own table.held table.changes sessions → session_at n sessions ≡ Some session → sessions' ≡ set_value (is_at (nat_cmp n)) sessions session'
-    → ((why : Closed) → session.closed ≡ Some why → table' ≡ table) → (session.closed ≡ None → KeepsAll n session' table → table'.changes ≡ table.changes)
-    → LosesNothing n old (desk_of own table'.held table'.changes sessions') → table'.changes ≡ old.changes
-desk_notes_none n session session' own table table' sessions sessions' old e there s shut open_ loses =
+pub desk_notes_none : (n : ℕ) (session session' : Live) (own : Config) (watched watched' : Watched) (sessions sessions' : List (ℕ × Live)) (old : Desked)
+    → old ≡ desk_of own watched.table watched.changes sessions → session_at n sessions ≡ Some session → sessions' ≡ set_value (is_at (nat_cmp n)) sessions session'
+    → ((why : Closed) → session.closed ≡ Some why → watched' ≡ watched) → (session.closed ≡ None → KeepsAll n session' watched → watched'.changes ≡ watched.changes)
+    → LosesNothing n old (desk_of own watched'.table watched'.changes sessions') → watched'.changes ≡ old.changes
+desk_notes_none n session session' own watched watched' sessions sessions' old e there s shut open_ loses =
     by session.closed refl ∙ ap (λ (d : Desked). d.changes) (sym e)
   where
     now_there : session_at n sessions' ≡ Some session'
     now_there = session_value n n session session' sessions sessions' there s ∙ if_true (n == n) _ _ (eq_itself n)
 
-    by : (c : Option Closed) → session.closed ≡ c → table'.changes ≡ table.changes
+    by : (c : Option Closed) → session.closed ≡ c → watched'.changes ≡ watched.changes
     by (Some why) h = ap (λ (w : Watched). w.changes) (shut why h)
     by None h =
         open_ h
-        (keeps_all n old (desk_of own table'.held table'.changes sessions') session session' table (ap (λ (d : Desked). session_at n d.sessions) e
+        (keeps_all n old (desk_of own watched'.table watched'.changes sessions') session session' watched (ap (λ (d : Desked). session_at n d.sessions) e
         ∙ there) now_there
         (ap (λ (d : Desked). d.held) (sym e)) h loses)

@@ -20,6 +20,5 @@ mod SameRoutes
 mod Saying
 pub mod Standing
 mod TableChanges
-mod Telling
 mod Ticking
 mod Updates

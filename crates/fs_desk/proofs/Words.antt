@@ -62,4 +62,4 @@ pub use Rattle.fs_desk.specs.Receive.{IsReplyingMore, IsUp, MessageComes, Messag
 pub use Rattle.fs_desk.specs.Receive.{TakesPiece, TakesUpdate, comes_to, point_of, said_in, wants_memory, with_updates}
 pub use Rattle.fs_desk.specs.Updates.{Given, flow_left, given_with, gives_at, is_prefix, is_rule, last_such, path_left, rule_given, same_prefix}
 pub use Rattle.fs_desk.specs.Updates.{tells_of, tells_of_rule, unicast_left}
-pub use Rattle.fs_desk.specs.Watched.{Tells, Watched}
+pub use Rattle.fs_desk.specs.{Watched.{Tells}, declared.watched.Watched.{Watched}}

@@ -4,7 +4,7 @@ use Rattle.fs_message.specs.Deframer.{pending}
 use Rattle.fs_attrs.specs.{declared.update.Update.{Update}, Update.{takes_prefixes, gives_prefixes, takes_rules, gives_rules}}
 use Rattle.fs_rules.specs.Table.{held_count}
 use Rattle.fs_speaker.specs.Session.{Live, session_from}
-use Rattle.fs_desk.specs.Watched.{Watched}
+use Rattle.fs_desk.specs.declared.watched.Watched.{Watched}
 
 -- the update lists no prefix and no rule
 pub record IsIdle (update : Update) : Type 0 where
@@ -23,23 +23,23 @@ AreIdle session piece = AllByRecursion IsIdle (completed session piece)
 
 -- the session hasn't closed, or the peer held nothing
 abbrev pub KeepsAll : ℕ → Live → Watched → Type 0
-KeepsAll peer session table = (session.closed ≡ None) ⊎ (held_count peer table.held ≡ 0)
+KeepsAll peer session watched = (session.closed ≡ None) ⊎ (held_count peer watched.table ≡ 0)
 
 -- An update that lists nothing leaves the table as it is. Where it closes the session, nothing is noted of a peer that
 -- held nothing.
 abbrev pub IdlesUpdate : ℕ → Update → Watched → Watched → (open' : Bool) → Type 0
-IdlesUpdate peer update table table' true = IsIdle update → table' ≡ table
-IdlesUpdate peer update table table' false =
-    IsIdle update → held_count peer table.held ≡ 0 → table'.changes ≡ table.changes
+IdlesUpdate peer update watched watched' true = IsIdle update → watched' ≡ watched
+IdlesUpdate peer update watched watched' false =
+    IsIdle update → held_count peer watched.table ≡ 0 → watched'.changes ≡ watched.changes
 
 -- Where all messages that a piece is to complete list nothing, one leaves the table as it is, and so are those after
 -- it; or none is left, or the session closes.
 abbrev pub IdlesMessage : ℕ → Live → Live → Watched → Watched → List ℕ → Option ℕ → Type 0
-IdlesMessage peer old new table table' piece (Some count) =
-    old.closed ≡ None → AreIdle old piece → (table' ≡ table) × AreIdle new (drop count piece)
-IdlesMessage peer old new table table' piece None =
-    old.closed ≡ None → AreIdle old piece → KeepsAll peer new table → table'.changes ≡ table.changes
+IdlesMessage peer old new watched watched' piece (Some count) =
+    old.closed ≡ None → AreIdle old piece → (watched' ≡ watched) × AreIdle new (drop count piece)
+IdlesMessage peer old new watched watched' piece None =
+    old.closed ≡ None → AreIdle old piece → KeepsAll peer new watched → watched'.changes ≡ watched.changes
 
 abbrev pub IdlesPiece : ℕ → Live → Live → Watched → Watched → List ℕ → Type 0
-IdlesPiece peer old new table table' piece =
-    old.closed ≡ None → AreIdle old piece → KeepsAll peer new table → table'.changes ≡ table.changes
+IdlesPiece peer old new watched watched' piece =
+    old.closed ≡ None → AreIdle old piece → KeepsAll peer new watched → watched'.changes ≡ watched.changes

@@ -4,7 +4,7 @@ ghost use Rattle.std.specs.Prelude.{◌≡◌, ◌<◌, ℕ, Bool, false, List, 
 
 use crate::hold_timer::tick_session;
 use crate::receive::receive;
-use crate::watched::WatchedTable;
+use crate::watched::Watched;
 use fs_base::{Config, Memory, Steps};
 use fs_rules::{Changes, Table};
 use fs_speaker::{Session, Standing};
@@ -18,7 +18,7 @@ use std::sync::ledger::{Blank, Ledger};
 pub struct Desk<'a> {
     alloc: Global,
     config: &'a Config,
-    table: WatchedTable<'a>,
+    watched: Watched<'a>,
     sessions: BTreeMap<u16, Session<'a>>,
 }
 
@@ -29,8 +29,8 @@ impl<'a> Model for Desk<'a> {
 
     ghost view = { λ d. record {
       config = d.config.now;
-      held = d.table.held;
-      changes = d.table.changes;
+      held = d.watched.table;
+      changes = d.watched.changes;
       sessions = d.sessions.entries;
     } };
 }
@@ -52,7 +52,10 @@ impl<'a> Desk<'a> {
         Ok(Desk {
             alloc,
             config,
-            table: WatchedTable::new(alloc, config),
+            watched: Watched {
+                table: Table::new(alloc, config),
+                changes: Changes::new(alloc),
+            },
             sessions: BTreeMap::new(alloc),
         })
     }
@@ -82,7 +85,7 @@ impl<'a> Desk<'a> {
         ensures told { Notes self.old self.new }
         ensures idle { held_count peer self.old.held ≡ 0 → self.new.changes ≡ self.old.changes }
     {
-        lose::<Brand>(Blank::new(1), &mut self.table, peer);
+        lose::<Brand>(Blank::new(1), &mut self.watched, peer);
         self.sessions.remove(&peer);
     }
 
@@ -108,8 +111,8 @@ impl<'a> Desk<'a> {
         let Some(session) = self.sessions.get_mut(&peer) else {
             return Ok(());
         };
-        let table = &mut self.table;
-        match receive::<Brand>(Blank::new(1), session, table, peer, piece, replies) {
+        let watched = &mut self.watched;
+        match receive::<Brand>(Blank::new(1), session, watched, peer, piece, replies) {
             Ok(()) => Ok(()),
             Err(memory) => {
                 replies.truncate(start);
@@ -137,8 +140,8 @@ impl<'a> Desk<'a> {
         let Some(session) = self.sessions.get_mut(&peer) else {
             return Ok(());
         };
-        let table = &mut self.table;
-        tick_session::<Brand>(Blank::new(1), session, table, peer, moment, replies)?;
+        let watched = &mut self.watched;
+        tick_session::<Brand>(Blank::new(1), session, watched, peer, moment, replies)?;
         Ok(())
     }
 
@@ -146,14 +149,14 @@ impl<'a> Desk<'a> {
     pub fn watch(&mut self)
         ensures { self.new ≡ record self.old { changes = record { places = []; all = false } } }
     {
-        self.table.watch();
+        self.watched.changes.clear();
     }
 
     /// Where the rules that are admitted may be others than at the last [`watch`](Desk::watch).
     pub fn changes(&self) -> &Changes
         ensures { result.now ≡ self.now.changes }
     {
-        self.table.changes()
+        &self.watched.changes
     }
 
     /// The configuration.
@@ -181,7 +184,7 @@ impl<'a> Desk<'a> {
         ensures left { (expired : ℕ → Bool) (config : Config) (items : List Item)
             → PlayedBut expired config items self.now → LeavesBut expired config items result.now }
     {
-        self.table.table()
+        &self.watched.table
     }
 }
 
@@ -200,14 +203,15 @@ fn standing(session: &Session<'_>) -> Standing
 }
 
 /// Takes all that the peer holds out of the table.
-fn lose<L: Ledger>(blank: Blank, table: &mut WatchedTable<'_>, peer: u16)
+fn lose<L: Ledger>(blank: Blank, watched: &mut Watched<'_>, peer: u16)
     requires name { blank.name ≡ L.name }
     requires parts { blank.parts ≡ L.parts }
     requires some { 0 < L.parts }
-    ensures lost { table.new.held ≡ without_peer peer table.old.held }
-    ensures told { Tells table.old table.new }
-    ensures idle { held_count peer table.old.held ≡ 0 → table.new.changes ≡ table.old.changes }
+    ensures lost { watched.new.table ≡ without_peer peer watched.old.table }
+    ensures told { Tells watched.old watched.new }
+    ensures idle { held_count peer watched.old.table ≡ 0 → watched.new.changes ≡ watched.old.changes }
 {
     let mut steps = Steps::<L>::new(blank);
-    table.lose(peer, &mut steps);
+    let changes = &mut watched.changes;
+    watched.table.lose_telling(peer, changes, &mut steps);
 }

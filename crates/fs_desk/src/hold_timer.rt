@@ -4,7 +4,7 @@ ghost use Rattle.std.specs.Prelude.{◌≡◌, ◌<◌, IsSome, OnOk, OnErr};
 ghost use Rattle.fs_desk.specs.{HoldTimer.{TicksSession}, Idle.{KeepsAll}, Watched.{Tells}};
 
 use crate::receive::drop_routes;
-use crate::watched::WatchedTable;
+use crate::watched::Watched;
 use fs_base::{Memory, Steps};
 use fs_speaker::Session;
 use std::sync::ledger::{Blank, Ledger};
@@ -15,7 +15,7 @@ use std::sync::ledger::{Blank, Ledger};
 pub(crate) fn tick_session<L: Ledger>(
     blank: Blank,
     session: &mut Session<'_>,
-    table: &mut WatchedTable<'_>,
+    watched: &mut Watched<'_>,
     peer: u16,
     moment: u64,
     replies: &mut Vec<u8>,
@@ -24,12 +24,12 @@ pub(crate) fn tick_session<L: Ledger>(
     requires parts { blank.parts ≡ L.parts }
     requires some { 0 < L.parts }
     ensures ticked { OnOk result
-        (TicksSession peer moment session.old session.new table.old.held table.new.held
+        (TicksSession peer moment session.old session.new watched.old.table watched.new.table
         replies.old.items replies.new.items) }
-    ensures told { OnOk result (Tells table.old table.new) }
+    ensures told { OnOk result (Tells watched.old watched.new) }
     ensures err { OnErr result (replies.new.items ≡ replies.old.items) }
-    ensures idle { KeepsAll peer session.new table.old → table.new.changes ≡ table.old.changes }
-    ensures ended { IsSome session.old.closed → table.new ≡ table.old }
+    ensures idle { KeepsAll peer session.new watched.old → watched.new.changes ≡ watched.old.changes }
+    ensures ended { IsSome session.old.closed → watched.new ≡ watched.old }
 {
     if session.closed().is_some() {
         return Ok(());
@@ -38,7 +38,7 @@ pub(crate) fn tick_session<L: Ledger>(
         Ok(()) => Ok(()),
         Err(why) => {
             let mut steps = Steps::<L>::new(blank);
-            drop_routes(table, peer, why, &mut steps)
+            drop_routes(watched, peer, why, &mut steps)
         }
     }
 }

@@ -8,7 +8,7 @@ ghost use Rattle.fs_desk.specs.Watched.{Tells};
 
 use crate::apply::apply;
 use crate::limit::is_over;
-use crate::watched::WatchedTable;
+use crate::watched::Watched;
 use fs_attrs::Update;
 use fs_base::{Memory, Steps};
 use fs_speaker::{Closed, Session};
@@ -19,7 +19,7 @@ use std::sync::ledger::{Blank, Ledger};
 pub(crate) fn receive<L: Ledger>(
     blank: Blank,
     session: &mut Session<'_>,
-    table: &mut WatchedTable<'_>,
+    watched: &mut Watched<'_>,
     peer: u16,
     piece: &[u8],
     replies: &mut Vec<u8>,
@@ -27,15 +27,15 @@ pub(crate) fn receive<L: Ledger>(
     requires name { blank.name ≡ L.name }
     requires parts { blank.parts ≡ L.parts }
     requires some { 0 < L.parts }
-    ensures taken { OnOk result (TakesPiece peer session.old session.new table.old.held table.new.held
+    ensures taken { OnOk result (TakesPiece peer session.old session.new watched.old.table watched.new.table
         piece.now replies.old.items replies.new.items) }
     ensures handed { OnOk result
         (PieceComes session.old session.new piece.now replies.old.items replies.new.items) }
-    ensures told { OnOk result (Tells table.old table.new) }
+    ensures told { OnOk result (Tells watched.old watched.new) }
     ensures grows { Extends replies.old.items replies.new.items }
-    ensures idle { OnOk result (IdlesPiece peer session.old session.new table.old table.new piece.now) }
+    ensures idle { OnOk result (IdlesPiece peer session.old session.new watched.old watched.new piece.now) }
     ensures closed { IsSome session.old.closed
-        → (session.new ≡ session.old) × (table.new ≡ table.old)
+        → (session.new ≡ session.old) × (watched.new ≡ watched.old)
         × (replies.new.items ≡ replies.old.items) }
 {
     if session.closed().is_some() {
@@ -44,7 +44,7 @@ pub(crate) fn receive<L: Ledger>(
     let mut steps = Steps::<L>::new(blank);
     let mut rest = piece;
     'messages: while let Some(count) = take_message(
-        session, table, peer, rest, replies, &mut steps,
+        session, watched, peer, rest, replies, &mut steps,
     )? {
         rest = &rest[count..];
     }
@@ -55,21 +55,21 @@ pub(crate) fn receive<L: Ledger>(
 /// brings. Answers how many octets were taken, or None where none are left or the session has closed.
 fn take_message<L: Ledger>(
     session: &mut Session<'_>,
-    table: &mut WatchedTable<'_>,
+    watched: &mut Watched<'_>,
     peer: u16,
     piece: &[u8],
     replies: &mut Vec<u8>,
     steps: &mut Steps<L>,
 ) -> Result<Option<usize>, Memory>
     ensures some { IfOk result (λ taken. IfSome taken (λ count. (count ≤ length piece.now) × (0 < count))) }
-    ensures taken { IfOk result (TakesMessage peer session.old session.new table.old.held table.new.held piece.now) }
+    ensures taken { IfOk result (TakesMessage peer session.old session.new watched.old.table watched.new.table piece.now) }
     ensures replied { IfOk result
-        (RepliesMessage peer session.old session.new table.old.held replies.old.items replies.new.items piece.now) }
+        (RepliesMessage peer session.old session.new watched.old.table replies.old.items replies.new.items piece.now) }
     ensures handed { IfOk result
         (ComesOpen session.old session.new piece.now replies.old.items replies.new.items) }
-    ensures told { OnOk result (Tells table.old table.new) }
+    ensures told { OnOk result (Tells watched.old watched.new) }
     ensures grows { Extends replies.old.items replies.new.items }
-    ensures idle { IfOk result (IdlesMessage peer session.old session.new table.old table.new piece.now) }
+    ensures idle { IfOk result (IdlesMessage peer session.old session.new watched.old watched.new piece.now) }
 {
     if piece.is_empty() {
         return Ok(None);
@@ -77,14 +77,14 @@ fn take_message<L: Ledger>(
     match session.feed(piece, replies) {
         Ok((count, None)) => Ok(Some(count)),
         Ok((count, Some(update))) => {
-            let is_open = take_update(session, table, peer, update, replies, steps)?;
+            let is_open = take_update(session, watched, peer, update, replies, steps)?;
             if !is_open {
                 return Ok(None);
             }
             Ok(Some(count))
         }
         Err(why) => {
-            drop_routes(table, peer, why, steps)?;
+            drop_routes(watched, peer, why, steps)?;
             Ok(None)
         }
     }
@@ -94,7 +94,7 @@ fn take_message<L: Ledger>(
 /// session closes with a NOTIFICATION Cease (RFC 4486, section 4). Answers whether the session is still open.
 fn take_update<L: Ledger>(
     session: &mut Session<'_>,
-    table: &mut WatchedTable<'_>,
+    watched: &mut Watched<'_>,
     peer: u16,
     update: Update,
     replies: &mut Vec<u8>,
@@ -102,17 +102,17 @@ fn take_update<L: Ledger>(
 ) -> Result<bool, Memory>
     requires { session.old.closed ≡ None }
     ensures taken { IfOk result
-        (TakesUpdate peer update session.old session.new table.old.held table.new.held
+        (TakesUpdate peer update session.old session.new watched.old.table watched.new.table
         replies.old.items replies.new.items) }
-    ensures told { OnOk result (Tells table.old table.new) }
+    ensures told { OnOk result (Tells watched.old watched.new) }
     ensures err { OnErr result (replies.new.items ≡ replies.old.items) }
-    ensures idle { IfOk result (IdlesUpdate peer update table.old table.new) }
+    ensures idle { IfOk result (IdlesUpdate peer update watched.old watched.new) }
 {
-    apply(table, peer, update, steps)?;
-    if !is_over(session.max_routes(), table.held_by(peer)) {
+    apply(watched, peer, update, steps)?;
+    if !is_over(session.max_routes(), watched.table.held_by(peer)) {
         return Ok(true);
     }
-    drop_routes(table, peer, TOO_MANY_ROUTES, steps)?;
+    drop_routes(watched, peer, TOO_MANY_ROUTES, steps)?;
     match session.cease(MAXIMUM_REACHED, replies) {
         Ok(()) => Ok(false),
         Err(why) => {
@@ -133,21 +133,22 @@ const TOO_MANY_ROUTES: Closed = Closed::Fault {
 /// The peer's session has closed: takes all that the peer holds out of the table. Where it closed for want of memory
 /// the table stays, and `Memory` is answered.
 pub(crate) fn drop_routes<L: Ledger>(
-    table: &mut WatchedTable<'_>,
+    watched: &mut Watched<'_>,
     peer: u16,
     why: Closed,
     steps: &mut Steps<L>,
 ) -> Result<(), Memory>
     ensures octets { OnOk result (wants_memory why ≡ false) }
     ensures err { OnErr result (wants_memory why ≡ true) }
-    ensures told { OnOk result (Tells table.old table.new) }
-    ensures lost { OnOk result (table.new.held ≡ without_peer peer table.old.held) }
-    ensures idle { held_count peer table.old.held ≡ 0 → table.new.changes ≡ table.old.changes }
+    ensures told { OnOk result (Tells watched.old watched.new) }
+    ensures lost { OnOk result (watched.new.table ≡ without_peer peer watched.old.table) }
+    ensures idle { held_count peer watched.old.table ≡ 0 → watched.new.changes ≡ watched.old.changes }
 {
     if wants_memory(why) {
         return Err(Memory);
     }
-    table.lose(peer, steps);
+    let changes = &mut watched.changes;
+    watched.table.lose_telling(peer, changes, steps);
     Ok(())
 }
 

@@ -4,11 +4,12 @@ use Rattle.fs_rules.proofs.Words.{Option, Some, Ordering, Less, Equal, Greater, 
 use Rattle.fs_rules.proofs.Words.{Prefix, and_both, and_first, and_second, false_of_not, or_second, same_tests, any_filter, any_on, each, each_both}
 use Rattle.fs_rules.proofs.Words.{each_weaker, filter_none, filter_on, each_mapped, equal_of_is_eq, Ruled, IsRule, destination_prefix, rule_cmp}
 use Rattle.fs_rules.proofs.Words.{first_equal, same_rules, preferred, IsSwapOf, Route, Swap, validity, FlowRoute, Kept, IsRight, AreRight, IsMarked}
+use Rattle.fs_rules.proofs.Words.{has_route, none_each}
 use Rattle.fs_rules.proofs.Words.{is_related_kept, routes_of, HaveRules, MendsKept, AdmitsElsewhere, Covers, Noted, StaysNoted, is_noted, touched_by}
 use Rattle.fs_rules.proofs.Words.{Held, admitted, beats, is_key, is_most_preferred, is_of_family, is_valid, key_cmp, put_route, same_rule}
 use Rattle.fs_rules.proofs.Words.{without_route, AgreeOff, each-filtered, each-put_route, unrelated}
 use Rattle.fs_rules.proofs.Chosen.{held_of}
-use Rattle.fs_flows.proofs.Noting.{filter_both, joined, spares}
+use Rattle.fs_flows.proofs.{Changed.{all_stay}, Noting.{filter_both, joined, spares}}
 
 filter_swap : {X : Type 0} (p q : X → Bool) (xs : List X) → filter p (filter q xs) ≡ filter q (filter p xs)
 filter_swap p q xs = filter_both p q xs
@@ -175,3 +176,10 @@ covers_noted base old new a b stays k h none = at a.all refl where
         xs)
   at false e = joined (touched_by a.places) (is_noted b) (touched_by b.places)
       (λ rule t. placed rule (stays rule (or_second a.all (touched_by a.places rule) t))) placed base old new (h e) k
+
+-- a table from which a route is taken that it doesn't hold stays as it is
+pub without_nothing : (rule : Ruled) (peer : ℕ) (old new : Held)
+    → new ≡ record { config = old.config; unicast = old.unicast; flows = without_route rule peer old.flows } → has_route rule peer old.flows ≡ false
+    → new ≡ old
+without_nothing rule peer old new e none = e
+    ∙ ap (held_of old.config old.unicast) (all_stay (is_key rule peer) old.flows (none_each (is_key rule peer) old.flows none))

@@ -17,7 +17,7 @@ pub struct Given {
 
 impl Given {
     /// The path and the actions, shared by no route yet.
-    pub fn new(alloc: Global, path: Path, actions: Actions) -> Result<Given, Memory>
+    pub(crate) fn new(alloc: Global, path: Path, actions: Actions) -> Result<Given, Memory>
         ensures { IfOk result (λ given. given ≡ record { path = path; actions = actions }) }
     {
         Ok(Given {

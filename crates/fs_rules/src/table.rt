@@ -17,7 +17,7 @@ use crate::lent::{Admitted, HeldFlow, LentRule, OfKept};
 use crate::reading::{self, push_admitted, push_admitted_to, push_held};
 use fs_actions::Actions;
 use fs_base::{Config, Family, Memory, Path, Prefix, Steps};
-use fs_flows::{Changes, Flows, Kept, LentGroups, SharedFlow, SharedRoute, validate};
+use fs_flows::{Change, Changes, Flows, Kept, LentGroups, SharedFlow, SharedRoute, validate};
 use fs_nlri::Rule;
 use fs_order::Ranked;
 use fs_packet::View;
@@ -81,9 +81,17 @@ impl<'a> Table<'a> {
         ensures later { steps.old ≤ steps.new }
         ensures steps { steps.new ≤ steps.old + 1 }
     {
-        let alloc = self.flows.allocator();
-        let given = self.share(Given::new(alloc, path, actions)?)?;
-        self.put_shared(peer, rule, &given, steps)
+        let given = self.given(path, actions)?;
+        let given = self.share(given)?;
+        let mut changes = Changes::new(self.flows.allocator());
+        self.put_flow_telling(peer, rule, &given, &mut changes, steps)
+    }
+
+    /// The path and the actions, to be shared by many routes.
+    pub fn given(&self, path: Path, actions: Actions) -> Result<Given, Memory>
+        ensures { IfOk result (λ given. given ≡ record { path = path; actions = actions }) }
+    {
+        Given::new(self.flows.allocator(), path, actions)
     }
 
     /// The path and the actions, each as the flow routes of the last call share it where it is equal.
@@ -100,16 +108,20 @@ impl<'a> Table<'a> {
         Ok(given)
     }
 
-    /// As [`put_flow`](Table::put_flow), of a path and actions that many routes may share.
-    pub fn put_shared<L: Ledger>(
+    /// As [`put_flow`](Table::put_flow), of a path and actions that many routes may share, and notes where the rule
+    /// stands.
+    pub fn put_flow_telling<L: Ledger>(
         &mut self,
         peer: u16,
         rule: Rule,
         given: &Given,
+        changes: &mut Changes,
         steps: &mut Steps<L>,
     ) -> Result<(), Memory>
         ensures ok { OnOk result
             (self.new ≡ with_flow peer rule given.now.path given.now.actions self.old) }
+        ensures covers { OnOk result
+            ((base : Held) → Covers base changes.old self.old → Covers base changes.new self.new) }
         ensures elsewhere { OnOk result
             ((touched : Ruled → Bool) → touched rule ≡ true → AdmitsElsewhere touched self.old self.new) }
         ensures err { OnErr result (self.new ≡ self.old) }
@@ -117,6 +129,7 @@ impl<'a> Table<'a> {
         ensures steps { steps.new ≤ steps.old + 1 }
     {
         let alloc = self.flows.allocator();
+        let change = Change::of(&rule);
         let route = SharedRoute {
             peer,
             rule,
@@ -128,6 +141,7 @@ impl<'a> Table<'a> {
         self.counts.reserve(peer)?;
         let is_new = self.flows.put(k)?;
         self.counts.raise(peer, is_new);
+        changes.note(change);
         Ok(())
     }
 
@@ -197,8 +211,24 @@ impl<'a> Table<'a> {
             → AdmitsElsewhere touched self.old self.new }
         ensures steps { steps.new ≡ steps.old }
     {
+        let mut changes = Changes::new(self.flows.allocator());
+        self.withdraw_flow_telling(peer, rule, &mut changes)
+    }
+
+    /// As [`withdraw_flow`](Table::withdraw_flow), and notes where the rule stands if there was one. Takes no memory.
+    pub fn withdraw_flow_telling(&mut self, peer: u16, rule: &Ranked, changes: &mut Changes) -> bool
+        ensures removed { self.new ≡ record self.old { flows = without_route rule.now.rule peer self.old.flows } }
+        ensures covers { (base : Held) → Covers base changes.old self.old → Covers base changes.new self.new }
+        ensures held { result ≡ has_route rule.now.rule peer self.old.flows }
+        ensures elsewhere { (touched : Ruled → Bool)
+            → touched rule.now.rule ≡ true
+            → AdmitsElsewhere touched self.old self.new }
+    {
         let held = self.flows.take(&rule.rule, peer);
         self.counts.lower(peer, held);
+        if held {
+            changes.note(Change::of(&rule.rule));
+        }
         held
     }
 

@@ -1,5 +1,5 @@
 use Rattle.fs_desk.proofs.Words.{◌++◌, Option, Some, ap, sym, ◌∙◌, subst, unicast_in, flows_in, Announces, same}
-use Rattle.fs_desk.proofs.{Idle.{both_none}, ChangesJoined.{on_ok, given_join}, Telling.{tells_then}}
+use Rattle.fs_desk.proofs.{Idle.{both_none}, ChangesJoined.{on_ok, given_join}}
 use Rattle.fs_attrs.specs.declared.update.Routes.{Routes}
 use Rattle.fs_desk.proofs.apply.give.Goals as goal
 
@@ -7,22 +7,20 @@ pub returns-in-Some-Unicast-clause-changes : goal.returns-in-Some-Unicast-clause
 returns-in-Some-Unicast-clause-changes g c =
     on_ok c.give_prefixes-in-Some-Unicast.result
     (λ gave. subst (λ (routes : Option Routes). Announces c.args.peer (c.args.prefixes ++ unicast_in routes)
-    (flows_in routes) c.args.given.path c.args.given.actions c.args.table.now.held c.give_prefixes-in-Some-Unicast.new.table.held)
+    (flows_in routes) c.args.given.path c.args.given.actions c.args.watched.now.table c.give_prefixes-in-Some-Unicast.new.watched.table)
     (sym (c.in-Some-Unicast.is ∙ ap Some c.in-Some-Unicast.field-0-is))
-    (given_join c.args.peer c.args.given.path c.args.prefixes c.in-Some-Unicast.more same c.args.table.now.held c.give_prefixes.new.table.held
-    c.give_prefixes-in-Some-Unicast.new.table.held c.in_ok-give_prefixes.ensures.changes gave))
+    (given_join c.args.peer c.args.given.path c.args.prefixes c.in-Some-Unicast.more same c.args.watched.now.table c.give_prefixes.new.watched.table
+    c.give_prefixes-in-Some-Unicast.new.watched.table c.in_ok-give_prefixes.ensures.changes gave))
     c.give_prefixes-in-Some-Unicast.ensures.changes
 
 pub returns-in-Some-Unicast-clause-told : goal.returns-in-Some-Unicast-clause-told
 returns-in-Some-Unicast-clause-told g c =
-    on_ok c.give_prefixes-in-Some-Unicast.result
-    (tells_then c.args.table.now c.give_prefixes.new.table c.give_prefixes-in-Some-Unicast.new.table c.in_ok-give_prefixes.ensures.told)
+    on_ok c.give_prefixes-in-Some-Unicast.result (λ told base h. told base (c.in_ok-give_prefixes.ensures.told base h))
     c.give_prefixes-in-Some-Unicast.ensures.told
 
 pub returns-in-Some-Flow-clause-told : goal.returns-in-Some-Flow-clause-told
 returns-in-Some-Flow-clause-told g c =
-    on_ok c.give_rules.result (tells_then c.args.table.now c.give_prefixes.new.table c.give_rules.new.table
-    c.in_ok-give_prefixes.ensures.told) c.give_rules.ensures.told
+    on_ok c.give_rules.result (λ told base h. told base (c.in_ok-give_prefixes.ensures.told base h)) c.give_rules.ensures.told
 
 pub returns-in-Some-Unicast-clause-idle : goal.returns-in-Some-Unicast-clause-idle
 returns-in-Some-Unicast-clause-idle g c = λ none no_rule.

@@ -1,9 +1,8 @@
-use Rattle.fs_desk.proofs.{Words.{◌∙◌, unicast_in}, Idle.{both_none}, Telling.{tells_then}}
+use Rattle.fs_desk.proofs.{Words.{◌∙◌, unicast_in}, Idle.{both_none}}
 use Rattle.fs_desk.proofs.apply.withdraw.Goals as goal
 
 pub returns-clause-told : goal.returns-clause-told
-returns-clause-told g c = tells_then c.args.table.now c.withdraw_prefixes.new.table c.withdraw_routes.new.table c.withdraw_prefixes.ensures.told
-    c.withdraw_routes.ensures.told
+returns-clause-told g c = λ base h. c.withdraw_routes.ensures.told base (c.withdraw_prefixes.ensures.told base h)
 
 pub returns-clause-idle : goal.returns-clause-idle
 returns-clause-idle g c = λ none no_rule.

@@ -4,7 +4,7 @@ use Rattle.fs_desk.proofs.apply.withdraw_each.Given as goal
 abbrev pub invariant-loop-prefix : goal.invariant-loop-prefix
 invariant-loop-prefix g l = record {
   changes :
-      Changes l.peer (taken_of (map shown (take l.prefix-index l.prefixes))) same l.fn.table.held l.table.held;
-  told : Tells l.fn.table l.table;
-  idle : map shown (take l.prefix-index l.prefixes) ≡ [] → l.table ≡ l.fn.table;
+      Changes l.peer (taken_of (map shown (take l.prefix-index l.prefixes))) same l.fn.watched.table l.watched.table;
+  told : Tells l.fn.watched l.watched;
+  idle : map shown (take l.prefix-index l.prefixes) ≡ [] → l.watched ≡ l.fn.watched;
 }

@@ -2,8 +2,8 @@ use Rattle.fs_desk.proofs.Words.{◌≡◌, [], Changes, same, rules_taken, Tell
 use Rattle.fs_desk.proofs.apply.withdraw_rules.Given as goal
 
 abbrev pub invariant-loop-rule : goal.invariant-loop-rule
-invariant-loop-rule g l = record {
-  changes : Changes l.peer same (rules_taken l.yielded) l.fn.table.held l.table.held;
-  told : Tells l.fn.table l.table;
-  idle : l.yielded ≡ [] → l.table ≡ l.fn.table;
+invariant-loop-rule l = record {
+  changes : Changes l.peer same (rules_taken l.yielded) l.fn.watched.table l.watched.table;
+  told : Tells l.fn.watched l.watched;
+  idle : l.yielded ≡ [] → l.watched ≡ l.fn.watched;
 }

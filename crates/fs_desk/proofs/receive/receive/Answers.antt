@@ -2,23 +2,22 @@ use Rattle.fs_desk.proofs.Words.{◌++◌, List, ℕ, refl, AreIdle, KeepsAll, W
 use Rattle.fs_desk.proofs.Words.{bounded_replies_from, Comes, IsReplyingMore, HasTaken}
 use Rattle.fs_desk.proofs.{Coming.{comes_all, comes_none, comes_shut, comes_then}, Pieces.{taken_none, taken_more_of, taken_all, up_ended}}
 use Rattle.fs_desk.proofs.Replies.{replying_none, replying_more, replying_all, replied_to, replied_ended, extends_none, extends_then}
-use Rattle.fs_desk.proofs.Telling.{tells_none, tells_then}
 use Rattle.fs_desk.proofs.receive.receive.Goals as goal
 
 pub returns-then-is_some-clause-taken : goal.returns-then-is_some-clause-taken
 returns-then-is_some-clause-taken g c = λ config whose octets l s.
     let ended = ap is_some (sym c.closed.ensures) ∙ sym c.is_some.ensures ∙ c.if-is_some.true in
-    let up = up_ended config whose c.args.peer octets c.args.piece.now c.args.session.now c.args.table.now.held ended l s in
-    (up.0, (up.1, replied_ended config whose c.args.peer octets c.args.piece.now c.args.session.now c.args.table.now.held c.args.replies.now.items ended s))
+    let up = up_ended config whose c.args.peer octets c.args.piece.now c.args.session.now c.args.watched.now.table ended l s in
+    (up.0, (up.1, replied_ended config whose c.args.peer octets c.args.piece.now c.args.session.now c.args.watched.now.table c.args.replies.now.items ended s))
 
 pub messages-init : goal.messages-init
 messages-init g c = (
   extends_none c.args.replies.now.items,
-  tells_none c.args.table.now,
+  λ base h. h,
   λ config whose octets l s.
       let open_ = none_there c.args.session.now.closed (ap is_some (sym c.closed.ensures) ∙ sym c.is_some.ensures ∙ c.if-is_some.false) in (
-        taken_none config whose c.args.peer octets c.args.piece.now c.args.session.now c.args.table.now.held s open_ l,
-        replying_none config whose c.args.peer octets c.args.piece.now c.args.session.now c.args.table.now.held c.args.replies.now.items s open_,
+        taken_none config whose c.args.peer octets c.args.piece.now c.args.session.now c.args.watched.now.table s open_ l,
+        replying_none config whose c.args.peer octets c.args.piece.now c.args.session.now c.args.watched.now.table c.args.replies.now.items s open_,
       ),
   none_there c.args.session.now.closed (ap is_some (sym c.closed.ensures) ∙ sym c.is_some.ensures ∙ c.if-is_some.false),
   comes_none c.args.session.now c.args.piece.now c.args.replies.now.items,
@@ -28,20 +27,20 @@ messages-init g c = (
 pub messages-preserved : goal.messages-preserved
 messages-preserved g c = (
   extends_then c.args.replies.now.items c.messages.replies.items c.take_message.new.replies.items c.messages.invariant.0 c.take_message.ensures.grows,
-  tells_then c.args.table.now c.messages.table c.take_message.new.table c.messages.invariant.1 c.in_ok-count.ensures.told,
+  λ base h. c.in_ok-count.ensures.told base (c.messages.invariant.1 base h),
   λ config whose octets l s.
       let before = c.messages.invariant.2 config whose octets l s in (
-        subst (λ (rest : List ℕ). HasTaken config whose c.args.peer (octets ++ c.args.piece.now) rest c.take_message.new.session c.args.table.now.held
-            c.take_message.new.table.held)
+        subst (λ (rest : List ℕ). HasTaken config whose c.args.peer (octets ++ c.args.piece.now) rest c.take_message.new.session c.args.watched.now.table
+            c.take_message.new.watched.table)
             (sym (take_rest c.messages.rest.now c.in-Some.count))
             (taken_more_of config whose c.args.peer (octets ++ c.args.piece.now) c.messages.rest.now c.messages.session c.take_message.new.session
-            c.args.table.now.held c.messages.table.held c.take_message.new.table.held
+            c.args.watched.now.table c.messages.watched.table c.take_message.new.watched.table
             c.in-Some.count before.0 (rw c.in-Some.is at c.in_ok-count.ensures.taken)),
         subst (λ (rest : List ℕ). IsReplyingMore config whose (octets ++ c.args.piece.now) rest c.take_message.new.session
             (bounded_replies_from config whose octets) c.args.replies.now.items c.take_message.new.replies.items)
             (sym (take_rest c.messages.rest.now c.in-Some.count))
             (replying_more config whose c.args.peer (octets ++ c.args.piece.now) c.messages.rest.now c.messages.session c.take_message.new.session
-            c.messages.table.held before.0.updates (bounded_replies_from config whose octets)
+            c.messages.watched.table before.0.updates (bounded_replies_from config whose octets)
             c.args.replies.now.items c.messages.replies.items c.take_message.new.replies.items c.in-Some.count before.0.follows before.0.within
             before.0.spares.listed before.0.left before.1 (rw c.in-Some.is at c.in_ok-count.ensures.replied)),
       ),
@@ -62,12 +61,12 @@ returns-clause-taken g c = λ config whose octets l s.
     let before = c.messages.invariant.2 config whose octets l s in
     let replied_ =
     replying_all config whose c.args.peer (octets ++ c.args.piece.now) c.messages.rest.now c.messages.session c.take_message.new.session
-    c.messages.table.held before.0.updates (bounded_replies_from config whose octets)
+    c.messages.watched.table before.0.updates (bounded_replies_from config whose octets)
     c.args.replies.now.items c.messages.replies.items c.take_message.new.replies.items before.0.follows before.0.within before.0.spares.listed
     before.0.left before.1 (rw c.in_default.is at c.in_ok-count.ensures.replied) in
     let all =
     taken_all config whose c.args.peer (octets ++ c.args.piece.now) c.messages.rest.now c.messages.session c.take_message.new.session
-    c.args.table.now.held c.messages.table.held c.take_message.new.table.held
+    c.args.watched.now.table c.messages.watched.table c.take_message.new.watched.table
     (bounded_replies_from config whose octets) c.args.replies.now.items c.take_message.new.replies.items before.0 replied_
     (rw c.in_default.is at c.in_ok-count.ensures.taken) in (
       all.0,
@@ -87,10 +86,10 @@ returns-clause-grows g c =
     extends_then c.args.replies.now.items c.messages.replies.items c.take_message.new.replies.items c.messages.invariant.0 c.take_message.ensures.grows
 
 pub returns-then-is_some-clause-told : goal.returns-then-is_some-clause-told
-returns-then-is_some-clause-told g c = tells_none c.args.table.now
+returns-then-is_some-clause-told g c = λ base h. h
 
 pub returns-clause-told : goal.returns-clause-told
-returns-clause-told g c = tells_then c.args.table.now c.messages.table c.take_message.new.table c.messages.invariant.1 c.in_ok-count.ensures.told
+returns-clause-told g c = λ base h. c.in_ok-count.ensures.told base (c.messages.invariant.1 base h)
 
 pub returns-then-is_some-clause-handed : goal.returns-then-is_some-clause-handed
 returns-then-is_some-clause-handed g c = λ alive.

@@ -8,17 +8,17 @@ use Rattle.fs_desk.proofs.desk.Desk.octets.Goals as goal
 -- a session that has closed stays as it is
 still : {A : Type 0} (session session' : Live) (table table' : Watched) (replies replies' : List ℕ)
     → (A → (session' ≡ session) × (table' ≡ table) × (replies' ≡ replies))
-    → A → (session' ≡ session) × ((table'.held ≡ table.held) × (replies' ≡ replies))
-still session session' table table' replies replies' same h = let all = same h in (all.0, (ap (λ (w : Watched). w.held) all.1, all.2))
+    → A → (session' ≡ session) × ((table'.table ≡ table.table) × (replies' ≡ replies))
+still session session' table table' replies replies' same h = let all = same h in (all.0, (ap (λ (w : Watched). w.table) all.1, all.2))
 
 pub returns-clause-played : goal.returns-clause-played
 returns-clause-played c = elim c.match-receive.branch [
   | in-Ok w ↦ rw w.result-is (λ expired config items played.
       desk_fed config items c.args.peer c.args.piece.now c.args.replies.now.items c.receive.new.replies.items c.in-Some.session.now
-      c.receive.new.session c.self.inside.config.now c.self.inside.table.held c.receive.new.table.held
+      c.receive.new.session c.self.inside.config.now c.self.inside.watched.table c.receive.new.watched.table
       c.self.inside.sessions.entries _ c.args.self.now (sym c.self.view_is) (sym c.in-Some.ensures.value)
       w.in-Ok.ensures.taken
-      (still c.in-Some.session.now c.receive.new.session c.self.inside.table c.receive.new.table c.args.replies.now.items c.receive.new.replies.items
+      (still c.in-Some.session.now c.receive.new.session c.self.inside.watched c.receive.new.watched c.args.replies.now.items c.receive.new.replies.items
       c.receive.ensures.closed)
       (c.get_mut.follows.holds c.receive.new.session).0 played)
   | in-Err w ↦ rw w.result-is tt
@@ -26,7 +26,7 @@ returns-clause-played c = elim c.match-receive.branch [
 
 pub returns-in_default-clause-played : goal.returns-in_default-clause-played
 returns-in_default-clause-played c = λ expired config items played.
-    desk_skipped config items c.args.peer c.args.piece.now c.self.inside.config.now c.self.inside.table.held c.self.inside.sessions.entries _ c.args.self.now
+    desk_skipped config items c.args.peer c.args.piece.now c.self.inside.config.now c.self.inside.watched.table c.self.inside.sessions.entries _ c.args.self.now
     (sym c.self.view_is)
     (sym c.in_default.ensures.value) (ap (λ (m : BTreeMap ℕ Live). m.entries) c.get_mut.follows.holds-at-none) played
 
@@ -34,29 +34,29 @@ pub returns-clause-replied : goal.returns-clause-replied
 returns-clause-replied c = elim c.match-receive.branch [
   | in-Ok w ↦ rw (w.result-is, w.replies-is) (λ expired config items played.
       desk_replied config items c.args.peer c.args.piece.now c.args.replies.now.items c.receive.new.replies.items c.in-Some.session.now
-      c.receive.new.session c.self.inside.config.now c.self.inside.table.held c.receive.new.table.held
+      c.receive.new.session c.self.inside.config.now c.self.inside.watched.table c.receive.new.watched.table
       c.self.inside.sessions.entries c.args.self.now (sym c.self.view_is) (sym c.in-Some.ensures.value)
       w.in-Ok.ensures.taken
-      (still c.in-Some.session.now c.receive.new.session c.self.inside.table c.receive.new.table c.args.replies.now.items c.receive.new.replies.items
+      (still c.in-Some.session.now c.receive.new.session c.self.inside.watched c.receive.new.watched c.args.replies.now.items c.receive.new.replies.items
       c.receive.ensures.closed) played)
   | in-Err w ↦ rw w.result-is tt
 ]
 
 pub returns-in_default-clause-replied : goal.returns-in_default-clause-replied
 returns-in_default-clause-replied c = λ expired config items played.
-    desk_silent config items c.args.peer c.args.piece.now c.args.replies.now.items c.self.inside.config.now c.self.inside.table.held
+    desk_silent config items c.args.peer c.args.piece.now c.args.replies.now.items c.self.inside.config.now c.self.inside.watched.table
     c.self.inside.sessions.entries c.args.self.now (sym c.self.view_is)
     (sym c.in_default.ensures.value) played
 
 pub returns-clause-handed : goal.returns-clause-handed
 returns-clause-handed c = elim c.match-receive.branch [
   | in-Ok w ↦ rw (w.result-is, w.replies-is)
-      (desk_handed c.self.inside.table.changes c.receive.new.table.changes c.args.peer c.args.piece.now c.args.replies.now.items
-      c.receive.new.replies.items c.in-Some.session.now c.receive.new.session c.self.inside.config.now c.self.inside.table.held
-      c.receive.new.table.held
+      (desk_handed c.self.inside.watched.changes c.receive.new.watched.changes c.args.peer c.args.piece.now c.args.replies.now.items
+      c.receive.new.replies.items c.in-Some.session.now c.receive.new.session c.self.inside.config.now c.self.inside.watched.table
+      c.receive.new.watched.table
       c.self.inside.sessions.entries _ c.args.self.now (sym c.self.view_is) (sym c.in-Some.ensures.value)
       w.in-Ok.ensures.taken
-      (still c.in-Some.session.now c.receive.new.session c.self.inside.table c.receive.new.table c.args.replies.now.items c.receive.new.replies.items
+      (still c.in-Some.session.now c.receive.new.session c.self.inside.watched c.receive.new.watched c.args.replies.now.items c.receive.new.replies.items
       c.receive.ensures.closed)
       w.in-Ok.ensures.handed (c.get_mut.follows.holds c.receive.new.session).0)
   | in-Err w ↦ rw w.result-is tt
@@ -64,14 +64,14 @@ returns-clause-handed c = elim c.match-receive.branch [
 
 pub returns-in_default-clause-handed : goal.returns-in_default-clause-handed
 returns-in_default-clause-handed c =
-    desk_unhanded c.self.inside.table.changes c.self.inside.table.changes c.args.peer c.args.piece.now c.args.replies.now.items
-    c.self.inside.config.now c.self.inside.table.held c.self.inside.table.held c.self.inside.sessions.entries _ c.args.self.now (sym c.self.view_is)
+    desk_unhanded c.self.inside.watched.changes c.self.inside.watched.changes c.args.peer c.args.piece.now c.args.replies.now.items
+    c.self.inside.config.now c.self.inside.watched.table c.self.inside.watched.table c.self.inside.sessions.entries _ c.args.self.now (sym c.self.view_is)
     (sym c.in_default.ensures.value)
 
 pub returns-clause-idle : goal.returns-clause-idle
 returns-clause-idle c = elim c.match-receive.branch [
   | in-Ok w ↦ rw w.result-is (λ idle.
-      desk_notes_none c.args.peer c.in-Some.session.now c.receive.new.session c.self.inside.config.now c.self.inside.table c.receive.new.table
+      desk_notes_none c.args.peer c.in-Some.session.now c.receive.new.session c.self.inside.config.now c.self.inside.watched c.receive.new.watched
       c.self.inside.sessions.entries _ c.args.self.now (sym c.self.view_is) (sym c.in-Some.ensures.value)
       (c.get_mut.follows.holds c.receive.new.session).0
       (λ why shut. (c.receive.ensures.closed (subst (λ (o : Option Closed). IsSome o) (sym shut) refl)).1)
@@ -86,8 +86,8 @@ returns-in_default-clause-idle c = λ idle loses. ap (λ (d : Desked). d.changes
 pub returns-clause-others : goal.returns-clause-others
 returns-clause-others c = elim c.match-receive.branch [
   | in-Ok w ↦ rw w.result-is
-      (others_set c.receive.new.table.changes c.args.peer c.in-Some.session.now c.receive.new.session c.self.inside.config.now
-      c.self.inside.table.held c.receive.new.table.held
+      (others_set c.receive.new.watched.changes c.args.peer c.in-Some.session.now c.receive.new.session c.self.inside.config.now
+      c.self.inside.watched.table c.receive.new.watched.table
       c.self.inside.sessions.entries _ c.args.self.now (sym c.self.view_is) (sym c.in-Some.ensures.value)
       (c.get_mut.follows.holds c.receive.new.session).0)
   | in-Err w ↦ rw w.result-is tt
@@ -95,6 +95,6 @@ returns-clause-others c = elim c.match-receive.branch [
 
 pub returns-in_default-clause-others : goal.returns-in_default-clause-others
 returns-in_default-clause-others c =
-    others_stay c.self.inside.table.changes c.args.peer c.self.inside.config.now c.self.inside.table.held c.self.inside.table.held
+    others_stay c.self.inside.watched.changes c.args.peer c.self.inside.config.now c.self.inside.watched.table c.self.inside.watched.table
     c.self.inside.sessions.entries _ c.args.self.now
     (sym c.self.view_is) (ap (λ (m : BTreeMap ℕ Live). m.entries) c.get_mut.follows.holds-at-none)

@@ -6,8 +6,8 @@ use Rattle.fs_desk.proofs.desk.Desk.tick.Goals as goal
 
 pub returns-clause-ticked : goal.returns-clause-ticked
 returns-clause-ticked c =
-    desk_ticks c.self.inside.table.changes c.tick_session.new.table.changes c.args.peer c.args.moment c.in-Some.session.now c.tick_session.new.session
-    c.self.inside.config.now c.self.inside.table.held c.tick_session.new.table.held
+    desk_ticks c.self.inside.watched.changes c.tick_session.new.watched.changes c.args.peer c.args.moment c.in-Some.session.now c.tick_session.new.session
+    c.self.inside.config.now c.self.inside.watched.table c.tick_session.new.watched.table
     c.self.inside.sessions.entries _ c.args.self.now c.args.replies.now.items c.tick_session.new.replies.items (sym c.self.view_is)
     (sym c.in-Some.ensures.value)
     c.in_ok-tick_session.ensures.ticked
@@ -16,7 +16,7 @@ returns-clause-ticked c =
 pub returns-clause-played : goal.returns-clause-played
 returns-clause-played c = λ stays expired config items played.
     desk_ticked config items c.args.peer c.args.moment c.in-Some.session.now c.tick_session.new.session c.self.inside.config.now
-    c.self.inside.table.held c.tick_session.new.table.held
+    c.self.inside.watched.table c.tick_session.new.watched.table
     c.self.inside.sessions.entries _ c.args.self.now c.args.replies.now.items c.tick_session.new.replies.items (sym c.self.view_is)
     (sym c.in-Some.ensures.value)
     c.in_ok-tick_session.ensures.ticked
@@ -24,14 +24,14 @@ returns-clause-played c = λ stays expired config items played.
 
 pub returns-in_default-clause-ticked : goal.returns-in_default-clause-ticked
 returns-in_default-clause-ticked c =
-    desk_rests c.args.peer c.args.moment c.self.inside.config.now c.self.inside.table.held c.self.inside.sessions.entries _ c.args.self.now
+    desk_rests c.args.peer c.args.moment c.self.inside.config.now c.self.inside.watched.table c.self.inside.sessions.entries _ c.args.self.now
     c.args.replies.now.items
     (sym c.self.view_is)
     (sym c.in_default.ensures.value) (ap (λ (m : BTreeMap ℕ Live). m.entries) c.get_mut.follows.holds-at-none)
 
 pub returns-in_default-clause-played : goal.returns-in_default-clause-played
 returns-in_default-clause-played c = λ stays expired config items played.
-    desk_stays config items c.self.inside.config.now c.self.inside.table.held c.self.inside.sessions.entries _ c.args.self.now
+    desk_stays config items c.self.inside.config.now c.self.inside.watched.table c.self.inside.sessions.entries _ c.args.self.now
     (sym c.self.view_is)
     (ap (λ (m : BTreeMap ℕ Live). m.entries) c.get_mut.follows.holds-at-none) played
 
@@ -45,8 +45,8 @@ returns-in_default-clause-expired c =
 
 pub returns-clause-others : goal.returns-clause-others
 returns-clause-others c =
-    desk_expires c.self.inside.table.changes c.tick_session.new.table.changes c.args.peer c.args.moment c.in-Some.session.now
-    c.tick_session.new.session c.self.inside.config.now c.self.inside.table.held c.tick_session.new.table.held
+    desk_expires c.self.inside.watched.changes c.tick_session.new.watched.changes c.args.peer c.args.moment c.in-Some.session.now
+    c.tick_session.new.session c.self.inside.config.now c.self.inside.watched.table c.tick_session.new.watched.table
     c.self.inside.sessions.entries _ c.args.self.now c.args.replies.now.items c.tick_session.new.replies.items (sym c.self.view_is)
     (sym c.in-Some.ensures.value)
     c.in_ok-tick_session.ensures.ticked
@@ -54,12 +54,12 @@ returns-clause-others c =
 
 pub returns-in_default-clause-others : goal.returns-in_default-clause-others
 returns-in_default-clause-others c =
-    desk_unexpired c.args.peer c.self.inside.config.now c.self.inside.table.held c.self.inside.sessions.entries _ c.args.self.now (sym c.self.view_is)
+    desk_unexpired c.args.peer c.self.inside.config.now c.self.inside.watched.table c.self.inside.sessions.entries _ c.args.self.now (sym c.self.view_is)
     (ap (λ (m : BTreeMap ℕ Live). m.entries) c.get_mut.follows.holds-at-none)
 
 pub returns-clause-idle : goal.returns-clause-idle
 returns-clause-idle c =
-    desk_notes_none c.args.peer c.in-Some.session.now c.tick_session.new.session c.self.inside.config.now c.self.inside.table c.tick_session.new.table
+    desk_notes_none c.args.peer c.in-Some.session.now c.tick_session.new.session c.self.inside.config.now c.self.inside.watched c.tick_session.new.watched
     c.self.inside.sessions.entries _ c.args.self.now (sym c.self.view_is) (sym c.in-Some.ensures.value)
     (c.get_mut.follows.holds c.tick_session.new.session).0
     (λ why shut. c.tick_session.ensures.ended (subst (λ (o : Option Closed). IsSome o) (sym shut) refl))

@@ -7,7 +7,7 @@ on_err (Err e) p = p
 
 pub returns-clause-played : goal.returns-clause-played
 returns-clause-played c = λ expired config items played.
-    desk_up expired config items c.args.peer c.in_ok-session.session c.self.inside.config.now c.self.inside.table.held c.self.inside.sessions.entries
+    desk_up expired config items c.args.peer c.in_ok-session.session c.self.inside.config.now c.self.inside.watched.table c.self.inside.sessions.entries
     c.insert.new.self.entries c.lost.new.self
     (sym c.self.view_is) c.in_ok-session.ensures c.in_ok-insert.ensures.entries (c.lost.ensures.played expired config items played)
 
@@ -16,7 +16,7 @@ pub returns-in_err-insert-clause-lost : goal.returns-in_err-insert-clause-lost
 returns-in_err-insert-clause-lost c =
     on_err c.from_residual-in_err-insert.result
     (λ expired config items played.
-    desk_stays config _ c.self.inside.config.now c.self.inside.table.held c.self.inside.sessions.entries c.insert.new.self.entries c.lost.new.self
+    desk_stays config _ c.self.inside.config.now c.self.inside.watched.table c.self.inside.sessions.entries c.insert.new.self.entries c.lost.new.self
     (sym c.self.view_is) c.in_err-insert.ensures.err (c.lost.ensures.played expired config items played))
 
 pub returns-clause-begun : goal.returns-clause-begun
@@ -26,8 +26,8 @@ returns-clause-begun c =
 
 pub returns-clause-others : goal.returns-clause-others
 returns-clause-others c =
-    others_put c.self.inside.table.changes c.args.peer c.in_ok-session.session c.self.inside.config.now c.self.inside.table.held
-    c.self.inside.table.held c.self.inside.sessions.entries c.insert.new.self.entries
+    others_put c.self.inside.watched.changes c.args.peer c.in_ok-session.session c.self.inside.config.now c.self.inside.watched.table
+    c.self.inside.watched.table c.self.inside.sessions.entries c.insert.new.self.entries
     c.args.self.now c.lost.new.self (sym c.self.view_is) c.in_ok-insert.ensures.entries c.lost.ensures.others
 
 pub returns-clause-told : goal.returns-clause-told

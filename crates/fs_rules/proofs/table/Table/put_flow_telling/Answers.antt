@@ -1,8 +1,8 @@
-use Rattle.fs_rules.proofs.Words.{ℕ, List, ◌≡◌, ap, ap₂, sym, subst, ◌∙◌, not, Path, Kept, IsKept, put_route, is_key, with_flow, routes_of, put_kept}
+use Rattle.fs_rules.proofs.Words.{ℕ, List, ◌≡◌, ap, ap₂, sym, subst, ◌∙◌, not, Path, Kept, IsKept, put_route, is_key, is_to, with_flow, routes_of, put_kept}
 use Rattle.fs_rules.proofs.Words.{has_key, keeps-put, routes-put, any-routes, IsRule}
-use Rattle.fs_rules.proofs.{Chosen.{flows_changed}, Counting.{counted_as, counted_put_flow}, Elsewhere.{put_elsewhere}}
+use Rattle.fs_rules.proofs.{Chosen.{flows_changed, held_of}, Counting.{counted_as, counted_put_flow}, Elsewhere.{put_elsewhere}}
 use Rattle.fs_rules.proofs.Prefixes.{held_still, kept_still}
-use Rattle.fs_rules.proofs.table.Table.put_shared.Goals as goal
+use Rattle.fs_rules.proofs.table.Table.put_flow_telling.Goals as goal
 
 pub invariant_of-self : goal.invariant_of-self
 invariant_of-self g c =
@@ -47,3 +47,8 @@ returns-clause-elsewhere g c =
     (ap routes_of (subst (λ (k : Kept). c.put.new.self ≡ put_kept k c.self.inside.flows) c.in_ok-k.ensures c.in_ok-is_new.ensures.ok)
     ∙ routes-put _ c.self.inside.flows)
     (subst (λ (k : Kept). IsRule k.route.rule) c.in_ok-k.ensures c.put.ensures.rule) c.put.ensures.rules t
+
+pub returns-clause-covers : goal.returns-clause-covers
+returns-clause-covers g c = λ base h.
+    c.note.ensures.covers base c.args.self.now (held_of c.self.inside.config.now c.self.inside.unicast (routes_of c.put.new.self)) h
+    (returns-clause-elsewhere g c (is_to c.of-change.result.family c.of-change.result.destination) c.of-change.ensures.place)
