@@ -1,10 +1,10 @@
 -- What a piece makes of the session that a desk keeps of a peer.
-use Rattle.fs_desk.proofs.Words.{◌≡◌, ◌==◌, ℕ, Bool, true, false, List, [], ◌∷◌, ◌++◌, Option, Some, None, ap, sym, ◌∙◌, subst, append-nil, nat_cmp}
-use Rattle.fs_desk.proofs.Words.{set_value, is_at, peer_of, Config, Peer, eq_itself, if_true, pending, Noted, Held, Closed, Fault, Times, Handed}
+use Rattle.fs_desk.proofs.Words.{◌≡◌, ℕ, Bool, true, false, List, [], ◌∷◌, ◌++◌, Option, Some, None, ap, sym, ◌∙◌, subst, append-nil}
+use Rattle.fs_desk.proofs.Words.{peer_of, Config, Peer, pending, Closed, Fault, Times, Handed}
 use Rattle.fs_desk.proofs.Words.{Point, handed, hand, runs_by, waits, Live, step_of, receiver, at_moment, runs_waits, Item, received, Desked}
-use Rattle.fs_desk.proofs.Words.{HandsPeer, IsHanded, PeerIs, PlayedBut, StandsAs, expired_after, session_at, life, Comes, IsFed, PieceComes}
-use Rattle.fs_desk.proofs.Words.{TakesPiece, comes_to, point_of}
-use Rattle.fs_desk.proofs.{Coming.{at_greatest}, Played.{StaysClosed, desk_fed, desk_of, session_value}}
+use Rattle.fs_desk.proofs.Words.{HandsPeer, IsHanded, PeerIs, PlayedBut, StandsAs, session_at, life, Comes, IsFed, PieceComes}
+use Rattle.fs_desk.proofs.Words.{comes_to, point_of}
+use Rattle.fs_desk.proofs.{Coming.{at_greatest}, Played.{Feeds, goes_own, plays_octets}}
 
 -- in the octets that wait of an open session no message stands whole
 abbrev Waits : Live → Type 0
@@ -66,34 +66,15 @@ is_handed old new piece replies replies' before comes after waiting =
 one_session : (found session : Live) (o : Option Live) → o ≡ Some found → o ≡ Some session → found ≡ session
 one_session found session o e f = ap (λ (x : Option Live). elim x [ None ↦ found | Some l ↦ l ]) (sym e ∙ f)
 
-pub desk_handed : (noted noted' : Noted) (n : ℕ) (piece replies replies' : List ℕ) (session session' : Live) (own : Config) (table table' : Held)
-    (sessions sessions' : List (ℕ × Live)) (old : Desked)
-    → old ≡ desk_of own table noted sessions → session_at n sessions ≡ Some session
-    → TakesPiece n session session' table table' piece replies replies' → StaysClosed session session' table table' replies replies'
-    → PieceComes session session' piece replies replies'
-    → sessions' ≡ set_value (is_at (nat_cmp n)) sessions session' → HandsPeer n old (desk_of own table' noted' sessions') piece replies replies'
-desk_handed noted noted' n piece replies replies' session session' own table table' sessions sessions' old e there takes stays comes s expired config
-    items found found' p here here' alive =
-    let first : found ≡ session = one_session found session (session_at n sessions) (ap (λ (d : Desked). session_at n d.sessions) (sym e) ∙ here) there in
-    let now_there : session_at n sessions' ≡ Some session' = session_value n n session session' sessions sessions' there s
-    ∙ if_true (n == n) _ _ (eq_itself n) in
-    let last : found' ≡ session' = one_session found' session' (session_at n sessions') here' now_there in
+pub desk_handed : {n : ℕ} {piece replies replies' : List ℕ} {session session' : Live} {old new : Desked}
+    → Feeds n piece replies replies' session session' old new → PieceComes session session' piece replies replies'
+    → HandsPeer n old new piece replies replies'
+desk_handed {n} {piece} {replies} {replies'} {session} {session'} {old} {new} f comes expired config items found found' p here here' alive =
+    let first : found ≡ session = one_session found session (session_at n old.sessions) here f.on.there in
+    let last : found' ≡ session' = one_session found' session' (session_at n new.sessions) here' (goes_own f.on) in
     let after : session'.closed ≡ None = ap (λ (l : Live). l.closed) (sym last) ∙ alive in
     let both = comes after in
-    let whole : PlayedBut (expired_after (received n piece) expired) config (items ++ received n piece ∷ []) (desk_of own table' noted' sessions') =
-    desk_fed {noted = noted} {noted' = noted'} config items n piece replies replies' session session' own table table' sessions sessions' old e there
-    takes stays s p in
     subst (λ (l : Live). IsHanded l found' piece replies replies') (sym first)
     (subst (λ (l : Live). IsHanded session l piece replies replies') (sym last)
     (is_handed session session' piece replies replies' both.0 both.1 after
-    (open_waits config (items ++ received n piece ∷ []) n session' (desk_of own table' noted' sessions') now_there after whole)))
-
--- a peer that is down has no session
-pub desk_unhanded : (noted noted' : Noted) (n : ℕ) (piece replies : List ℕ) (own : Config) (table table' : Held)
-    (sessions sessions' : List (ℕ × Live)) (old : Desked) → old ≡ desk_of own table noted sessions → session_at n sessions ≡ None
-    → HandsPeer n old (desk_of own table' noted' sessions') piece replies replies
-desk_unhanded noted noted' n piece replies own table table' sessions sessions' old e none expired config items found found' p here here' alive =
-    absurd (never (sym (ap (λ (d : Desked). session_at n d.sessions) (sym e) ∙ here) ∙ none))
-  where
-    never : Some found ≡ None → ⊥
-    never h = cc
+    (open_waits config (items ++ received n piece ∷ []) n session' new (goes_own f.on) after (plays_octets f expired config items p))))

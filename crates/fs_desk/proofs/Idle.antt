@@ -1,9 +1,9 @@
 -- Updates that list nothing, and the octets of such: the table and what is noted stay.
-use Rattle.fs_desk.proofs.Words.{◌≡◌, inl, inr, ℕ, List, [], ◌∷◌, ◌++◌, drop, Bool, true, false, if◌then◌else◌, ◌==◌, Option, Some, None, refl}
-use Rattle.fs_desk.proofs.Words.{nat_cmp, set_value, is_at, eq_itself, if_true, Config, ap, sym, ◌∙◌, subst, AllByRecursion, Update, given_prefixes}
-use Rattle.fs_desk.proofs.Words.{unicast_in, flows_in, Live, Does, step_with, held_count, Closed, Ended, Desked, standing_by, session_at}
-use Rattle.fs_desk.proofs.Words.{standing_at_desk, AreIdle, IsIdle, KeepsAll, LosesNothing, completed, Watched}
-use Rattle.fs_desk.proofs.{Follows.{completed_fed}, Played.{desk_of, session_value}}
+use Rattle.fs_desk.proofs.Words.{◌≡◌, inl, inr, ℕ, List, [], ◌∷◌, ◌++◌, drop, Bool, true, false, if◌then◌else◌, Option, Some, None, refl}
+use Rattle.fs_desk.proofs.Words.{ap, sym, ◌∙◌, subst, AllByRecursion, Update, given_prefixes}
+use Rattle.fs_desk.proofs.Words.{unicast_in, flows_in, Live, held_count, Closed, Ended, Desked, standing_by}
+use Rattle.fs_desk.proofs.Words.{standing_at_desk, AreIdle, IsIdle, KeepsAll, LosesNothing, completed, Watched, IsSome}
+use Rattle.fs_desk.proofs.{Follows.{completed_fed}, Pieces.{Brings}, Played.{GoesOn, goes_own}}
 use Rattle.fs_speaker.specs.declared.Standing.TheVariants.{Live as LiveIn}
 
 pub more_than_none : {A : Type 0} (xs : List A) (x : A) → xs ++ x ∷ [] ≡ [] → ⊥
@@ -45,17 +45,17 @@ lists_nothing update idle =
     }
 
 -- after one message without an update the rest lists nothing either
-pub idle_none : (old new : Live) (piece : List ℕ) (count : ℕ) → new.config ≡ old.config → new.peer ≡ old.peer
-    → Does (step_with old piece) old new piece count None → AreIdle old piece → AreIdle new (drop count piece)
-idle_none old new piece count c p did idle = subst (AllByRecursion IsIdle) (completed_fed old new piece count None c p did) idle
+pub idle_none : {old new : Live} {piece : List ℕ} {count : ℕ} {replies replies' : List ℕ} → Brings old new piece count None replies replies'
+    → old.closed ≡ None → AreIdle old piece → AreIdle new (drop count piece)
+idle_none {old} {new} {piece} {count} b alive idle =
+    subst (AllByRecursion IsIdle) (completed_fed old new piece count None b.config_is b.peer_is (b.does alive).0) idle
 
 -- and after one with an update, which lists nothing
-pub idle_update : (old new : Live) (piece : List ℕ) (count : ℕ) (update : Update) → new.config ≡ old.config → new.peer ≡ old.peer
-    → Does (step_with old piece) old new piece count (Some update) → AreIdle old piece
-    → IsIdle update × AreIdle new (drop count piece)
-idle_update old new piece count update c p did idle =
+pub idle_update : {old new : Live} {piece : List ℕ} {count : ℕ} {update : Update} {replies replies' : List ℕ}
+    → Brings old new piece count (Some update) replies replies' → old.closed ≡ None → AreIdle old piece → IsIdle update × AreIdle new (drop count piece)
+idle_update {old} {new} {piece} {count} {update} b alive idle =
     let all : AllByRecursion IsIdle (update ∷ completed new (drop count piece)) =
-    subst (AllByRecursion IsIdle) (completed_fed old new piece count (Some update) c p did) idle in
+    subst (AllByRecursion IsIdle) (completed_fed old new piece count (Some update) b.config_is b.peer_is (b.does alive).0) idle in
     (all.0, all.1)
 
 -- where the session has closed the peer held nothing
@@ -67,41 +67,28 @@ held_nothing peer session watched why shut (inl alive) = absurd (never (sym shut
     never e = cc
 held_nothing peer session watched why shut (inr zero_is) = zero_is
 
--- so of a desk's session
-pub keeps_all : (peer : ℕ) (old new : Desked) (session session' : Live) (watched : Watched) → session_at peer old.sessions ≡ Some session
-    → session_at peer new.sessions ≡ Some session'
-    → watched.table ≡ old.held → session.closed ≡ None → LosesNothing peer old new → KeepsAll peer session' watched
-keeps_all peer old new session session' watched there there' same alive loses = by session'.closed refl loses
+-- A piece, or the clock: a closed session does nothing, and an open one as said.
+pub desk_notes_none : {n : ℕ} {session session' : Live} {old new : Desked} → GoesOn n session session' old new → (watched : Watched)
+    → watched.table ≡ old.held → watched.changes ≡ old.changes → (IsSome session.closed → new.changes ≡ watched.changes)
+    → (session.closed ≡ None → KeepsAll n session' watched → new.changes ≡ watched.changes) → LosesNothing n old new → new.changes ≡ old.changes
+desk_notes_none {n} {session} {session'} {old} {new} on watched same noted shut open_ loses = by session.closed refl ∙ noted
   where
     never : (why : Closed) → LiveIn session.phase.state ≡ Ended why → ⊥
     never why e = cc
 
-    did_stand : standing_at_desk old peer ≡ LiveIn session.phase.state
-    did_stand = ap standing_by there ∙ ap (λ (c : Option Closed). elim c [ Some why ↦ Ended why | None ↦ LiveIn session.phase.state ]) alive
+    did_stand : session.closed ≡ None → standing_at_desk old n ≡ LiveIn session.phase.state
+    did_stand alive =
+        ap standing_by on.there ∙ ap (λ (c : Option Closed). elim c [ Some why ↦ Ended why | None ↦ LiveIn session.phase.state ]) alive
 
-    now_stands : (why : Closed) → session'.closed ≡ Some why → standing_at_desk new peer ≡ Ended why
-    now_stands why shut = ap standing_by there' ∙ ap (λ (c : Option Closed). elim c [ Some w ↦ Ended w | None ↦ LiveIn session'.phase.state ]) shut
+    now_stands : (why : Closed) → session'.closed ≡ Some why → standing_at_desk new n ≡ Ended why
+    now_stands why ends =
+        ap standing_by (goes_own on) ∙ ap (λ (c : Option Closed). elim c [ Some w ↦ Ended w | None ↦ LiveIn session'.phase.state ]) ends
 
-    by : (c : Option Closed) → session'.closed ≡ c → LosesNothing peer old new → KeepsAll peer session' watched
-    by None open_ k = inl open_
-    by (Some why) shut (inr zero_is) = inr (ap (held_count peer) same ∙ zero_is)
-    by (Some why) shut (inl same_ends) = absurd (never why (sym did_stand ∙ same_ends why (now_stands why shut)))
+    keeps_all : session.closed ≡ None → (c : Option Closed) → session'.closed ≡ c → LosesNothing n old new → KeepsAll n session' watched
+    keeps_all alive None h k = inl h
+    keeps_all alive (Some why) h (inr zero_is) = inr (ap (held_count n) same ∙ zero_is)
+    keeps_all alive (Some why) h (inl same_ends) = absurd (never why (sym (did_stand alive) ∙ same_ends why (now_stands why h)))
 
--- A piece, or the clock: a closed session does nothing, and an open one as said.
-pub desk_notes_none : (n : ℕ) (session session' : Live) (own : Config) (watched watched' : Watched) (sessions sessions' : List (ℕ × Live)) (old : Desked)
-    → old ≡ desk_of own watched.table watched.changes sessions → session_at n sessions ≡ Some session → sessions' ≡ set_value (is_at (nat_cmp n)) sessions session'
-    → ((why : Closed) → session.closed ≡ Some why → watched' ≡ watched) → (session.closed ≡ None → KeepsAll n session' watched → watched'.changes ≡ watched.changes)
-    → LosesNothing n old (desk_of own watched'.table watched'.changes sessions') → watched'.changes ≡ old.changes
-desk_notes_none n session session' own watched watched' sessions sessions' old e there s shut open_ loses =
-    by session.closed refl ∙ ap (λ (d : Desked). d.changes) (sym e)
-  where
-    now_there : session_at n sessions' ≡ Some session'
-    now_there = session_value n n session session' sessions sessions' there s ∙ if_true (n == n) _ _ (eq_itself n)
-
-    by : (c : Option Closed) → session.closed ≡ c → watched'.changes ≡ watched.changes
-    by (Some why) h = ap (λ (w : Watched). w.changes) (shut why h)
-    by None h =
-        open_ h
-        (keeps_all n old (desk_of own watched'.table watched'.changes sessions') session session' watched (ap (λ (d : Desked). session_at n d.sessions) e
-        ∙ there) now_there
-        (ap (λ (d : Desked). d.held) (sym e)) h loses)
+    by : (c : Option Closed) → session.closed ≡ c → new.changes ≡ watched.changes
+    by (Some why) h = shut (subst (λ (o : Option Closed). IsSome o) (sym h) refl)
+    by None h = open_ h (keeps_all h session'.closed refl loses)

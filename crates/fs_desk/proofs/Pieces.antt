@@ -1,7 +1,7 @@
 -- One session and the table, through a piece of the peer's octets.
 use Rattle.fs_desk.proofs.Words.{◌≡◌, inl, inr, ℕ, List, [], ◌∷◌, ◌++◌, drop, flat_map, not, Bool, Option, Some, None, refl, ap, sym, ◌∙◌, subst}
 use Rattle.fs_desk.proofs.Words.{append-nil, is_some, true, false, true≢false, AllByRecursion, Config, Peer, IsPrefix, Update, gives_prefixes}
-use Rattle.fs_desk.proofs.Words.{false_of_not, true_of_not, each_append, some_there, Held, held_count, Closed, Memory, CloseIs, Live, Does, step_with}
+use Rattle.fs_desk.proofs.Words.{false_of_not, true_of_not, each_append, some_there, Held, held_count, Closed, Memory, CloseIs, Live, Does, reply_of, step_with}
 use Rattle.fs_desk.proofs.Words.{Changes, nothing, told, told_of, IsListed, is_over, routes_left, too_many, bounded_replies_from, wants_memory}
 use Rattle.fs_desk.proofs.Words.{Follows, AreWithin, TakesUpdate, IsFed, HasReplied, IsLeft, Spares, IsUp, HasTaken, MessageTaken, TakesMessage}
 use Rattle.fs_desk.proofs.Words.{HasRepliedMore, close_is}
@@ -11,13 +11,30 @@ use Rattle.fs_desk.proofs.{Replying.{replied_exactly, replied_over}, RoutesLeft.
 use Rattle.fs_desk.proofs.Updates.{left_more, left_nothing, spares_others, spares_none, spares_then}
 use Rattle.fs_rules.proofs.Apart.{each_front, each_back}
 
+-- A message was taken and replied to, and brought this update, if any.
+pub record Brings (old new : Live) (piece : List ℕ) (count : ℕ) (update : Option Update) (replies replies' : List ℕ) : Type 0 where
+  pub alive : new.closed ≡ None
+  pub config_is : new.config ≡ old.config
+  pub peer_is : new.peer ≡ old.peer
+  pub does : old.closed ≡ None → Does (step_with old piece) old new piece count update × (replies' ≡ replies ++ reply_of old (step_with old piece))
+
+pub brought : {old new : Live} {piece : List ℕ} {count : ℕ} {found update : Option Update} {replies replies' : List ℕ} → found ≡ update
+    → new.closed ≡ None → (new.config ≡ old.config) × (new.peer ≡ old.peer)
+    → (old.closed ≡ None → Does (step_with old piece) old new piece count found × (replies' ≡ replies ++ reply_of old (step_with old piece)))
+    → Brings old new piece count update replies replies'
+brought {old} {new} {piece} {count} {found} {update} {replies} {replies'} is alive same did = record {
+  alive = alive;
+  config_is = same.0;
+  peer_is = same.1;
+  does = λ h. (subst (λ (u : Option Update). Does (step_with old piece) old new piece count u) is (did h).0, (did h).1);
+}
+
 -- a message without an update was taken
-pub fed_none : (peer : ℕ) (old new : Live) (table : Held) (piece : List ℕ) (count : ℕ)
-    → (old.closed ≡ None → Does (step_with old piece) old new piece count None) → new.closed ≡ None → new.config ≡ old.config → new.peer ≡ old.peer
-    → TakesMessage peer old new table table piece (Some count)
-fed_none peer old new table piece count did alive c p = λ config whose octets updates f w l k. record {
+pub fed_none : {peer : ℕ} {old new : Live} {table : Held} {piece : List ℕ} {count : ℕ} {replies replies' : List ℕ}
+    → Brings old new piece count None replies replies' → TakesMessage peer old new table table piece (Some count)
+fed_none {peer} {old} {new} {table} {piece} {count} b = λ config whose octets updates f w l k. record {
   updates = updates ++ [];
-  follows = follows_fed config whose octets piece old new updates count None f alive c p (did f.alive);
+  follows = follows_fed config whose octets piece old new updates count None f b.alive b.config_is b.peer_is (b.does f.alive).0;
   within = subst (AreWithin whose) (sym (append-nil updates)) w;
   left = subst (λ (u : List Update). IsLeft peer u table) (sym (append-nil updates)) k;
   spares = spares_none peer table l;
@@ -45,53 +62,40 @@ held_left peer updates update old new table table' replies replies' open_ t whos
     (counted_left peer (updates ++ update ∷ []) t.applied (t.changes.listed l) (left_more peer updates update table t.applied k t.changes l)
     (prefixes_more updates update w.prefixes t.prefixes))
 
--- what a message does with which this update was found
-pub found_does : {A : Type 0} (old mid : Live) (piece : List ℕ) (count : ℕ) (found : Option Update) (update : Update) → found ≡ Some update
-    → (old.closed ≡ None → Does (step_with old piece) old mid piece count found × A) → old.closed ≡ None
-    → Does (step_with old piece) old mid piece count (Some update) × A
-found_does old mid piece count found update is exact h =
-    (subst (λ (u : Option Update). Does (step_with old piece) old mid piece count u) is (exact h).0, (exact h).1)
-
 -- a message with an update was taken, and the table has it
-pub fed_update : {A : Type 0} (peer : ℕ) (old mid new : Live) (table table' : Held) (replies replies' piece : List ℕ) (count : ℕ) (update : Update)
-    (open_ : Bool) → open_ ≡ true
-    → (found : Option Update) → found ≡ Some update → (old.closed ≡ None → Does (step_with old piece) old mid piece count found × A)
-    → mid.closed ≡ None → mid.config ≡ old.config → mid.peer ≡ old.peer
-    → TakesUpdate peer update mid new table table' replies replies' open_
+pub fed_update : {peer : ℕ} {old mid new : Live} {table table' : Held} {replies replies' replies'' piece : List ℕ} {count : ℕ} {update : Update}
+    → Brings old mid piece count (Some update) replies replies' → TakesUpdate peer update mid new table table' replies' replies'' true
     → TakesMessage peer old new table table' piece (Some count)
-fed_update peer old mid new table table' replies replies' piece count update open_ goes found is exact alive c p t = λ config whose octets updates f w l k.
+fed_update {peer} {old} {mid} {new} {table} {table'} {replies} {replies'} {replies''} {piece} {count} {update} b t =
+    λ config whose octets updates f w l k.
     let follows : Follows config whose octets (drop count piece) mid (updates ++ update ∷ []) =
-    follows_fed config whose octets piece old mid updates count (Some update) f alive c p
-    (found_does old mid piece count found update is exact f.alive).0 in
+    follows_fed config whose octets piece old mid updates count (Some update) f b.alive b.config_is b.peer_is (b.does f.alive).0 in
     let small : is_over whose.max_routes (routes_left (updates ++ update ∷ [])) ≡ false =
     false_of_not (is_over whose.max_routes (routes_left (updates ++ update ∷ [])))
-    (sym (held_left peer updates update mid new table table' replies replies' open_ t whose w l k (p ∙ f.peer_is)) ∙ goes) in
+    (sym (held_left peer updates update mid new table table' replies' replies'' true t whose w l k (b.peer_is ∙ f.peer_is))) in
     record {
       updates = updates ++ update ∷ [];
-      follows = subst (λ (s : Live). Follows config whose octets (drop count piece) s (updates ++ update ∷ [])) (sym (t.stays goes).0) follows;
+      follows = subst (λ (s : Live). Follows config whose octets (drop count piece) s (updates ++ update ∷ [])) (sym (t.stays refl).0) follows;
       within = record { small = next_within whose.max_routes updates update w.small small; prefixes = prefixes_more updates update w.prefixes t.prefixes };
-      left = subst (IsLeft peer (updates ++ update ∷ [])) (sym (t.stays goes).1) (left_more peer updates update table t.applied k t.changes l);
-      spares = subst (Spares peer table) (sym (t.stays goes).1) (spares_others peer (told update) (told_of update) table t.applied t.changes l);
+      left = subst (IsLeft peer (updates ++ update ∷ [])) (sym (t.stays refl).1) (left_more peer updates update table t.applied k t.changes l);
+      spares = subst (Spares peer table) (sym (t.stays refl).1) (spares_others peer (told update) (told_of update) table t.applied t.changes l);
     }
 
 -- a message with an update was taken that passes the limit: the session is closed, and the table has nothing of the peer
-pub fed_ceased : {A : Type 0} (peer : ℕ) (old mid new : Live) (table table' : Held) (replies replies' piece : List ℕ) (count : ℕ) (update : Update)
-    (open_ : Bool) → open_ ≡ false
-    → (found : Option Update) → found ≡ Some update → (old.closed ≡ None → Does (step_with old piece) old mid piece count found × A)
-    → mid.closed ≡ None → mid.config ≡ old.config → mid.peer ≡ old.peer
-    → TakesUpdate peer update mid new table table' replies replies' open_
+pub fed_ceased : {peer : ℕ} {old mid new : Live} {table table' : Held} {replies replies' replies'' piece : List ℕ} {count : ℕ} {update : Update}
+    → Brings old mid piece count (Some update) replies replies' → TakesUpdate peer update mid new table table' replies' replies'' false
     → TakesMessage peer old new table table' piece None
-fed_ceased peer old mid new table table' replies replies' piece count update open_ ends found is exact alive c p t = λ config whose octets updates f w l k.
+fed_ceased {peer} {old} {mid} {new} {table} {table'} {replies} {replies'} {replies''} {piece} {count} {update} b t =
+    λ config whose octets updates f w l k.
     let follows : Follows config whose octets (drop count piece) mid (updates ++ update ∷ []) =
-    follows_fed config whose octets piece old mid updates count (Some update) f alive c p
-    (found_does old mid piece count found update is exact f.alive).0 in
+    follows_fed config whose octets piece old mid updates count (Some update) f b.alive b.config_is b.peer_is (b.does f.alive).0 in
     let over : is_over whose.max_routes (routes_left (updates ++ update ∷ [])) ≡ true =
     true_of_not (is_over whose.max_routes (routes_left (updates ++ update ∷ [])))
-    (sym (held_left peer updates update mid new table table' replies replies' open_ t whose w l k (p ∙ f.peer_is)) ∙ ends) in
-    let gone : Changes peer nothing nothing t.applied table' = lost_to peer t.applied table' (t.ceases ends).1 in
+    (sym (held_left peer updates update mid new table table' replies' replies'' false t whose w l k (b.peer_is ∙ f.peer_is))) in
+    let gone : Changes peer nothing nothing t.applied table' = lost_to peer t.applied table' (t.ceases refl).1 in
     inr (record {
       why = too_many;
-      closed = (t.ceases ends).0;
+      closed = (t.ceases refl).0;
       over = follows_ceased config whose octets (drop count piece) mid updates update follows w over;
       left = left_nothing peer t.applied table' gone (t.changes.listed l);
       spares = spares_then peer table t.applied table' (spares_others peer (told update) (told_of update) table t.applied t.changes l)
@@ -124,10 +128,10 @@ taken_none config whose peer octets piece session table s open_ l = record {
   spares = spares_none peer table l;
 }
 
-pub taken_more_of : (config : Config) (whose : Peer) (peer : ℕ) (octets rest : List ℕ) (session new : Live) (table now table' : Held) (count : ℕ)
+pub taken_more_of : {config : Config} {whose : Peer} {peer : ℕ} {octets rest : List ℕ} {session new : Live} {table now table' : Held} (count : ℕ)
     → HasTaken config whose peer octets rest session table now → TakesMessage peer session new now table' rest (Some count)
     → HasTaken config whose peer octets (drop count rest) new table table'
-taken_more_of config whose peer octets rest session new table now table' count r feeds =
+taken_more_of {config} {whose} {peer} {octets} {rest} {session} {new} {table} {now} {table'} count r feeds =
     let g = feeds config whose octets r.updates r.follows r.within r.spares.listed r.left in
     record {
       updates = g.updates;
@@ -137,11 +141,12 @@ taken_more_of config whose peer octets rest session new table now table' count r
       spares = spares_then peer table now table' r.spares g.spares;
     }
 
-pub taken_all : (config : Config) (whose : Peer) (peer : ℕ) (octets rest : List ℕ) (session new : Live) (table now table' : Held) (said first replies' : List ℕ)
+pub taken_all : {config : Config} {whose : Peer} {peer : ℕ} {octets rest : List ℕ} {session new : Live} {table now table' : Held}
+    {said first replies' : List ℕ}
     → HasTaken config whose peer octets rest session table now → HasRepliedMore config whose octets new said first replies'
     → TakesMessage peer session new now table' rest None
     → IsUp config whose peer octets new table' × Spares peer table table'
-taken_all config whose peer octets rest session new table now table' said first replies' r t feeds =
+taken_all {config} {whose} {peer} {octets} {rest} {session} {new} {table} {now} {table'} {said} r t feeds =
     by (feeds config whose octets r.updates r.follows r.within r.spares.listed r.left)
   where
     stands : (updates : List Update) → IsFed config whose octets new new.closed updates → IsLeft peer updates table' → IsUp config whose peer octets new table'

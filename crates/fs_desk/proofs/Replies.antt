@@ -1,59 +1,52 @@
 -- What is appended to the replies, through a piece of the peer's octets.
-use Rattle.fs_desk.proofs.Words.{◌≡◌, ◌==◌, ℕ, List, [], ◌∷◌, ◌++◌, length, drop, Bool, false, Option, Some, None, IfSome, Result, Err, refl, sym, ap}
+use Rattle.fs_desk.proofs.Words.{◌≡◌, ◌==◌, ℕ, List, [], ◌∷◌, ◌++◌, length, drop, false, Option, Some, None, IfSome, Result, Err, refl, sym, ap}
 use Rattle.fs_desk.proofs.Words.{◌∙◌, append_assoc, append-nil, subst, is_some, true, arith, nat_tests, nil_from_length, Config, Peer, Update, Held}
-use Rattle.fs_desk.proofs.Words.{Closed, Memory, CloseIs, reply_at, Live, Does, reply_of, step_with, true_of_not, some_there, IsListed, is_over}
-use Rattle.fs_desk.proofs.Words.{routes_left, too_many, bounded_replies_from, Follows, AreWithin, TakesUpdate, IsLeft, IsFed, IsReplying, HasReplied}
-use Rattle.fs_desk.proofs.Words.{IsUp, RepliesTo, Extends, IsReplyingMore, HasRepliedMore, RepliesMessage, close_is}
-use Rattle.fs_desk.proofs.{Follows.{follows_fed}, Pieces.{held_left}}
+use Rattle.fs_desk.proofs.Words.{Closed, Memory, CloseIs, reply_at, Live, reply_of, step_with, true_of_not, some_there, is_over}
+use Rattle.fs_desk.proofs.Words.{routes_left, too_many, bounded_replies_from, Follows, TakesUpdate, IsFed, IsReplying, HasReplied}
+use Rattle.fs_desk.proofs.Words.{HasTaken, IsUp, RepliesTo, Extends, IsReplyingMore, HasRepliedMore, RepliesMessage, close_is}
+use Rattle.fs_desk.proofs.{Follows.{follows_fed}, Pieces.{Brings, held_left}}
 use Rattle.fs_desk.proofs.Replying.{replying_piece, replying_fed, fed_established, replying_closed, replying_ceased, replied_all}
 
 -- one message of a piece was taken
-pub replies_taken : (peer : ℕ) (old new : Live) (table : Held) (replies replies' piece : List ℕ) (count : ℕ) (update : Option Update)
-    → (old.closed ≡ None → Does (step_with old piece) old new piece count update × (replies' ≡ replies ++ reply_of old (step_with old piece)))
-    → RepliesMessage peer old new table replies replies' piece (Some count)
-replies_taken peer old new table replies replies' piece count update did = λ config whose octets updates said f w l k s. record {
+pub replies_taken : {peer : ℕ} {old new : Live} {table : Held} {replies replies' piece : List ℕ} {count : ℕ} {update : Option Update}
+    → Brings old new piece count update replies replies' → RepliesMessage peer old new table replies replies' piece (Some count)
+replies_taken {peer} {old} {new} {table} {replies} {replies'} {piece} {count} {update} b = λ config whose octets updates said f w l k s. record {
   more = reply_of old (step_with old piece);
-  grows = (did f.alive).1;
-  replied = replying_fed config whose octets piece old said new count update f s (step_with old piece) refl (did f.alive).0;
+  grows = (b.does f.alive).1;
+  replied = replying_fed config whose octets piece old said new count update f s (step_with old piece) refl (b.does f.alive).0;
 }
 
 -- and its update was applied
-pub replies_update : (peer : ℕ) (old mid new : Live) (table table' : Held) (replies replies' replies'' piece : List ℕ) (count : ℕ) (update : Update)
-    (open_ : Bool) → open_ ≡ true
-    → (old.closed ≡ None → Does (step_with old piece) old mid piece count (Some update) × (replies' ≡ replies ++ reply_of old (step_with old piece)))
-    → TakesUpdate peer update mid new table table' replies' replies'' open_
+pub replies_update : {peer : ℕ} {old mid new : Live} {table table' : Held} {replies replies' replies'' piece : List ℕ} {count : ℕ} {update : Update}
+    → Brings old mid piece count (Some update) replies replies' → TakesUpdate peer update mid new table table' replies' replies'' true
     → RepliesMessage peer old new table replies replies'' piece (Some count)
-replies_update peer old mid new table table' replies replies' replies'' piece count update open_ goes did t =
-    subst (λ (v : Live). RepliesMessage peer old v table replies replies'' piece (Some count)) (sym (t.stays goes).0)
-    (subst (λ (z : List ℕ). RepliesMessage peer old mid table replies z piece (Some count)) (sym (t.stays goes).2)
-    (replies_taken peer old mid table replies replies' piece count (Some update) did))
+replies_update {peer} {old} {mid} {new} {table} {table'} {replies} {replies'} {replies''} {piece} {count} b t =
+    subst (λ (v : Live). RepliesMessage peer old v table replies replies'' piece (Some count)) (sym (t.stays refl).0)
+    (subst (λ (z : List ℕ). RepliesMessage peer old mid table replies z piece (Some count)) (sym (t.stays refl).2) (replies_taken b))
 
 -- or passes the limit
-pub replies_ceased : (peer : ℕ) (old mid new : Live) (table table' : Held) (replies replies' replies'' piece : List ℕ) (count : ℕ) (update : Update)
-    (open_ : Bool) → open_ ≡ false
-    → (old.closed ≡ None → Does (step_with old piece) old mid piece count (Some update) × (replies' ≡ replies ++ reply_of old (step_with old piece)))
-    → mid.closed ≡ None → mid.config ≡ old.config → mid.peer ≡ old.peer
-    → TakesUpdate peer update mid new table table' replies' replies'' open_
+pub replies_ceased : {peer : ℕ} {old mid new : Live} {table table' : Held} {replies replies' replies'' piece : List ℕ} {count : ℕ} {update : Update}
+    → Brings old mid piece count (Some update) replies replies' → TakesUpdate peer update mid new table table' replies' replies'' false
     → RepliesMessage peer old new table replies replies'' piece None
-replies_ceased peer old mid new table table' replies replies' replies'' piece count update open_ ends did alive c p t =
+replies_ceased {peer} {old} {mid} {new} {table} {table'} {replies} {replies'} {replies''} {piece} {count} {update} b t =
     λ config whose octets updates said f w l k s.
     let follows : Follows config whose octets (drop count piece) mid (updates ++ update ∷ []) =
-    follows_fed config whose octets piece old mid updates count (Some update) f alive c p (did f.alive).0 in
+    follows_fed config whose octets piece old mid updates count (Some update) f b.alive b.config_is b.peer_is (b.does f.alive).0 in
     let over : is_over whose.max_routes (routes_left (updates ++ update ∷ [])) ≡ true =
     true_of_not (is_over whose.max_routes (routes_left (updates ++ update ∷ [])))
-    (sym (held_left peer updates update mid new table table' replies' replies'' open_ t whose w l k (p ∙ f.peer_is)) ∙ ends) in
+    (sym (held_left peer updates update mid new table table' replies' replies'' false t whose w l k (b.peer_is ∙ f.peer_is))) in
     let spoke : IsReplying config whose octets (drop count piece) mid (said ++ reply_of old (step_with old piece)) =
-    replying_fed config whose octets piece old said mid count (Some update) f s (step_with old piece) refl (did f.alive).0 in
+    replying_fed config whose octets piece old said mid count (Some update) f s (step_with old piece) refl (b.does f.alive).0 in
     record {
       more = reply_of old (step_with old piece) ++ reply_at too_many;
-      grows = (t.ceases ends).2 ∙ ap (λ (z : List ℕ). z ++ reply_at too_many) (did f.alive).1
+      grows = (t.ceases refl).2 ∙ ap (λ (z : List ℕ). z ++ reply_at too_many) (b.does f.alive).1
           ∙ append_assoc replies (reply_of old (step_with old piece)) (reply_at too_many);
       replied =
           subst (λ (o : Option Closed). HasReplied config whose octets new o (said ++ (reply_of old (step_with old piece) ++ reply_at too_many)))
-          (sym (t.ceases ends).0)
+          (sym (t.ceases refl).0)
           (λ more.
           replying_ceased config whose octets (drop count piece) mid updates update (said ++ reply_of old (step_with old piece)) follows w over spoke.said_is
-          (fed_established config whose octets piece old said mid count update f (step_with old piece) refl (did f.alive).0) more
+          (fed_established config whose octets piece old said mid count update f (step_with old piece) refl (b.does f.alive).0) more
           ∙ append_assoc said (reply_of old (step_with old piece)) (reply_at too_many));
     }
 
@@ -95,13 +88,12 @@ replying_none config whose peer octets piece session table replies s open_ = rec
 }
 
 -- one message more
-pub replying_more : (config : Config) (whose : Peer) (peer : ℕ) (octets rest : List ℕ) (session new : Live) (table : Held) (updates : List Update)
-    (said first replies replies' : List ℕ) (count : ℕ)
-    → Follows config whose octets rest session updates → AreWithin whose updates → IsListed table → IsLeft peer updates table
-    → IsReplyingMore config whose octets rest session said first replies → RepliesMessage peer session new table replies replies' rest (Some count)
-    → IsReplyingMore config whose octets (drop count rest) new said first replies'
-replying_more config whose peer octets rest session new table updates said first replies replies' count f w l k s speaks =
-    let t = speaks config whose octets updates (said ++ s.more) f w l k s.replied in
+pub replying_more : {config : Config} {whose : Peer} {peer : ℕ} {octets rest : List ℕ} {session new : Live} {table now : Held}
+    {said first replies replies' : List ℕ} (count : ℕ)
+    → HasTaken config whose peer octets rest session table now → IsReplyingMore config whose octets rest session said first replies
+    → RepliesMessage peer session new now replies replies' rest (Some count) → IsReplyingMore config whose octets (drop count rest) new said first replies'
+replying_more {config} {whose} {peer} {octets} {rest} {session} {new} {table} {now} {said} {first} {replies} {replies'} count r s speaks =
+    let t = speaks config whose octets r.updates (said ++ s.more) r.follows r.within r.spares.listed r.left s.replied in
     record {
       more = s.more ++ t.more;
       grows = t.grows ∙ ap (λ (z : List ℕ). z ++ t.more) s.grows ∙ append_assoc first s.more t.more;
@@ -109,13 +101,12 @@ replying_more config whose peer octets rest session new table updates said first
     }
 
 -- and all
-pub replying_all : (config : Config) (whose : Peer) (peer : ℕ) (octets rest : List ℕ) (session new : Live) (table : Held) (updates : List Update)
-    (said first replies replies' : List ℕ)
-    → Follows config whose octets rest session updates → AreWithin whose updates → IsListed table → IsLeft peer updates table
-    → IsReplyingMore config whose octets rest session said first replies → RepliesMessage peer session new table replies replies' rest None
-    → HasRepliedMore config whose octets new said first replies'
-replying_all config whose peer octets rest session new table updates said first replies replies' f w l k s speaks =
-    let t = speaks config whose octets updates (said ++ s.more) f w l k s.replied in
+pub replying_all : {config : Config} {whose : Peer} {peer : ℕ} {octets rest : List ℕ} {session new : Live} {table now : Held}
+    {said first replies replies' : List ℕ}
+    → HasTaken config whose peer octets rest session table now → IsReplyingMore config whose octets rest session said first replies
+    → RepliesMessage peer session new now replies replies' rest None → HasRepliedMore config whose octets new said first replies'
+replying_all {config} {whose} {peer} {octets} {rest} {session} {new} {table} {now} {said} {first} r s speaks =
+    let t = speaks config whose octets r.updates (said ++ s.more) r.follows r.within r.spares.listed r.left s.replied in
     record {
       more = s.more ++ t.more;
       grows = t.grows ∙ ap (λ (z : List ℕ). z ++ t.more) s.grows ∙ append_assoc first s.more t.more;

@@ -49,15 +49,15 @@ pub use Rattle.fs_rules.specs.Table.{Held, has_route, held_count, is_key, put_ro
 pub use Rattle.fs_rules.specs.Table.{without_route}
 pub use Rattle.fs_desk.specs.Apply.{Announces, Changes, given_at, given_or, nothing, rules_given, rules_taken, same, taken_of, told, told_of}
 pub use Rattle.fs_desk.specs.Desk.{Desked, ExpiresPlayed, ExpiresSo, HandsPeer, HasExpired, HasHoldTime, IsHanded, KeepsOthers, LosesNothing, PeerIs}
-pub use Rattle.fs_desk.specs.Desk.{Played, PlayedBut, Replied, RepliedBy, StandsAs, TicksPeer, expired_after, expired_with, session_at}
-pub use Rattle.fs_desk.specs.Desk.{standing_at_desk, standing_but, standing_of}
+pub use Rattle.fs_desk.specs.Desk.{Played, PlayedBut, Plays, Replied, RepliedBy, RepliesBehind, StandsAs, StaysPlayed, TicksPeer, expired_after}
+pub use Rattle.fs_desk.specs.Desk.{expired_with, session_at, standing_at_desk, standing_but, standing_of}
 pub use Rattle.fs_desk.specs.Idle.{AreIdle, IdlesMessage, IdlesPiece, IdlesUpdate, IsIdle, KeepsAll, completed}
 pub use Rattle.fs_desk.specs.Leaves.{FlowKey, IsListed, Leaves, LeavesBut, counted, flow_at, flow_key, flow_key_cmp, given_of, nobody, unicast_at}
 pub use Rattle.fs_desk.specs.Leaves.{updates_but, updates_of}
 pub use Rattle.fs_desk.specs.Life.{begins_life, bounds_life, life, sent_by, sent_in}
 pub use Rattle.fs_desk.specs.Limit.{bounded, bounded_from, bounded_replies_from, bounded_session, first_over, fronts, is_over, replies_to_limit}
 pub use Rattle.fs_desk.specs.Limit.{routes_left, too_many}
-pub use Rattle.fs_desk.specs.Receive.{AreWithin, Comes, Extends, Follows, HasReplied, HasRepliedMore, HasTaken, IsFed, IsLeft, IsOver, IsReplying}
+pub use Rattle.fs_desk.specs.Receive.{AreWithin, Comes, ComesOpen, Extends, Follows, HasReplied, HasRepliedMore, HasTaken, IsFed, IsLeft, IsOver, IsReplying}
 pub use Rattle.fs_desk.specs.Receive.{IsReplyingMore, IsUp, MessageComes, MessageTaken, PieceComes, RepliesMessage, RepliesTo, Spares, TakesMessage}
 pub use Rattle.fs_desk.specs.Receive.{TakesPiece, TakesUpdate, comes_to, point_of, said_in, wants_memory, with_updates}
 pub use Rattle.fs_desk.specs.Updates.{Given, flow_left, given_with, gives_at, is_prefix, is_rule, last_such, path_left, rule_given, same_prefix}

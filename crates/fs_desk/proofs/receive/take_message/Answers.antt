@@ -1,31 +1,35 @@
-use Rattle.fs_desk.proofs.Words.{Option, AreIdle, Live, drop, refl, subst, sym, ◌∙◌, Update, reply_at, Does, step_with, too_many}
+use Rattle.fs_desk.proofs.Words.{None, Some, AreIdle, Live, drop, refl, subst, sym, ◌∙◌, reply_at, too_many}
 use Rattle.fs_desk.proofs.{Idle.{idle_none, idle_update, held_nothing}, Coming.{comes_applied, comes_fed, comes_nothing, comes_shut}}
-use Rattle.fs_desk.proofs.Pieces.{fed_none, fed_update, fed_ceased, fed_closed, found_does, not_memory}
+use Rattle.fs_desk.proofs.Pieces.{Brings, brought, fed_none, fed_update, fed_ceased, fed_closed, not_memory}
 use Rattle.fs_desk.proofs.Replies.{replies_taken, replies_update, replies_ceased, replies_closed, replies_nothing, extends_fed, extends_then}
 use Rattle.fs_desk.proofs.TableChanges.{lost_to}
+use Rattle.fs_desk.proofs.receive.take_message.{Given.{Over}, Goals.{Else-not-is_open, In-Ok-default-None, Then-not-is_open}}
 use Rattle.fs_desk.proofs.receive.take_message.Goals as goal
 
+-- the message that was taken
+brings-none : (g : Over) (c : In-Ok-default-None g) → Brings c.args.session.now c.feed.new.self c.args.piece.now c.in-Ok-default-None.count
+    None c.args.replies.now.items c.feed.new.replies.items
+brings-none g c =
+    let fed = c.in-Ok-default-None in brought fed.field-0-1-is fed.ensures.closed fed.ensures.same fed.ensures.exact
+
+brings-else : (g : Over) (c : Else-not-is_open g) → Brings c.args.session.now c.feed.new.self c.args.piece.now c.in-Ok-default-Some.count
+    (Some c.in-Ok-default-Some.update) c.args.replies.now.items c.feed.new.replies.items
+brings-else g c =
+    let fed = c.in-Ok-default-Some in brought fed.field-0-1-is fed.ensures.closed fed.ensures.same fed.ensures.exact
+
+brings-then : (g : Over) (c : Then-not-is_open g) → Brings c.args.session.now c.feed.new.self c.args.piece.now c.in-Ok-default-Some.count
+    (Some c.in-Ok-default-Some.update) c.args.replies.now.items c.feed.new.replies.items
+brings-then g c =
+    let fed = c.in-Ok-default-Some in brought fed.field-0-1-is fed.ensures.closed fed.ensures.same fed.ensures.exact
+
 pub returns-in-Ok-default-None-clause-taken : goal.returns-in-Ok-default-None-clause-taken
-returns-in-Ok-default-None-clause-taken g c =
-    let fed = c.in-Ok-default-None in
-    fed_none c.args.peer c.args.session.now c.feed.new.self c.args.watched.now.table c.args.piece.now fed.count
-    (λ h. subst (λ (u : Option Update). Does (step_with c.args.session.now c.args.piece.now) c.args.session.now c.feed.new.self c.args.piece.now
-    fed.count u) fed.field-0-1-is (fed.ensures.exact h).0)
-    fed.ensures.closed fed.ensures.same.0 fed.ensures.same.1
+returns-in-Ok-default-None-clause-taken g c = fed_none (brings-none g c)
 
 pub returns-else-not-is_open-clause-taken : goal.returns-else-not-is_open-clause-taken
-returns-else-not-is_open-clause-taken g c =
-    let fed = c.in-Ok-default-Some in
-    fed_update c.args.peer c.args.session.now c.feed.new.self c.take_update.new.session c.args.watched.now.table c.take_update.new.watched.table
-    c.feed.new.replies.items c.take_update.new.replies.items c.args.piece.now fed.count fed.update _ c.if-not-is_open.false
-    fed.field-0-1 fed.field-0-1-is fed.ensures.exact fed.ensures.closed fed.ensures.same.0 fed.ensures.same.1 c.in_ok-is_open-in-Ok-default-Some.ensures.taken
+returns-else-not-is_open-clause-taken g c = fed_update (brings-else g c) (rw c.if-not-is_open.false at c.in_ok-is_open-in-Ok-default-Some.ensures.taken)
 
 pub returns-then-not-is_open-clause-taken : goal.returns-then-not-is_open-clause-taken
-returns-then-not-is_open-clause-taken g c =
-    let fed = c.in-Ok-default-Some in
-    fed_ceased c.args.peer c.args.session.now c.feed.new.self c.take_update.new.session c.args.watched.now.table c.take_update.new.watched.table
-    c.feed.new.replies.items c.take_update.new.replies.items c.args.piece.now fed.count fed.update _ c.if-not-is_open.true
-    fed.field-0-1 fed.field-0-1-is fed.ensures.exact fed.ensures.closed fed.ensures.same.0 fed.ensures.same.1 c.in_ok-is_open-in-Ok-default-Some.ensures.taken
+returns-then-not-is_open-clause-taken g c = fed_ceased (brings-then g c) (rw c.if-not-is_open.true at c.in_ok-is_open-in-Ok-default-Some.ensures.taken)
 
 pub returns-in_ok-drop_routes-in-Err-clause-taken : goal.returns-in_ok-drop_routes-in-Err-clause-taken
 returns-in_ok-drop_routes-in-Err-clause-taken g c =
@@ -39,26 +43,13 @@ returns-then-is_empty-clause-replied g c =
     ∙ c.if-is_empty.true)
 
 pub returns-in-Ok-default-None-clause-replied : goal.returns-in-Ok-default-None-clause-replied
-returns-in-Ok-default-None-clause-replied g c =
-    let fed = c.in-Ok-default-None in
-    replies_taken c.args.peer c.args.session.now c.feed.new.self c.args.watched.now.table c.args.replies.now.items c.feed.new.replies.items
-    c.args.piece.now fed.count fed.field-0-1 fed.ensures.exact
+returns-in-Ok-default-None-clause-replied g c = replies_taken (brings-none g c)
 
 pub returns-else-not-is_open-clause-replied : goal.returns-else-not-is_open-clause-replied
-returns-else-not-is_open-clause-replied g c =
-    let fed = c.in-Ok-default-Some in
-    replies_update c.args.peer c.args.session.now c.feed.new.self c.take_update.new.session c.args.watched.now.table c.take_update.new.watched.table
-    c.args.replies.now.items c.feed.new.replies.items c.take_update.new.replies.items c.args.piece.now fed.count fed.update _ c.if-not-is_open.false
-    (found_does c.args.session.now c.feed.new.self c.args.piece.now fed.count fed.field-0-1 fed.update fed.field-0-1-is fed.ensures.exact)
-    c.in_ok-is_open-in-Ok-default-Some.ensures.taken
+returns-else-not-is_open-clause-replied g c = replies_update (brings-else g c) (rw c.if-not-is_open.false at c.in_ok-is_open-in-Ok-default-Some.ensures.taken)
 
 pub returns-then-not-is_open-clause-replied : goal.returns-then-not-is_open-clause-replied
-returns-then-not-is_open-clause-replied g c =
-    let fed = c.in-Ok-default-Some in
-    replies_ceased c.args.peer c.args.session.now c.feed.new.self c.take_update.new.session c.args.watched.now.table c.take_update.new.watched.table
-    c.args.replies.now.items c.feed.new.replies.items c.take_update.new.replies.items c.args.piece.now fed.count fed.update _ c.if-not-is_open.true
-    (found_does c.args.session.now c.feed.new.self c.args.piece.now fed.count fed.field-0-1 fed.update fed.field-0-1-is fed.ensures.exact)
-    fed.ensures.closed fed.ensures.same.0 fed.ensures.same.1 c.in_ok-is_open-in-Ok-default-Some.ensures.taken
+returns-then-not-is_open-clause-replied g c = replies_ceased (brings-then g c) (rw c.if-not-is_open.true at c.in_ok-is_open-in-Ok-default-Some.ensures.taken)
 
 pub returns-in_ok-drop_routes-in-Err-clause-replied : goal.returns-in_ok-drop_routes-in-Err-clause-replied
 returns-in_ok-drop_routes-in-Err-clause-replied g c =
@@ -87,23 +78,10 @@ returns-then-not-is_open-clause-grows g c =
     (reply_at too_many, (c.in_ok-is_open-in-Ok-default-Some.ensures.taken.ceases c.if-not-is_open.true).2)
 
 pub returns-in-Ok-default-None-clause-handed : goal.returns-in-Ok-default-None-clause-handed
-returns-in-Ok-default-None-clause-handed g c = λ h.
-    let fed = c.in-Ok-default-None in (
-      fed.ensures.closed,
-      comes_fed c.args.session.now c.feed.new.self c.args.piece.now fed.count fed.field-0-1 c.args.replies.now.items c.feed.new.replies.items
-          fed.ensures.same.0 fed.ensures.same.1
-          (step_with c.args.session.now c.args.piece.now) refl (fed.ensures.exact h).0 (fed.ensures.exact h).1,
-    )
+returns-in-Ok-default-None-clause-handed g c = λ h. (c.in-Ok-default-None.ensures.closed, comes_fed (brings-none g c) h)
 
 pub returns-else-not-is_open-clause-handed : goal.returns-else-not-is_open-clause-handed
-returns-else-not-is_open-clause-handed g c = λ h.
-    let fed = c.in-Ok-default-Some in
-    comes_applied c.args.peer c.args.session.now c.feed.new.self c.take_update.new.session c.args.watched.now.table c.take_update.new.watched.table
-    c.args.piece.now c.args.replies.now.items c.feed.new.replies.items
-    c.take_update.new.replies.items fed.count fed.update _ c.if-not-is_open.false c.in_ok-is_open-in-Ok-default-Some.ensures.taken fed.ensures.closed
-    (comes_fed c.args.session.now c.feed.new.self c.args.piece.now fed.count fed.field-0-1 c.args.replies.now.items c.feed.new.replies.items
-    fed.ensures.same.0 fed.ensures.same.1
-    (step_with c.args.session.now c.args.piece.now) refl (fed.ensures.exact h).0 (fed.ensures.exact h).1)
+returns-else-not-is_open-clause-handed g c = comes_applied (brings-else g c) (rw c.if-not-is_open.false at c.in_ok-is_open-in-Ok-default-Some.ensures.taken)
 
 pub returns-then-not-is_open-clause-handed : goal.returns-then-not-is_open-clause-handed
 returns-then-not-is_open-clause-handed g c = λ h alive.
@@ -120,28 +98,19 @@ pub returns-then-is_empty-clause-idle : goal.returns-then-is_empty-clause-idle
 returns-then-is_empty-clause-idle g c = λ alive idle keeps. refl
 
 pub returns-in-Ok-default-None-clause-idle : goal.returns-in-Ok-default-None-clause-idle
-returns-in-Ok-default-None-clause-idle g c = λ alive idle.
-    let fed = c.in-Ok-default-None in
-    let did = subst (λ (u : Option Update). Does (step_with c.args.session.now c.args.piece.now) c.args.session.now c.feed.new.self c.args.piece.now
-    fed.count u) fed.field-0-1-is (fed.ensures.exact alive).0 in
-    (refl, idle_none c.args.session.now c.feed.new.self c.args.piece.now fed.count fed.ensures.same.0 fed.ensures.same.1 did idle)
+returns-in-Ok-default-None-clause-idle g c = λ alive idle. (refl, idle_none (brings-none g c) alive idle)
 
 pub returns-else-not-is_open-clause-idle : goal.returns-else-not-is_open-clause-idle
 returns-else-not-is_open-clause-idle g c = λ alive idle.
-    let fed = c.in-Ok-default-Some in
-    let did = found_does c.args.session.now c.feed.new.self c.args.piece.now fed.count fed.field-0-1 fed.update fed.field-0-1-is fed.ensures.exact alive in
-    let both = idle_update c.args.session.now c.feed.new.self c.args.piece.now fed.count fed.update fed.ensures.same.0 fed.ensures.same.1 did.0 idle in (
+    let both = idle_update (brings-else g c) alive idle in (
       (rw c.if-not-is_open.false at c.in_ok-is_open-in-Ok-default-Some.ensures.idle) both.0,
-      subst (λ (s : Live). AreIdle s (drop fed.count c.args.piece.now))
+      subst (λ (s : Live). AreIdle s (drop c.in-Ok-default-Some.count c.args.piece.now))
           (sym (c.in_ok-is_open-in-Ok-default-Some.ensures.taken.stays c.if-not-is_open.false).0) both.1,
     )
 
 pub returns-then-not-is_open-clause-idle : goal.returns-then-not-is_open-clause-idle
 returns-then-not-is_open-clause-idle g c = λ alive idle keeps.
-    let fed = c.in-Ok-default-Some in
-    let did = found_does c.args.session.now c.feed.new.self c.args.piece.now fed.count fed.field-0-1 fed.update fed.field-0-1-is fed.ensures.exact alive in
-    let both = idle_update c.args.session.now c.feed.new.self c.args.piece.now fed.count fed.update fed.ensures.same.0 fed.ensures.same.1 did.0 idle in
-    (rw c.if-not-is_open.true at c.in_ok-is_open-in-Ok-default-Some.ensures.idle) both.0
+    (rw c.if-not-is_open.true at c.in_ok-is_open-in-Ok-default-Some.ensures.idle) (idle_update (brings-then g c) alive idle).0
     (held_nothing c.args.peer c.take_update.new.session c.args.watched.now too_many
     (c.in_ok-is_open-in-Ok-default-Some.ensures.taken.ceases c.if-not-is_open.true).0 keeps)
 
