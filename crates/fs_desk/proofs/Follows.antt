@@ -7,7 +7,7 @@ use Rattle.fs_desk.proofs.Words.{session_stops, session_waits}
 use Rattle.fs_desk.proofs.Bounding.{next_passes, over_stays, bounded_within, bounded_over}
 
 -- an update that a call answered, as a list
-abbrev as_list : Option Update → List Update
+abbrev pub as_list : Option Update → List Update
 as_list None = []
 as_list (Some update) = update ∷ []
 

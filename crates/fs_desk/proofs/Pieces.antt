@@ -1,12 +1,13 @@
 -- One session and the table, through a piece of the peer's octets.
 use Rattle.fs_desk.proofs.Words.{◌≡◌, inl, inr, ℕ, List, [], ◌∷◌, ◌++◌, drop, flat_map, not, Bool, Option, Some, None, refl, ap, sym, ◌∙◌, subst}
 use Rattle.fs_desk.proofs.Words.{append-nil, is_some, true, false, true≢false, AllByRecursion, Config, Peer, IsPrefix, Update, gives_prefixes}
-use Rattle.fs_desk.proofs.Words.{false_of_not, true_of_not, each_append, some_there, Held, held_count, Closed, Memory, CloseIs, Live, Does, reply_of, step_with}
+use Rattle.fs_desk.proofs.Words.{each_append, some_there, Held, held_count, Applies, Closed, Memory, CloseIs, Live, Does}
+use Rattle.fs_desk.proofs.Words.{reply_of, step_with}
 use Rattle.fs_desk.proofs.Words.{Changes, nothing, told, told_of, IsListed, is_over, routes_left, too_many, bounded_replies_from, wants_memory}
 use Rattle.fs_desk.proofs.Words.{Follows, AreWithin, TakesUpdate, IsFed, HasReplied, IsLeft, Spares, IsUp, HasTaken, MessageTaken, TakesMessage}
-use Rattle.fs_desk.proofs.Words.{HasRepliedMore, close_is}
+use Rattle.fs_desk.proofs.Words.{close_is}
 use Rattle.fs_desk.proofs.Bounding.{next_within}
-use Rattle.fs_desk.proofs.Follows.{follows_piece, follows_fed, follows_closed, follows_ceased, over_more}
+use Rattle.fs_desk.proofs.Follows.{as_list, follows_piece, follows_fed, follows_closed, follows_ceased, over_more}
 use Rattle.fs_desk.proofs.{Replying.{replied_exactly, replied_over}, RoutesLeft.{counted_left}, TableChanges.{lost_to}}
 use Rattle.fs_desk.proofs.Updates.{left_more, left_nothing, spares_others, spares_none, spares_then}
 use Rattle.fs_rules.proofs.Apart.{each_front, each_back}
@@ -29,12 +30,18 @@ brought {old} {new} {piece} {count} {found} {update} {replies} {replies'} is ali
   does = λ h. (subst (λ (u : Option Update). Does (step_with old piece) old new piece count u) is (did h).0, (did h).1);
 }
 
+pub follows_brought : {config : Config} {whose : Peer} {octets piece : List ℕ} {updates : List Update} {old new : Live} {count : ℕ} {update : Option Update}
+    {replies replies' : List ℕ} → Brings old new piece count update replies replies' → Follows config whose octets piece old updates
+    → Follows config whose octets (drop count piece) new (updates ++ as_list update)
+follows_brought {config} {whose} {octets} {piece} {updates} {old} {new} {count} {update} b f =
+    follows_fed config whose octets piece old new updates count update f b.alive b.config_is b.peer_is (b.does f.alive).0
+
 -- a message without an update was taken
 pub fed_none : {peer : ℕ} {old new : Live} {table : Held} {piece : List ℕ} {count : ℕ} {replies replies' : List ℕ}
     → Brings old new piece count None replies replies' → TakesMessage peer old new table table piece (Some count)
 fed_none {peer} {old} {new} {table} {piece} {count} b = λ config whose octets updates f w l k. record {
   updates = updates ++ [];
-  follows = follows_fed config whose octets piece old new updates count None f b.alive b.config_is b.peer_is (b.does f.alive).0;
+  follows = follows_brought b f;
   within = subst (AreWithin whose) (sym (append-nil updates)) w;
   left = subst (λ (u : List Update). IsLeft peer u table) (sym (append-nil updates)) k;
   spares = spares_none peer table l;
@@ -51,16 +58,22 @@ prefixes_more (u ∷ updates) update all own =
     (prefixes_more updates update (each_back IsPrefix (gives_prefixes u) (flat_map gives_prefixes updates) all) own)
 
 -- behind an update that was applied the peer holds as many routes as the updates leave
-pub held_left : (peer : ℕ) (updates : List Update) (update : Update) (old new : Live) (table table' : Held) (replies replies' : List ℕ) (open_ : Bool)
-    → TakesUpdate peer update old new table table' replies replies' open_ → (whose : Peer) → AreWithin whose updates → IsListed table
-    → IsLeft peer updates table → old.peer ≡ whose
-    → open_ ≡ not (is_over whose.max_routes (routes_left (updates ++ update ∷ [])))
-held_left peer updates update old new table table' replies replies' open_ t whose w l k p =
-    t.within
-    ∙ ap (λ (q : Peer). not (is_over q.max_routes (held_count peer t.applied))) p
-    ∙ ap (λ (n : ℕ). not (is_over whose.max_routes n))
-    (counted_left peer (updates ++ update ∷ []) t.applied (t.changes.listed l) (left_more peer updates update table t.applied k t.changes l)
-    (prefixes_more updates update w.prefixes t.prefixes))
+pub held_left : (peer : ℕ) (updates : List Update) (update : Update) (table applied : Held) (whose : Peer) → Applies peer update table applied
+    → AllByRecursion IsPrefix (gives_prefixes update) → AreWithin whose updates → IsListed table → IsLeft peer updates table
+    → held_count peer applied ≡ routes_left (updates ++ update ∷ [])
+held_left peer updates update table applied whose changes prefixes w l k =
+    counted_left peer (updates ++ update ∷ []) applied (changes.listed l) (left_more peer updates update table applied k changes l)
+    (prefixes_more updates update w.prefixes prefixes)
+
+-- and its session is closed where these are more than the limit of the peer
+pub closes_over : {open_ : Bool} {own whose : Peer} {held left : ℕ} → open_ ≡ not (is_over own.max_routes held) → own ≡ whose → held ≡ left
+    → is_over whose.max_routes left ≡ not open_
+closes_over {open_} {own} {whose} {held} {left} within same counted = flipped (is_over whose.max_routes left)
+    (within ∙ ap (λ (q : Peer). not (is_over q.max_routes held)) same ∙ ap (λ (n : ℕ). not (is_over whose.max_routes n)) counted)
+  where
+    flipped : (x : Bool) → open_ ≡ not x → x ≡ not open_
+    flipped true e = sym (ap not e)
+    flipped false e = sym (ap not e)
 
 -- a message with an update was taken, and the table has it
 pub fed_update : {peer : ℕ} {old mid new : Live} {table table' : Held} {replies replies' replies'' piece : List ℕ} {count : ℕ} {update : Update}
@@ -68,11 +81,9 @@ pub fed_update : {peer : ℕ} {old mid new : Live} {table table' : Held} {replie
     → TakesMessage peer old new table table' piece (Some count)
 fed_update {peer} {old} {mid} {new} {table} {table'} {replies} {replies'} {replies''} {piece} {count} {update} b t =
     λ config whose octets updates f w l k.
-    let follows : Follows config whose octets (drop count piece) mid (updates ++ update ∷ []) =
-    follows_fed config whose octets piece old mid updates count (Some update) f b.alive b.config_is b.peer_is (b.does f.alive).0 in
+    let follows : Follows config whose octets (drop count piece) mid (updates ++ update ∷ []) = follows_brought b f in
     let small : is_over whose.max_routes (routes_left (updates ++ update ∷ [])) ≡ false =
-    false_of_not (is_over whose.max_routes (routes_left (updates ++ update ∷ [])))
-    (sym (held_left peer updates update mid new table table' replies' replies'' true t whose w l k (b.peer_is ∙ f.peer_is))) in
+    closes_over t.within follows.peer_is (held_left peer updates update table t.applied whose t.changes t.prefixes w l k) in
     record {
       updates = updates ++ update ∷ [];
       follows = subst (λ (s : Live). Follows config whose octets (drop count piece) s (updates ++ update ∷ [])) (sym (t.stays refl).0) follows;
@@ -87,11 +98,9 @@ pub fed_ceased : {peer : ℕ} {old mid new : Live} {table table' : Held} {replie
     → TakesMessage peer old new table table' piece None
 fed_ceased {peer} {old} {mid} {new} {table} {table'} {replies} {replies'} {replies''} {piece} {count} {update} b t =
     λ config whose octets updates f w l k.
-    let follows : Follows config whose octets (drop count piece) mid (updates ++ update ∷ []) =
-    follows_fed config whose octets piece old mid updates count (Some update) f b.alive b.config_is b.peer_is (b.does f.alive).0 in
+    let follows : Follows config whose octets (drop count piece) mid (updates ++ update ∷ []) = follows_brought b f in
     let over : is_over whose.max_routes (routes_left (updates ++ update ∷ [])) ≡ true =
-    true_of_not (is_over whose.max_routes (routes_left (updates ++ update ∷ [])))
-    (sym (held_left peer updates update mid new table table' replies' replies'' false t whose w l k (b.peer_is ∙ f.peer_is))) in
+    closes_over t.within follows.peer_is (held_left peer updates update table t.applied whose t.changes t.prefixes w l k) in
     let gone : Changes peer nothing nothing t.applied table' = lost_to peer t.applied table' (t.ceases refl).1 in
     inr (record {
       why = too_many;
@@ -141,19 +150,17 @@ taken_more_of {config} {whose} {peer} {octets} {rest} {session} {new} {table} {n
       spares = spares_then peer table now table' r.spares g.spares;
     }
 
-pub taken_all : {config : Config} {whose : Peer} {peer : ℕ} {octets rest : List ℕ} {session new : Live} {table now table' : Held}
-    {said first replies' : List ℕ}
-    → HasTaken config whose peer octets rest session table now → HasRepliedMore config whose octets new said first replies'
-    → TakesMessage peer session new now table' rest None
-    → IsUp config whose peer octets new table' × Spares peer table table'
-taken_all {config} {whose} {peer} {octets} {rest} {session} {new} {table} {now} {table'} {said} r t feeds =
+pub taken_all : {config : Config} {whose : Peer} {peer : ℕ} {octets rest : List ℕ} {session new : Live} {table now table' : Held} (said : List ℕ)
+    → HasTaken config whose peer octets rest session table now → HasReplied config whose octets new new.closed said
+    → TakesMessage peer session new now table' rest None → IsUp config whose peer octets new table' × Spares peer table table'
+taken_all {config} {whose} {peer} {octets} {rest} {session} {new} {table} {now} {table'} said r t feeds =
     by (feeds config whose octets r.updates r.follows r.within r.spares.listed r.left)
   where
     stands : (updates : List Update) → IsFed config whose octets new new.closed updates → IsLeft peer updates table' → IsUp config whose peer octets new table'
     stands updates fed k = record {
       updates = updates;
       fed = fed;
-      replied = replied_exactly config whose octets new new.closed updates (said ++ t.more) fed t.replied;
+      replied = replied_exactly config whose octets new new.closed updates said fed t;
       left = k;
     }
 

@@ -92,18 +92,22 @@ peer_spared config peer l l' s s' n m old new e f spares apart p =
         record { updates = k.updates; fed = k.fed; replied = k.replied; left = left_spared n m k.updates old new spares apart k.left }
 
 -- likewise where its session has expired
-pub stands_spared : (config : Config) (peer : Option Peer) (b b' : Bool) (l l' : Option (List ℕ)) (s s' : Option Live) (n m : ℕ) (old new : Held)
-    → b' ≡ b → l' ≡ l → s' ≡ s → Spares n old new → (m == n) ≡ false → StandsAs b config peer l s m old → StandsAs b' config peer l' s' m new
-stands_spared config peer b b' l l' s s' n m old new a e f spares apart p =
-    subst (λ (x : Bool). StandsAs x config peer l' s' m new) (sym a) (by b p)
+pub stands_spared : (expired expired' : ℕ → Bool) (config : Config) (items items' : List Item) (n m : ℕ) (old new : Desked)
+    → expired' m ≡ expired m → life m items' ≡ life m items → session_at m new.sessions ≡ session_at m old.sessions → Spares n old.held new.held
+    → (m == n) ≡ false → PlayedBut expired config items old
+    → StandsAs (expired' m) config (peer_of m config.peers) (life m items') (session_at m new.sessions) m new.held
+stands_spared expired expired' config items items' n m old new a e f spares apart p =
+    subst (λ (x : Bool). StandsAs x config (peer_of m config.peers) (life m items') (session_at m new.sessions) m new.held) (sym a) (by (expired m) (p.each m))
   where
-    expired : (o : Option Live) → HasExpired o m old → HasExpired o m new
-    expired None k = absurd k
-    expired (Some session) k = (k.0, left_spared n m [] old new spares apart k.1)
+    gone : (o : Option Live) → HasExpired o m old.held → HasExpired o m new.held
+    gone None k = absurd k
+    gone (Some session) k = (k.0, left_spared n m [] old.held new.held spares apart k.1)
 
-    by : (x : Bool) → StandsAs x config peer l s m old → StandsAs x config peer l' s' m new
-    by true k = subst (λ (o : Option Live). HasExpired o m new) (sym f) (expired s k)
-    by false k = peer_spared config peer l l' s s' n m old new e f spares apart k
+    by : (x : Bool) → StandsAs x config (peer_of m config.peers) (life m items) (session_at m old.sessions) m old.held
+        → StandsAs x config (peer_of m config.peers) (life m items') (session_at m new.sessions) m new.held
+    by true k = subst (λ (o : Option Live). HasExpired o m new.held) (sym f) (gone (session_at m old.sessions) k)
+    by false k = peer_spared config (peer_of m config.peers) (life m items) (life m items') (session_at m old.sessions) (session_at m new.sessions)
+        n m old.held new.held e f spares apart k
 
 -- an item of another peer leaves a session expired or not, and one that bounds the peer's life doesn't
 stays_expired : (b bounds : Bool) → bounds ≡ false → (b && not bounds) ≡ b
@@ -155,12 +159,11 @@ plays_lost {n} {old} {new} l expired config items p = record {
       (subst (λ (x : Option Live). PeerIs config (peer_of n config.peers) None x n new.held)
       (sym (ap (session_at n) l.sessions_are ∙ session_gone n n old.sessions p.sessions ∙ if_true (n == n) _ _ (eq_itself n)))
       (left_nothing n old.held new.held gone p.listed))))
-      (λ m e. stands_spared config (peer_of m config.peers) (expired m) (expired_after (was_lost n) expired m) (life m items)
-      (life m (items ++ was_lost n ∷ [])) (session_at m old.sessions) (session_at m new.sessions) n m old.held new.held
+      (λ m e. stands_spared expired (expired_after (was_lost n) expired) config items (items ++ was_lost n ∷ []) n m old new
       (stays_expired (expired m) (n == m) (same_swapped m n false e))
       (life_other m items (was_lost n) (same_swapped m n false e) refl refl)
       (ap (session_at m) l.sessions_are ∙ session_gone m n old.sessions p.sessions ∙ if_false (m == n) _ _ e)
-      (spares_others n nothing nothing old.held new.held gone p.listed) e (p.each m));
+      (spares_others n nothing nothing old.held new.held gone p.listed) e p);
 }
   where
     gone : Changes n nothing nothing old.held new.held
@@ -266,11 +269,10 @@ plays_octets {n} {piece} {before} {now} {session} {session'} {old} {new} f expir
           (session_at m new.sessions) m new.held) n
           (subst (λ (b : Bool). StandsAs b config (peer_of n config.peers) (life n behind) (session_at n new.sessions) n new.held)
           (sym (stays_expired (expired n) false refl)) own)
-          (λ m e. stands_spared config (peer_of m config.peers) (expired m) (expired_after (received n piece) expired m) (life m items)
-          (life m behind) (session_at m old.sessions) (session_at m new.sessions) n m old.held new.held
+          (λ m e. stands_spared expired (expired_after (received n piece) expired) config items behind n m old new
           (stays_expired (expired m) false refl)
           (life_other m items (received n piece) refl refl (if_false (n == m) piece [] (same_swapped m n false e)))
-          (goes_other f.on m e) spares e (p.each m));
+          (goes_other f.on m e) spares e p);
     }
 
     by : expired n ≡ false → (q : Option Peer) (l : Option (List ℕ)) → peer_of n config.peers ≡ q → life n items ≡ l

@@ -1,10 +1,10 @@
 -- What is appended to the replies, through a piece of the peer's octets.
 use Rattle.fs_desk.proofs.Words.{◌≡◌, ◌==◌, ℕ, List, [], ◌∷◌, ◌++◌, length, drop, false, Option, Some, None, IfSome, Result, Err, refl, sym, ap}
 use Rattle.fs_desk.proofs.Words.{◌∙◌, append_assoc, append-nil, subst, is_some, true, arith, nat_tests, nil_from_length, Config, Peer, Update, Held}
-use Rattle.fs_desk.proofs.Words.{Closed, Memory, CloseIs, reply_at, Live, reply_of, step_with, true_of_not, some_there, is_over}
+use Rattle.fs_desk.proofs.Words.{Closed, Memory, CloseIs, reply_at, Live, reply_of, step_with, some_there, is_over}
 use Rattle.fs_desk.proofs.Words.{routes_left, too_many, bounded_replies_from, Follows, TakesUpdate, IsFed, IsReplying, HasReplied}
-use Rattle.fs_desk.proofs.Words.{HasTaken, IsUp, RepliesTo, Extends, IsReplyingMore, HasRepliedMore, RepliesMessage, close_is}
-use Rattle.fs_desk.proofs.{Follows.{follows_fed}, Pieces.{Brings, held_left}}
+use Rattle.fs_desk.proofs.Words.{IsUp, RepliesTo, Extends, IsReplyingMore, HasRepliedMore, RepliesMessage, close_is}
+use Rattle.fs_desk.proofs.Pieces.{Brings, closes_over, follows_brought, held_left}
 use Rattle.fs_desk.proofs.Replying.{replying_piece, replying_fed, fed_established, replying_closed, replying_ceased, replied_all}
 
 -- one message of a piece was taken
@@ -30,11 +30,9 @@ pub replies_ceased : {peer : ℕ} {old mid new : Live} {table table' : Held} {re
     → RepliesMessage peer old new table replies replies'' piece None
 replies_ceased {peer} {old} {mid} {new} {table} {table'} {replies} {replies'} {replies''} {piece} {count} {update} b t =
     λ config whose octets updates said f w l k s.
-    let follows : Follows config whose octets (drop count piece) mid (updates ++ update ∷ []) =
-    follows_fed config whose octets piece old mid updates count (Some update) f b.alive b.config_is b.peer_is (b.does f.alive).0 in
+    let follows : Follows config whose octets (drop count piece) mid (updates ++ update ∷ []) = follows_brought b f in
     let over : is_over whose.max_routes (routes_left (updates ++ update ∷ [])) ≡ true =
-    true_of_not (is_over whose.max_routes (routes_left (updates ++ update ∷ [])))
-    (sym (held_left peer updates update mid new table table' replies' replies'' false t whose w l k (b.peer_is ∙ f.peer_is))) in
+    closes_over t.within follows.peer_is (held_left peer updates update table t.applied whose t.changes t.prefixes w l k) in
     let spoke : IsReplying config whose octets (drop count piece) mid (said ++ reply_of old (step_with old piece)) =
     replying_fed config whose octets piece old said mid count (Some update) f s (step_with old piece) refl (b.does f.alive).0 in
     record {
@@ -88,30 +86,24 @@ replying_none config whose peer octets piece session table replies s open_ = rec
 }
 
 -- one message more
-pub replying_more : {config : Config} {whose : Peer} {peer : ℕ} {octets rest : List ℕ} {session new : Live} {table now : Held}
-    {said first replies replies' : List ℕ} (count : ℕ)
-    → HasTaken config whose peer octets rest session table now → IsReplyingMore config whose octets rest session said first replies
-    → RepliesMessage peer session new now replies replies' rest (Some count) → IsReplyingMore config whose octets (drop count rest) new said first replies'
-replying_more {config} {whose} {peer} {octets} {rest} {session} {new} {table} {now} {said} {first} {replies} {replies'} count r s speaks =
-    let t = speaks config whose octets r.updates (said ++ s.more) r.follows r.within r.spares.listed r.left s.replied in
-    record {
-      more = s.more ++ t.more;
-      grows = t.grows ∙ ap (λ (z : List ℕ). z ++ t.more) s.grows ∙ append_assoc first s.more t.more;
-      replied = subst (λ (z : List ℕ). IsReplying config whose octets (drop count rest) new z) (append_assoc said s.more t.more) t.replied;
-    }
+pub replying_more : {config : Config} {whose : Peer} {octets rest rest' : List ℕ} {session new : Live} {said first replies replies' : List ℕ}
+    → (s : IsReplyingMore config whose octets rest session said first replies)
+    → IsReplyingMore config whose octets rest' new (said ++ s.more) replies replies' → IsReplyingMore config whose octets rest' new said first replies'
+replying_more {config} {whose} {octets} {rest} {rest'} {session} {new} {said} {first} s t = record {
+  more = s.more ++ t.more;
+  grows = t.grows ∙ ap (λ (z : List ℕ). z ++ t.more) s.grows ∙ append_assoc first s.more t.more;
+  replied = subst (λ (z : List ℕ). IsReplying config whose octets rest' new z) (append_assoc said s.more t.more) t.replied;
+}
 
 -- and all
-pub replying_all : {config : Config} {whose : Peer} {peer : ℕ} {octets rest : List ℕ} {session new : Live} {table now : Held}
-    {said first replies replies' : List ℕ}
-    → HasTaken config whose peer octets rest session table now → IsReplyingMore config whose octets rest session said first replies
-    → RepliesMessage peer session new now replies replies' rest None → HasRepliedMore config whose octets new said first replies'
-replying_all {config} {whose} {peer} {octets} {rest} {session} {new} {table} {now} {said} {first} r s speaks =
-    let t = speaks config whose octets r.updates (said ++ s.more) r.follows r.within r.spares.listed r.left s.replied in
-    record {
-      more = s.more ++ t.more;
-      grows = t.grows ∙ ap (λ (z : List ℕ). z ++ t.more) s.grows ∙ append_assoc first s.more t.more;
-      replied = subst (λ (z : List ℕ). HasReplied config whose octets new new.closed z) (append_assoc said s.more t.more) t.replied;
-    }
+pub replying_all : {config : Config} {whose : Peer} {octets rest : List ℕ} {session new : Live} {said first replies replies' : List ℕ}
+    → (s : IsReplyingMore config whose octets rest session said first replies)
+    → HasRepliedMore config whose octets new (said ++ s.more) replies replies' → HasRepliedMore config whose octets new said first replies'
+replying_all {config} {whose} {octets} {rest} {session} {new} {said} {first} s t = record {
+  more = s.more ++ t.more;
+  grows = t.grows ∙ ap (λ (z : List ℕ). z ++ t.more) s.grows ∙ append_assoc first s.more t.more;
+  replied = subst (λ (z : List ℕ). HasReplied config whose octets new new.closed z) (append_assoc said s.more t.more) t.replied;
+}
 
 -- so a piece is replied to
 pub replied_to : (config : Config) (whose : Peer) (octets piece : List ℕ) (new : Live) (updates : List Update) (first replies' : List ℕ)

@@ -132,13 +132,10 @@ closes_played {expired} config items {n} {session} {session'} {old} {new} on shu
   each = each_peer (λ m. StandsAs (expired_with n expired m) config (peer_of m config.peers) (life m items) (session_at m new.sessions) m new.held) n
       (subst (λ (b : Bool). StandsAs b config (peer_of n config.peers) (life n items) (session_at n new.sessions) n new.held)
       (sym (expires_own (n == n) (eq_itself n) (expired n)))
-      (subst (λ (o : Option Live). HasExpired o n new.held)
-      (sym (goes_own on))
-      (shut, left_nothing n old.held new.held gone p.listed)))
-      (λ m e. stands_spared config (peer_of m config.peers) (expired m) (expired_with n expired m) (life m items) (life m items)
-      (session_at m old.sessions) (session_at m new.sessions) n m old.held new.held
+      (subst (λ (o : Option Live). HasExpired o n new.held) (sym (goes_own on)) (shut, left_nothing n old.held new.held gone p.listed)))
+      (λ m e. stands_spared expired (expired_with n expired) config items items n m old new
       (expires_other (m == n) e (expired m)) refl (goes_other on m e)
-      (spares_others n nothing nothing old.held new.held gone p.listed) e (p.each m));
+      (spares_others n nothing nothing old.held new.held gone p.listed) e p);
 }
   where
     gone : Changes n nothing nothing old.held new.held

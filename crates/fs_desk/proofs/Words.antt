@@ -47,7 +47,7 @@ pub use Rattle.fs_rules.proofs.Entries.{lookup-insert_entry, sorted-insert_entry
 pub use Rattle.fs_rules.specs.Changes.{AdmitsElsewhere, Covers, Noted, is_to}
 pub use Rattle.fs_rules.specs.Table.{Held, has_route, held_count, is_key, put_route, without_peer, without_peer_flows, without_peer_unicast}
 pub use Rattle.fs_rules.specs.Table.{without_route}
-pub use Rattle.fs_desk.specs.Apply.{Announces, Changes, given_at, given_or, nothing, rules_given, rules_taken, same, taken_of, told, told_of}
+pub use Rattle.fs_desk.specs.Apply.{Announces, Applies, Changes, given_at, given_or, nothing, rules_given, rules_taken, same, taken_of, told, told_of}
 pub use Rattle.fs_desk.specs.Desk.{Desked, ExpiresPlayed, ExpiresSo, HandsPeer, HasExpired, HasHoldTime, IsHanded, KeepsOthers, LosesNothing, PeerIs}
 pub use Rattle.fs_desk.specs.Desk.{Played, PlayedBut, Plays, Replied, RepliedBy, RepliesBehind, StandsAs, StaysPlayed, TicksPeer, expired_after}
 pub use Rattle.fs_desk.specs.Desk.{expired_with, session_at, standing_at_desk, standing_but, standing_of}

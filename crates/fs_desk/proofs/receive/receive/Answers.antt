@@ -37,7 +37,8 @@ messages-preserved g c = (
         subst (λ (rest : List ℕ). IsReplyingMore config whose (octets ++ c.args.piece.now) rest c.take_message.new.session
             (bounded_replies_from config whose octets) c.args.replies.now.items c.take_message.new.replies.items)
             (sym (take_rest c.messages.rest.now c.in-Some.count))
-            (replying_more c.in-Some.count before.0 before.1 (rw c.in-Some.is at c.in_ok-count.ensures.replied)),
+            (replying_more before.1 ((rw c.in-Some.is at c.in_ok-count.ensures.replied) config whose (octets ++ c.args.piece.now) before.0.updates _
+            before.0.follows before.0.within before.0.spares.listed before.0.left before.1.replied)),
       ),
   ((rw c.in-Some.is at c.in_ok-count.ensures.handed) c.messages.invariant.3).0,
   subst (λ (rest : List ℕ). Comes c.args.session.now c.args.piece.now c.take_message.new.session rest c.args.replies.now.items c.take_message.new.replies.items)
@@ -54,8 +55,10 @@ messages-preserved g c = (
 pub returns-clause-taken : goal.returns-clause-taken
 returns-clause-taken g c = λ config whose octets l s.
     let before = c.messages.invariant.2 config whose octets l s in
-    let replied_ = replying_all before.0 before.1 (rw c.in_default.is at c.in_ok-count.ensures.replied) in
-    let all = taken_all before.0 replied_ (rw c.in_default.is at c.in_ok-count.ensures.taken) in (
+    let replied_ = replying_all before.1 ((rw c.in_default.is at c.in_ok-count.ensures.replied) config whose (octets ++ c.args.piece.now) before.0.updates _
+    before.0.follows before.0.within before.0.spares.listed before.0.left before.1.replied) in
+    let all = taken_all (bounded_replies_from config whose octets ++ replied_.more) before.0 replied_.replied
+    (rw c.in_default.is at c.in_ok-count.ensures.taken) in (
       all.0,
       (
         all.1,
