@@ -8,13 +8,14 @@ use Rattle.fs_input.specs.Parts.{AllFrom}
 use Rattle.fs_tape.proofs.ReadsBack.{reads_back}
 use Rattle.fs_tape.specs.{Laws.{Fits, after, item_text, tape_text}, Magic.{magic_of}, Tape.{Timed, stands}, declared.magic.Version.TheVariants.{Two}}
 use Rattle.std.specs.Result.{IsErrAnd}
+use Rattle.fs_recorder.proofs.Doing.{breaks_where}
 use Rattle.fs_recorder.specs.declared.stop.Stop.{Stop, TheVariants.{Failed, Limit as TooLong}}
 use Rattle.fs_recorder.specs.Books.{Agrees}
 use Rattle.fs_recorder.specs.Deeds.{AreKnown, Recording, StayKnown, asked_in, items_of, passing, text_at, told_at}
 use Rattle.fs_recorder.specs.Door.{AtDoor, empty_door}
 use Rattle.fs_recorder.specs.Steps.{Between, Happening, at_first, behind, door_after, empty_station, hears, recorded, stands_from, step_at}
-use Rattle.fs_recorder.specs.Steps.{turns_from}
-use Rattle.fs_recorder.specs.{Tapes.{Scribed, begun}, Works.{BreaksAt, BreaksSo, DidHear, DoesStep, Stands}, declared.seats.Seat.{Seat}}
+use Rattle.fs_recorder.specs.Steps.{Station, Step, turns_from}
+use Rattle.fs_recorder.specs.{Tapes.{Scribed, begun}, Works.{BreaksAt, DoesStep, RanHear, Stands}, declared.seats.Seat.{Seat}}
 use Rattle.cmd_wire.specs.Recording.{Breaks, BreaksOne, Continues, Fills, Hears, HearsOne, Records, RecordsAll, StandsAt, TellsAll, begun_text, begun_turns}
 
 -- the clock on the wall says another moment
@@ -44,8 +45,8 @@ module _ (old new : Recording) (moment time : ℕ) (what : What) (small : moment
     known = s.known;
   }
 
-  pub hears_of : DidHear (door_after old.books.desk.config time what old.seats old.door) (hears old.books.desk.config old.door time what)
-      (passing moment old) new t1 t2 w w'
+  pub hears_of : RanHear {T = Unit {0}} (Ok tt) (door_after old.books.desk.config time what old.seats old.door)
+      (hears old.books.desk.config old.door time what) (passing moment old) new t1 t2 w w'
       → StayKnown (passing moment old) new → HearsOne old new t t2 w w'
   hears_of did stay config between s =
       let d : DoesStep (door_after old.books.desk.config time what old.seats old.door)
@@ -80,7 +81,8 @@ module _ (old new : Recording) (moment time : ℕ) (what : What) (small : moment
         },
       )
 
-  pub breaks_of : {L : Type 0} → BreaksSo L (hears old.books.desk.config old.door time what) (passing moment old) t1 t2 w w' → BreaksOne L old t t2 w w'
+  pub breaks_of : {L : Type 0} → ((station : Station) → Stands station (passing moment old)
+      → BreaksAt L (hears old.books.desk.config old.door time what station).deeds (passing moment old).books t1 t2 w w') → BreaksOne L old t t2 w w'
   breaks_of {L} broke config between s =
       let b : BreaksAt L (hears old.books.desk.config old.door time what between.station).deeds (passing moment old).books t1 t2 w w' =
       broke between.station (passed_stands between s.stands) in
@@ -210,6 +212,18 @@ ok_to (Err e) x f = tt
 pub err_to : {T E X Y : Type 0} (result : Result T E) → OnErr result X → (X → Y) → OnErr result Y
 err_to (Ok t) x f = tt
 err_to (Err e) x f = f x
+
+-- what the run of a recorder says of a success, and of a failure
+module _ {T : Type 0} (door : AtDoor) (step : Station → Step) (old new : Recording) (t t1 : Option (List Turn)) (w w1 : Option (List ℕ)) where
+  pub ran_ok : (result : Result T Stop) → RanHear result door step old new t t1 w w1
+      → OnOk result (RanHear {T = Unit {0}} (Ok tt) door step old new t t1 w w1)
+  ran_ok (Ok value) did = did
+  ran_ok (Err stop) broke = tt
+
+  pub ran_err : (result : Result T Stop) → RanHear result door step old new t t1 w w1
+      → OnErr result ((station : Station) → Stands station old → BreaksAt (result ≡ Err TooLong) (step station).deeds old.books t t1 w w1)
+  ran_err (Ok value) did = tt
+  ran_err (Err stop) broke = λ station stands. breaks_where (λ e. (let is : stop ≡ TooLong = cc in is)) (broke station stands)
 
 -- an error of the gate doesn't name the limit
 pub never_failed : {T : Type 0} (result : Result T Stop) → IsErrAnd result (λ e. e ≡ Failed) → result ≡ Err TooLong → ⊥

@@ -2,19 +2,14 @@
 use Rattle.fs_recorder.proofs.PlaceWords.{List, None, Option, Some, [], ap, append-nil, map-append, refl, subst, sym, ℕ, ◌++◌, ◌==◌, ◌∙◌, ◌∷◌, ◌≡◌}
 use Rattle.fs_recorder.proofs.PlaceWords.{AllByRecursion, IsSome, Err, Ok, OnOk, Result, option_map, Grew, peer_of, Turn, shut, Address, Config, Peer}
 use Rattle.fs_recorder.proofs.PlaceWords.{IsNumbered, IsWritable, came_up, was_lost, begins, fresh, live, AtDoor, Desked, KeepsOthers, Played, nobody}
-use Rattle.fs_recorder.proofs.PlaceWords.{session_at, Booked, Tells, TellsPart, Does, Recording, leaves, shuts, tells, seat_for, seat_of, Place}
-use Rattle.fs_recorder.proofs.PlaceWords.{Station, Step, checks, checks_peer, doing, ends, peer_for, peers_at, place_for, place_of, places_without}
-use Rattle.fs_recorder.proofs.PlaceWords.{replaces, resting, seat_at, seats_one, taken_by, takes, vacates, BreaksAt, BreaksIn, BreaksQuietly}
-use Rattle.fs_recorder.proofs.PlaceWords.{BreaksSo, DidAt, DidQuietly, DidSeat, DidSo, DoesStep, IsOpenAt, Left, Stands, Seat}
-use Rattle.fs_recorder.proofs.Doing.{breaks_more, breaks_tell, breaks_where, does_ask, does_tell}
+use Rattle.fs_recorder.proofs.PlaceWords.{session_at, Tells, TellsPart, Does, Recording, leaves, shuts, tells, seat_for, seat_of, Place, Station}
+use Rattle.fs_recorder.proofs.PlaceWords.{Step, checks, checks_peer, doing, ends, peer_for, peers_at, place_for, place_of, places_without, replaces}
+use Rattle.fs_recorder.proofs.PlaceWords.{resting, seat_at, seats_one, taken_by, takes, vacates, BreaksAt, DoesStep, IsOpenAt, Left, Stands, Seat}
+use Rattle.fs_recorder.proofs.PlaceWords.{Ran, RanAt, RanSo, RanQuietly, RanSeat, Stop, Limit, IsErrAnd, IsErrOf, Bool, OnErr, expired_after}
+use Rattle.fs_recorder.proofs.Doing.{breaks_more, breaks_tell, breaks_where, does_ask, does_tell, handed}
 use Rattle.fs_recorder.proofs.Places.{FoundAt, found_at, found_none, open_left, others_left, place_found, place_is}
-use Rattle.fs_recorder.proofs.Placing.{apart_more, more_are, none_of_others, others_of_none, peers_more}
-use Rattle.fs_recorder.proofs.{Settling.{stands_gone}, Stepping.{breaks_both, does_both, does_rest}}
-
--- what two clauses say of a success
-pub ok_both : {T E : Type 0} {X Y Z : Type 0} (result : Result T E) → OnOk result X → OnOk result Y → (X → Y → Z) → OnOk result Z
-ok_both (Ok value) x y f = f x y
-ok_both (Err error) x y f = tt
+use Rattle.fs_recorder.proofs.{Placing.{apart_more, more_are, none_of_others, others_of_none, peers_more}, Settling.{stands_gone}}
+use Rattle.fs_recorder.proofs.{Stepping.{does_rest, ran_then}, Telling.{part_where}}
 
 -- the same station, where nothing is told
 pub stands_quiet : (station : Station) (old : Recording) → Stands station old
@@ -33,7 +28,7 @@ fresh_open config desk seat (Some peer) known e =
 pub did_seat : (seat : Seat) (old new : Recording) (before now : Option (List ℕ)) → Tells (came_up seat.peer) old.books new.books before now
     → session_at seat.peer new.books.desk.sessions ≡ begins old.books.desk.config seat.peer
     → KeepsOthers seat.peer old.books.desk new.books.desk → IsSome (peer_of seat.peer old.books.desk.config.peers)
-    → new.seats ≡ old.seats ++ seat ∷ [] → new.door ≡ old.door → DidSeat seat old new before now
+    → new.seats ≡ old.seats ++ seat ∷ [] → new.door ≡ old.door → RanSeat {T = Unit {0}} (Ok tt) seat old new before now
 did_seat seat old new before now told begun others known seats door turns station stands none = record {
   does = does_tell (came_up seat.peer) old.books new.books turns before now told nobody;
   stands = record {
@@ -52,9 +47,11 @@ did_seat seat old new before now told begun others known seats door turns statio
 }
 
 -- so where it was broken off
-pub breaks_seat : {L : Type 0} → (seat : Seat) (old : Recording) (before now : Option (List ℕ)) → TellsPart L (came_up seat.peer) old.books before now
-    → BreaksQuietly L (seats_one seat) old before now
-breaks_seat {L} seat old before now part turns station stands = breaks_tell (came_up seat.peer) old.books turns before now part
+pub broke_seat : {T : Type 0} {stop : Stop} → (result : Result T Stop) → IsErrAnd result (λ e. e ≡ stop) → (seat : Seat) (old new : Recording)
+    (before now : Option (List ℕ)) → TellsPart (stop ≡ Limit) (came_up seat.peer) old.books before now → RanSeat result seat old new before now
+broke_seat (Ok value) same seat old new before now part = absurd same
+broke_seat (Err error) same seat old new before now part =
+    λ turns station stands. breaks_tell (came_up seat.peer) old.books turns before now (part_where (λ limited. sym same ∙ limited) part)
 
 -- a place that is found by its peer is that of its own peer
 own_place : (peer : ℕ) (places : List Place) (place : Place) → place_for peer places ≡ Some place → place_for place.peer places ≡ Some place
@@ -85,17 +82,11 @@ abbrev losing : Place → Station → Step
 losing place station = doing (tells (was_lost place.peer) ∷ []) (places_without place.line station.places) station
 
 -- it was found
-pub did_found : (step : Place → Station → Step) (station : Station) (found : Option Place) (place : Place) (door : AtDoor) (old new : Recording)
-    (t t1 : Option (List Turn)) (w w1 : Option (List ℕ)) → found ≡ Some place → DoesStep door (step place station) old new t t1 w w1
-    → DoesStep door (at_place step station found) old new t t1 w w1
-did_found step station found place door old new t t1 w w1 e does =
-    subst (λ f. DoesStep door (at_place step station f) old new t t1 w w1) (sym e) does
-
-pub breaks_found : {L : Type 0} → (step : Place → Station → Step) (station : Station) (found : Option Place) (place : Place) (old : Booked)
-    (t t1 : Option (List Turn)) (w w1 : Option (List ℕ)) → found ≡ Some place → BreaksAt L (step place station).deeds old t t1 w w1
-    → BreaksAt L (at_place step station found).deeds old t t1 w w1
-breaks_found {L} step station found place old t t1 w w1 e breaks =
-    subst (λ f. BreaksAt L (at_place step station f).deeds old t t1 w w1) (sym e) breaks
+ran_found : {T : Type 0} (result : Result T Stop) (step : Place → Station → Step) (station : Station) (found : Option Place) (place : Place)
+    (door : AtDoor) (old new : Recording) (t t1 : Option (List Turn)) (w w1 : Option (List ℕ)) → found ≡ Some place
+    → Ran result door (step place station) old new t t1 w w1 → Ran result door (at_place step station found) old new t t1 w w1
+ran_found result step station found place door old new t t1 w w1 e ran =
+    subst (λ f. Ran result door (at_place step station f) old new t t1 w w1) (sym e) ran
 
 -- it wasn't
 pub did_not_find : (step : Place → Station → Step) (station : Station) (found : Option Place) (old : Recording) (t : Option (List Turn))
@@ -105,29 +96,27 @@ did_not_find step station found old t w e stands =
 
 -- the connection that speaks for a peer was closed
 
-pub did_vacate : (peer : ℕ) (seat : Seat) (old new : Recording) (t t1 : Option (List Turn)) (w w1 : Option (List ℕ))
-    → seat_for peer old.seats ≡ Some seat → Does nobody nobody (leaves seat) old.books new.books t t1 w w1 → Left seat old new
-    → DidSo (vacates peer) old new t t1 w w1
-did_vacate peer seat old new t t1 w w1 found does left station stands =
+pub ran_vacate : {T : Type 0} (result : Result T Stop) (peer : ℕ) (seat : Seat) (old new : Recording) (t t1 : Option (List Turn))
+    (w w1 : Option (List ℕ)) → seat_for peer old.seats ≡ Some seat
+    → OnOk result ((expired : ℕ → Bool) → Does expired (expired_after (was_lost seat.peer) expired) (leaves seat) old.books new.books t t1 w w1)
+    → OnOk result (Left seat old new) → OnErr result (BreaksAt (IsErrOf result Limit) (leaves seat) old.books t t1 w w1)
+    → RanSo result (vacates peer) old new t t1 w w1
+ran_vacate {T = T} (Ok value) peer seat old new t t1 w w1 found does left breaks station stands =
     let has = place_has old station stands peer seat found in
-    did_found leaving
-    station (place_for peer station.places) has.place old.door old new t t1 w w1 has.found
+    ran_found {T = T} (Ok value) leaving station (place_for peer station.places) has.place old.door old new t t1 w w1 has.found
     (record {
-      does = subst (λ s. Does nobody nobody (leaves s) old.books new.books t t1 w w1) (sym has.seated) does;
+      does = subst (λ s. Does nobody nobody (leaves s) old.books new.books t t1 w w1) (sym has.seated) (does nobody);
       stands = stands_gone has.place station old new stands (own_place peer station.places has.place has.found)
-          (subst (λ s. Left s old new) (sym has.seated) left) does.config_is;
+          (subst (λ s. Left s old new) (sym has.seated) left) (does nobody).config_is;
       door_is = left.door_is;
     })
-
-pub breaks_vacate : {L : Type 0} → (peer : ℕ) (seat : Seat) (old : Recording) (t t1 : Option (List Turn)) (w w1 : Option (List ℕ))
-    → seat_for peer old.seats ≡ Some seat → BreaksAt L (leaves seat) old.books t t1 w w1 → BreaksSo L (vacates peer) old t t1 w w1
-breaks_vacate {L} peer seat old t t1 w w1 found breaks station stands =
+ran_vacate {T = T} (Err stop) peer seat old new t t1 w w1 found does left breaks station stands =
     let has = place_has old station stands peer seat found in
-    subst (λ f. BreaksAt L (at_place leaving station f).deeds old.books t t1 w w1)
-    (sym has.found) (subst (λ s. BreaksAt L (leaves s) old.books t t1 w w1) (sym has.seated) breaks)
+    ran_found {T = T} (Err stop) leaving station (place_for peer station.places) has.place old.door old new t t1 w w1 has.found
+    (subst (λ s. BreaksAt (stop ≡ Limit) (leaves s) old.books t t1 w w1) (sym has.seated) (breaks_where (ap Err) breaks))
 
 pub did_vacate_none : (peer : ℕ) (old : Recording) (t : Option (List Turn)) (w : Option (List ℕ)) → seat_for peer old.seats ≡ None
-    → DidSo (vacates peer) old old t t w w
+    → (station : Station) → Stands station old → DoesStep old.door (vacates peer station) old old t t w w
 did_vacate_none peer old t w none station stands =
     did_not_find leaving
     station (place_for peer station.places) old t w (no_place old station stands peer none) stands
@@ -145,12 +134,12 @@ vacated peer old station stands = by (place_for peer station.places) refl
 
 -- a connection has ended
 
-pub did_end : (line : ℕ) (seat : Seat) (old new : Recording) (w w1 : Option (List ℕ)) → seat_of line old.seats ≡ Some seat
-    → Tells (was_lost seat.peer) old.books new.books w w1 → Left seat old new → DidQuietly (ends line) old new w w1
-did_end line seat old new w w1 found told left turns station stands =
+pub ran_end : {T : Type 0} (result : Result T Stop) (line : ℕ) (seat : Seat) (old new : Recording) (w w1 : Option (List ℕ))
+    → seat_of line old.seats ≡ Some seat → OnOk result (Tells (was_lost seat.peer) old.books new.books w w1) → OnOk result (Left seat old new)
+    → OnErr result (TellsPart (IsErrOf result Limit) (was_lost seat.peer) old.books w w1) → RanQuietly result (ends line) old new w w1
+ran_end {T = T} (Ok value) line seat old new w w1 found told left part turns station stands =
     let has = line_has old station stands line seat found in
-    did_found losing
-    station (place_of line station.places) has.place old.door old new turns turns w w1 has.found
+    ran_found {T = T} (Ok value) losing station (place_of line station.places) has.place old.door old new turns turns w w1 has.found
     (record {
       does = subst (λ (s : Seat). Does nobody nobody (tells (was_lost s.peer) ∷ []) old.books new.books turns turns w w1) (sym has.seated)
           (does_tell (was_lost seat.peer) old.books new.books turns w w1 told nobody);
@@ -158,44 +147,43 @@ did_end line seat old new w w1 found told left turns station stands =
           (subst (λ s. Left s old new) (sym has.seated) left) told.config_is;
       door_is = left.door_is;
     })
-
-pub breaks_end : {L : Type 0} → (line : ℕ) (seat : Seat) (old : Recording) (w w1 : Option (List ℕ)) → seat_of line old.seats ≡ Some seat
-    → TellsPart L (was_lost seat.peer) old.books w w1 → BreaksQuietly L (ends line) old w w1
-breaks_end {L} line seat old w w1 found part turns station stands =
+ran_end {T = T} (Err stop) line seat old new w w1 found told left part turns station stands =
     let has = line_has old station stands line seat found in
-    subst (λ f. BreaksAt L (at_place losing station f).deeds old.books turns turns w w1)
-    (sym has.found)
-    (subst (λ (s : Seat). BreaksAt L (tells (was_lost s.peer) ∷ []) old.books turns turns w w1) (sym has.seated)
-    (breaks_tell (was_lost seat.peer) old.books turns w w1 part))
+    ran_found {T = T} (Err stop) losing station (place_of line station.places) has.place old.door old new turns turns w w1 has.found
+    (subst (λ (s : Seat). BreaksAt (stop ≡ Limit) (tells (was_lost s.peer) ∷ []) old.books turns turns w w1) (sym has.seated)
+    (breaks_tell (was_lost seat.peer) old.books turns w w1 (part_where (ap Err) part)))
 
-pub did_end_none : (line : ℕ) (old : Recording) (w : Option (List ℕ)) → seat_of line old.seats ≡ None → DidQuietly (ends line) old old w w
+pub did_end_none : (line : ℕ) (old : Recording) (w : Option (List ℕ)) → seat_of line old.seats ≡ None
+    → (turns : Option (List Turn)) (station : Station) → Stands station old → DoesStep old.door (ends line station) old old turns turns w w
 did_end_none line old w none turns station stands =
     did_not_find losing
     station (place_of line station.places) old turns w (no_line old station stands line none) stands
 
 -- a peer's connection is replaced
 
-pub did_replace : (line peer time : ℕ) (old mid new : Recording) (t t1 : Option (List Turn)) (w w1 w2 : Option (List ℕ))
-    → DidSo (vacates peer) old mid t t1 w w1 → DidSeat (record { line = line; peer = peer; since = time }) mid new w1 w2
-    → DidSo (replaces line peer time) old new t t1 w w2
-did_replace line peer time old mid new t t1 w w1 w2 did later station stands =
-    let one = did station stands in
-    let next = later t1 (vacates peer station).station one.stands (vacated peer old station stands) in
-    does_both (vacates peer station) (seats_one (record { line = line; peer = peer; since = time })) old mid new t t1 t1 w w1 w2 one next
+pub ran_replace : {T : Type 0} (result : Result T Stop) (line peer time : ℕ) (old mid new : Recording) (t t1 : Option (List Turn))
+    (w w1 w2 : Option (List ℕ)) → RanSo {T = Unit {0}} (Ok tt) (vacates peer) old mid t t1 w w1
+    → RanSeat result (record { line = line; peer = peer; since = time }) mid new w1 w2 → RanSo result (replaces line peer time) old new t t1 w w2
+ran_replace {T = T} result line peer time old mid new t t1 w w1 w2 did later station stands = by result later
+  where
+    seat : Seat
+    seat = record { line = line; peer = peer; since = time }
 
-pub breaks_replace : {L : Type 0} → (line peer time : ℕ) (old mid : Recording) (t t1 : Option (List Turn)) (w w1 w2 : Option (List ℕ))
-    → DidSo (vacates peer) old mid t t1 w w1 → BreaksQuietly L (seats_one (record { line = line; peer = peer; since = time })) mid w1 w2
-    → BreaksSo L (replaces line peer time) old t t1 w w2
-breaks_replace {L} line peer time old mid t t1 w w1 w2 did later station stands =
-    let one = did station stands in
-    breaks_both (vacates peer station) (seats_one (record { line = line; peer = peer; since = time })) old mid t t1 t1 w w1 w2 one
-    (later t1 (vacates peer station).station one.stands)
+    one : DoesStep old.door (vacates peer station) old mid t t1 w w1
+    one = did station stands
 
-pub breaks_replace_early : {L M : Type 0} → (line peer time : ℕ) (old : Recording) (t t1 : Option (List Turn)) (w w1 : Option (List ℕ))
-    → IsWritable old.books.desk.config (came_up peer) → (M → L) → BreaksSo L (vacates peer) old t t1 w w1
-    → BreaksSo M (replaces line peer time) old t t1 w w1
-breaks_replace_early {L} {M} line peer time old t t1 w w1 writable named breaks station stands =
-    breaks_more (vacates peer station).deeds (tells (came_up peer) ∷ []) old.books t t1 w w1 (writable, tt) (breaks_where named (breaks station stands))
+    by : (r : Result T Stop) → RanSeat r seat mid new w1 w2 → Ran r old.door (replaces line peer time station) old new t t1 w w2
+    by (Ok value) next =
+        ran_then {T = T} (Ok value) (vacates peer station) (seats_one seat) old mid new t t1 t1 w w1 w2 one
+        (next t1 (vacates peer station).station one.stands (vacated peer old station stands))
+    by (Err stop) next =
+        ran_then {T = T} (Err stop) (vacates peer station) (seats_one seat) old mid new t t1 t1 w w1 w2 one (next t1 (vacates peer station).station one.stands)
+
+pub broke_replace : {T : Type 0} {stop : Stop} → (result : Result T Stop) → IsErrAnd result (λ e. e ≡ stop) → (line peer time : ℕ)
+    (old new : Recording) (t t1 : Option (List Turn)) (w w1 : Option (List ℕ)) → IsWritable old.books.desk.config (came_up peer)
+    → RanSo {T = Unit {0}} (Err stop) (vacates peer) old new t t1 w w1 → RanSo result (replaces line peer time) old new t t1 w w1
+broke_replace result same line peer time old new t t1 w w1 writable breaks station stands =
+    handed result same _ _ _ _ (breaks_more (vacates peer station).deeds (tells (came_up peer) ∷ []) old.books t t1 w w1 (writable, tt) (breaks station stands))
 
 -- a connection was taken
 module _ (config : Config) (line : ℕ) (from : Address) (told : Option ℕ) (time : ℕ) (old : Recording) (t t1 : Option (List Turn)) (w w1 : Option (List ℕ)) where
@@ -203,20 +191,14 @@ module _ (config : Config) (line : ℕ) (from : Address) (told : Option ℕ) (ti
   takes_for station found =
       elim found [ None ↦ doing (shuts line ∷ []) station.places station | Some peer ↦ replaces line peer time station ]
 
-  pub did_take : (peer : ℕ) (new : Recording) → peer_for config from told old.seats ≡ Some peer → DidSo (replaces line peer time) old new t t1 w w1
-      → DidSo (takes config line from told time) old new t t1 w w1
-  did_take peer new e did station stands =
-      subst (λ found. DoesStep old.door (takes_for station found) old new t t1 w w1)
-      (sym (ap (peer_for config from told) (sym stands.seats_are) ∙ e)) (did station stands)
-
-  pub breaks_take : {L : Type 0} → (peer : ℕ) → peer_for config from told old.seats ≡ Some peer → BreaksSo L (replaces line peer time) old t t1 w w1
-      → BreaksSo L (takes config line from told time) old t t1 w w1
-  breaks_take {L} peer e breaks station stands =
-      subst (λ found. BreaksAt L (takes_for station found).deeds old.books t t1 w w1)
-      (sym (ap (peer_for config from told) (sym stands.seats_are) ∙ e)) (breaks station stands)
+  pub ran_take : {T : Type 0} (result : Result T Stop) (peer : ℕ) (new : Recording) → peer_for config from told old.seats ≡ Some peer
+      → RanSo result (replaces line peer time) old new t t1 w w1 → RanSo result (takes config line from told time) old new t t1 w w1
+  ran_take result peer new e ran station stands =
+      subst (λ found. Ran result old.door (takes_for station found) old new t t1 w w1)
+      (sym (ap (peer_for config from told) (sym stands.seats_are) ∙ e)) (ran station stands)
 
   pub did_take_none : peer_for config from told old.seats ≡ None → Grew t t1 (shut line ∷ [])
-      → DidSo (takes config line from told time) old old t t1 w w
+      → (station : Station) → Stands station old → DoesStep old.door (takes config line from told time station) old old t t1 w w
   did_take_none e closed station stands =
       subst (λ found. DoesStep old.door (takes_for station found) old old t t1 w w)
       (sym (ap (peer_for config from told) (sym stands.seats_are) ∙ e))
@@ -228,23 +210,16 @@ module _ (config : Config) (line : ℕ) (from : Address) (told : Option ℕ) (ti
 
 -- the clock of a peer
 
-pub did_check_peer : (peer time : ℕ) (seat : Seat) (old new : Recording) (t t1 : Option (List Turn)) (w w1 : Option (List ℕ))
-    → seat_for peer old.seats ≡ Some seat → DidAt seat (checks time) old new t t1 w w1 → DidSo (checks_peer time peer) old new t t1 w w1
-did_check_peer peer time seat old new t t1 w w1 found did station stands =
+pub ran_check_peer : {T : Type 0} (result : Result T Stop) (peer time : ℕ) (seat : Seat) (old new : Recording) (t t1 : Option (List Turn))
+    (w w1 : Option (List ℕ)) → seat_for peer old.seats ≡ Some seat → RanAt result seat (checks time) old new t t1 w w1
+    → RanSo result (checks_peer time peer) old new t t1 w w1
+ran_check_peer result peer time seat old new t t1 w w1 found ran station stands =
     let has = place_has old station stands peer seat found in
-    did_found (checks time) station (place_for peer station.places) has.place old.door old new t t1 w w1 has.found
-    (did station stands has.place
-    (subst (λ (s : Seat). place_for s.peer station.places ≡ Some has.place) has.seated (own_place peer station.places has.place has.found)) has.seated)
-
-pub breaks_check_peer : {L : Type 0} → (peer time : ℕ) (seat : Seat) (old : Recording) (t t1 : Option (List Turn)) (w w1 : Option (List ℕ))
-    → seat_for peer old.seats ≡ Some seat → BreaksIn L seat (checks time) old t t1 w w1 → BreaksSo L (checks_peer time peer) old t t1 w w1
-breaks_check_peer {L} peer time seat old t t1 w w1 found breaks station stands =
-    let has = place_has old station stands peer seat found in
-    breaks_found (checks time) station (place_for peer station.places) has.place old.books t t1 w w1 has.found
-    (breaks station stands has.place
+    ran_found result (checks time) station (place_for peer station.places) has.place old.door old new t t1 w w1 has.found
+    (ran station stands has.place
     (subst (λ (s : Seat). place_for s.peer station.places ≡ Some has.place) has.seated (own_place peer station.places has.place has.found)) has.seated)
 
 pub did_check_none : (peer time : ℕ) (old : Recording) (t : Option (List Turn)) (w : Option (List ℕ)) → seat_for peer old.seats ≡ None
-    → DidSo (checks_peer time peer) old old t t w w
+    → (station : Station) → Stands station old → DoesStep old.door (checks_peer time peer station) old old t t w w
 did_check_none peer time old t w none station stands =
     did_not_find (checks time) station (place_for peer station.places) old t w (no_place old station stands peer none) stands

@@ -3,10 +3,10 @@ use Rattle.fs_recorder.proofs.Words.{ℕ, Bool, List, [], ◌∷◌, ◌++◌, O
 use Rattle.fs_recorder.proofs.Words.{AllByRecursion, Turn, said, shut, Grew, Grew-refl, Grew-trans, part_more, part_then, GrewPart, take, IsWritable}
 use Rattle.fs_recorder.proofs.Words.{item_text, Item, timed, Two, expired_after, nobody, AgreesBut, Booked, Tells, TellsPart, BreaksAt, Deed, Does}
 use Rattle.fs_recorder.proofs.Words.{asked_in, items_of, leaves, says, sends, shuts, tells, text_at, text_now, told_at, Seat, was_lost, Result, Ok}
-use Rattle.fs_recorder.proofs.Words.{Err, IfOk, OnErr, OnOk, arith, length, length-append, ◌+◌, ◌≤◌}
-use Rattle.fs_recorder.proofs.Telling.{told_on}
+use Rattle.fs_recorder.proofs.{Words.{Err, IfOk, OnErr, OnOk, arith, length, length-append, ◌+◌, ◌≤◌, Ran, Recording, AtDoor, Step}, Telling.{told_on}}
 use Rattle.std.specs.Result.{IsErrAnd, IsErrOf}
-use Rattle.fs_recorder.specs.declared.stop.Stop.{Stop, TheVariants.{Limit, Memory}}
+use Rattle.fs_recorder.specs.declared.stop.Stop.{Stop}
+use Rattle.fs_recorder.specs.declared.stop.Stop.TheVariants.{Limit, Memory}
 
 pub items_both : (first later : List Deed) → items_of (first ++ later) ≡ items_of first ++ items_of later
 items_both [] later = refl
@@ -232,11 +232,16 @@ pub handed_on : {T U : Type 0} → (stop : Stop) (result : Result T Stop) → Is
 handed_on stop (Ok value) same limited = absurd same
 handed_on stop (Err error) same limited = (let is : error ≡ Limit = cc in ap Err (sym same ∙ is))
 
+-- what is broken off where `?` hands the error on
+pub handed : {T : Type 0} {stop : Stop} {t t1 : Option (List Turn)} {w w1 : Option (List ℕ)} → (result : Result T Stop)
+    → IsErrAnd result (λ e. e ≡ stop) → (door : AtDoor) (step : Step) (old new : Recording) → BreaksAt (stop ≡ Limit) step.deeds old.books t t1 w w1
+    → Ran result door step old new t t1 w w1
+handed (Ok value) same door step old new breaks = absurd same
+handed (Err error) same door step old new breaks = breaks_where (λ limited. sym same ∙ limited) breaks
+
 -- where it wanted memory, it names none
-pub wanted_memory : {T U : Type 0} → (stop : Stop) (result : Result T Stop) → IsErrAnd result (λ e. e ≡ stop) → IsErrOf {T = U} {E = Stop} (Err stop) Memory
-    → IsErrOf result Limit → ⊥
-wanted_memory {T} {U} stop result same wanted limited =
-    let now : IsErrOf {T = U} {E = Stop} (Err stop) Limit = handed_on stop result same limited in absurd cc
+pub wanted_memory : {T : Type 0} → (stop : Stop) → IsErrOf {T = T} {E = Stop} (Err stop) Memory → stop ≡ Limit → ⊥
+wanted_memory stop wanted limited = absurd cc
 
 pub no_memory : {T : Type 0} (result : Result T Stop) → IsErrAnd result (λ e. e ≡ Memory) → IsErrOf result Limit → ⊥
 no_memory (Ok value) same limited = same

@@ -3,14 +3,14 @@ use Rattle.fs_recorder.proofs.Words.{ℕ, Bool, true, false, List, [], ◌∷◌
 use Rattle.fs_recorder.proofs.Words.{true≢false, append-nil, AllByRecursion, AreApart, Turn, Config, IsNumbered, Item, received, was_lost, HandsPeer}
 use Rattle.fs_recorder.proofs.Words.{KeepsOthers, Played, PlayedBut, RepliesBehind, StaysPlayed, ExpiresPlayed, ExpiresSo, TicksPeer, expired_after}
 use Rattle.fs_recorder.proofs.Words.{expired_with, session_at, standing_at_desk, standing_of, nobody, point_of, Live, Point, Booked, Tells, Does}
-use Rattle.fs_recorder.proofs.Words.{Recording, behind_answer, answered, is_closed, items_of, leaves, says, tells, Place, Station, doing, expires}
-use Rattle.fs_recorder.proofs.Words.{handed_point, moved, peers_at, place_for, places_without, receives, replies_to, seat_at, settles, then_do, wakes}
-use Rattle.fs_recorder.proofs.Words.{Seat, without, DoesStep, IsOpenAt, Left, Settled, Stands}
-use Rattle.fs_recorder.proofs.Doing.{does_tell, does_then, items_both, says_items}
+use Rattle.fs_recorder.proofs.Words.{Recording, answered, is_closed, items_of, leaves, says, tells, Place, Station, doing, expires, handed_point}
+use Rattle.fs_recorder.proofs.Words.{moved, peers_at, place_for, places_without, receives, replies_to, seat_at, settles, then_do, wakes, without}
+use Rattle.fs_recorder.proofs.{Words.{DoesStep, IsOpenAt, Left, Stands, Answered}, Doing.{does_tell, does_then, items_both, says_items}}
 use Rattle.fs_recorder.proofs.Places.{apart_left, at_found, open_moved, open_without, peers_left, peers_moved, seats_moved, seats_without}
 use Rattle.fs_recorder.proofs.Sessions.{Ticked, not_shut, place_open, point_on, replies_are, session_on, ticked_at, ticked_shut, ticked_stays}
 use Rattle.fs_recorder.proofs.Waking.{answered_so, does_woke, expired_none, none_behind}
-use Rattle.fs_speaker.specs.{End.{ticked}, State.{standing_by}}
+use Rattle.fs_speaker.specs.End.{ticked}
+use Rattle.fs_speaker.specs.State.{standing_by}
 use Rattle.fs_desk.proofs.Standing.{desk_stands}
 
 -- where the session of a place goes on
@@ -71,13 +71,6 @@ pub told_leaves : (place : Place) (text : List ℕ) (told : List Item)
 told_leaves place text told =
     ap (λ items. told ++ items) (items_both (says place.line text) (leaves (seat_at place))
     ∙ ap (λ items. items ++ was_lost place.peer ∷ []) (says_items place.line text))
-
--- What is answered behind what a session has said.
-pub record Answered (seat : Seat) (lives : Bool) (mid new : Recording) (turns turns' : Option (List Turn)) (before now : Option (List ℕ)) : Type 0 where
-  pub closes : is_closed (standing_at_desk mid.books.desk seat.peer) ≡ not lives
-  pub answers : (expired : ℕ → Bool)
-      → Does expired (behind_answer lives seat.peer expired) (answered lives seat mid.replies) mid.books new.books turns turns' before now
-  pub settled : Settled lives seat mid new
 
 -- The clock was heard at a session.
 pub record Woke (time peer : ℕ) (old mid : Recording) : Type 0 where

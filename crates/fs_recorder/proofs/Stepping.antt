@@ -1,21 +1,25 @@
 -- Steps that were taken, and steps that were broken off.
-use Rattle.fs_recorder.proofs.Words.{longest_payload, length, ◌≤◌, ℕ, Bool, true, false, List, [], ◌∷◌, ◌++◌, Option, Some, None, ◌==◌, ◌-◌, ◌≡◌, not}
+use Rattle.fs_recorder.proofs.Words.{Answered, longest_payload, length, ◌≤◌, ℕ, Bool, true, false, List, [], ◌∷◌, ◌++◌, Option, Some, None, ◌==◌, ◌-◌, ◌≡◌, not}
 use Rattle.fs_recorder.proofs.Words.{refl, ap, sym, subst, ◌∙◌, ◌+◌, true≢false, if◌then◌else◌, nat_lt, AllByRecursion, IsWritable, Grew, Grew-refl}
 use Rattle.fs_recorder.proofs.Words.{GrewPart, Turn, said, Config, IsNumbered, received, was_lost, HandsPeer, KeepsOthers, RepliesBehind, TicksPeer}
 use Rattle.fs_recorder.proofs.Words.{StaysPlayed, ExpiresPlayed, ExpiresSo, standing_at_desk, nobody, Point, AtDoor, Booked, Scribed, Tells}
 use Rattle.fs_recorder.proofs.Words.{TellsPart, Deed, Does, Recording, answered, is_closed, items_of, leaves, says, sends, tells, text_at}
 use Rattle.fs_recorder.proofs.Words.{stands_established, Place, Station, Step, expires, handed_point, hurries, hurries_where_late, hurries_where_new}
 use Rattle.fs_recorder.proofs.Words.{is_early, is_established, moved, open_time, place_for, place_of, receives, replies_to, resting, seat_at, settles}
-use Rattle.fs_recorder.proofs.Words.{then_do, wakes, woken, Seat, seat_of, BreaksAt, BreaksIn, BreaksSo, DidAt, DidSo, DoesStep, IsOpenAt, Left}
-use Rattle.fs_recorder.proofs.Words.{Stands, WakesSo}
+use Rattle.fs_recorder.proofs.Words.{then_do, wakes, woken, Seat, seat_of, BreaksAt, DoesStep, IsOpenAt, Left, Stands, WakesSo, Ran, RanAnswer, RanAt}
+use Rattle.fs_recorder.proofs.Words.{RanSo, Stop, Limit, IsErrAnd, IsErrOf, Ok, Err, Result, IfOk, OnOk, OnErr, expired_after}
 use Rattle.fs_recorder.proofs.Doing.{breaks_early, breaks_more, breaks_tell, breaks_then, breaks_where, does_ask, does_tell, does_then, items_both}
-use Rattle.fs_recorder.proofs.Doing.{says_items}
+use Rattle.fs_recorder.proofs.Doing.{says_items, handed}
 use Rattle.fs_recorder.proofs.Places.{FoundAt, at_found, found_at, found_none, peers_all, place_found, place_is, place_moved}
 use Rattle.fs_recorder.proofs.Sessions.{open_stands}
-use Rattle.fs_recorder.proofs.Settling.{Answered, Received, Woke, received_says, received_stands, received_step, stands_gone, woke_at, woke_lives}
+use Rattle.fs_recorder.proofs.Settling.{Received, Woke, received_says, received_stands, received_step, stands_gone, woke_at, woke_lives}
 use Rattle.fs_recorder.proofs.Settling.{woke_step}
-use Rattle.fs_speaker.specs.declared.{Standing.{TheVariants.{Live as LiveIn}}, State.{State, TheVariants.{WaitOpen, WaitKeep, Established, Closed}}}
-use Rattle.fs_speaker.specs.{End.{ticked}, Side.{notice_text}, State.{standing_by}}
+use Rattle.fs_speaker.specs.declared.Standing.TheVariants.{Live as LiveIn}
+use Rattle.fs_speaker.specs.declared.State.{State}
+use Rattle.fs_speaker.specs.declared.State.TheVariants.{WaitOpen, WaitKeep, Established, Closed}
+use Rattle.fs_speaker.specs.End.{ticked}
+use Rattle.fs_speaker.specs.Side.{notice_text}
+use Rattle.fs_speaker.specs.State.{standing_by}
 
 -- the place of a seat, where the seat is seen as its own
 own_found : (seat : Seat) (places : List Place) (place : Place) → place_for seat.peer places ≡ Some place → place_for place.peer places ≡ Some place
@@ -51,11 +55,11 @@ does_both first later old mid new t t1 t2 w w1 w2 one next = record {
   door_is = next.door_is ∙ one.door_is;
 }
 
-pub breaks_both : {L : Type 0} → {door : AtDoor}
-    → (first : Step) (later : Station → Step) (old mid : Recording) (t t1 t2 : Option (List Turn)) (w w1 w2 : Option (List ℕ))
-    → DoesStep door first old mid t t1 w w1 → BreaksAt L (later first.station).deeds mid.books t1 t2 w1 w2
-    → BreaksAt L (then_do first later).deeds old.books t t2 w w2
-breaks_both {L} {door} first later old mid t t1 t2 w w1 w2 one next =
+pub ran_then : {T : Type 0} {door : AtDoor} (result : Result T Stop) (first : Step) (later : Station → Step) (old mid new : Recording)
+    (t t1 t2 : Option (List Turn)) (w w1 w2 : Option (List ℕ)) → DoesStep door first old mid t t1 w w1
+    → Ran result mid.door (later first.station) mid new t1 t2 w1 w2 → Ran result door (then_do first later) old new t t2 w w2
+ran_then (Ok value) first later old mid new t t1 t2 w w1 w2 one next = does_both first later old mid new t t1 t2 w w1 w2 one next
+ran_then (Err stop) first later old mid new t t1 t2 w w1 w2 one next =
     breaks_then nobody nobody first.deeds old.books mid.books t t1 w w1 one.does (later first.station).deeds t2 w2 next
 
 -- what a session says and how it settles can be written
@@ -100,14 +104,6 @@ woke_as time peer inside old mid cleared same none ticks stays expired so config
       door_is = door_is;
     })
 
-pub did_wake : (time : ℕ) (seat : Seat) (lives : Bool) (old mid new : Recording) (t t1 : Option (List Turn)) (w w1 : Option (List ℕ))
-    → Woke time seat.peer old mid
-    → Answered seat lives mid new t t1 w w1 → DidAt seat (wakes time) old new t t1 w w1
-did_wake time seat lives old mid new t t1 w w1 woke answered station stands place found seated =
-    woke_step time place old mid new t t1 w w1 station stands (own_found seat station.places place found)
-    (subst (λ (s : Seat). Woke time s.peer old mid) (sym seated) woke) lives
-    (subst (λ (s : Seat). Answered s lives mid new t t1 w w1) (sym seated) answered)
-
 pub wakes_so : (time : ℕ) (seat : Seat) (lives : Bool) (old mid : Recording) → Woke time seat.peer old mid
     → is_closed (standing_at_desk mid.books.desk seat.peer) ≡ not lives
     → WakesSo time seat old lives
@@ -118,27 +114,43 @@ wakes_so time seat lives old mid woke closes station stands place found =
     (subst (λ p. Woke time p old mid) (sym own) woke) lives
     (subst (λ p. is_closed (standing_at_desk mid.books.desk p) ≡ not lives) (sym own) closes))
 
-pub breaks_unwoken : {L : Type 0} → (time : ℕ) (seat : Seat) (old : Recording) (t : Option (List Turn)) (w : Option (List ℕ)) → (L → ⊥)
-    → BreaksIn L seat (wakes time) old t t w w
-breaks_unwoken {L} time seat old t w never station stands place found seated =
-    breaks_early (wakes time place station).deeds old.books t w
+pub broke_unwoken : {T : Type 0} {stop : Stop} → (result : Result T Stop) → IsErrAnd result (λ e. e ≡ stop) → (stop ≡ Limit → ⊥)
+    → (time : ℕ) (seat : Seat) (old new : Recording) (t : Option (List Turn)) (w : Option (List ℕ)) → RanAt result seat (wakes time) old new t t w w
+broke_unwoken result same never time seat old new t w station stands place found seated =
+    handed result same _ _ _ _ (breaks_early (wakes time place station).deeds old.books t w
     (settles_writable old.books.desk.config (expires time place) place (ticked time place.point).point (ticked time place.point).text station
-    (place_known station old stands seat.peer place found)) never
+    (place_known station old stands seat.peer place found)) never)
 
-pub breaks_woken : {L : Type 0} → (time : ℕ) (seat : Seat) (old mid : Recording) (t t1 : Option (List Turn)) (w w1 : Option (List ℕ))
-    → Woke time seat.peer old mid
-    → is_closed (standing_at_desk mid.books.desk seat.peer) ≡ true → BreaksAt L (answered false seat mid.replies) mid.books t t1 w w1
-    → BreaksIn L seat (wakes time) old t t1 w w1
-breaks_woken {L} time seat old mid t t1 w w1 woke closes breaks station stands place found seated =
+pub ran_wake : (result : Result Bool Stop) (time : ℕ) (seat : Seat) (old mid new : Recording) (t t1 : Option (List Turn)) (w w1 : Option (List ℕ))
+    → Woke time seat.peer old mid → RanAnswer result seat mid new t t1 w w1 → RanAt result seat (wakes time) old new t t1 w w1
+ran_wake (Ok lives) time seat old mid new t t1 w w1 woke answered station stands place found seated =
+    woke_step time place old mid new t t1 w w1 station stands (own_found seat station.places place found)
+    (subst (λ (s : Seat). Woke time s.peer old mid) (sym seated) woke) lives
+    (subst (λ (s : Seat). Answered s lives mid new t t1 w w1) (sym seated) answered)
+ran_wake (Err stop) time seat old mid new t t1 w w1 woke (closes, breaks) station stands place found seated =
     let at = own_found seat station.places place found in
     let woke_here = subst (λ (s : Seat). Woke time s.peer old mid) (sym seated) woke in
     let e : expires time place ≡ true =
     woke_lives time place old mid mid None None None None station stands at woke_here false
     (subst (λ (s : Seat). is_closed (standing_at_desk mid.books.desk s.peer) ≡ true) (sym seated) closes) in
-    subst (λ b. BreaksAt L (settles b place (ticked time place.point).point (ticked time place.point).text station).deeds old.books t t1 w w1) (sym e)
-    (subst (λ text. BreaksAt L (answered false (seat_at place) text) old.books t t1 w w1) (woke_at time place old mid station stands at woke_here).made.text
-    (subst (λ s. BreaksAt L (answered false s mid.replies) old.books t t1 w w1) (sym seated)
+    subst (λ b. BreaksAt (stop ≡ Limit) (settles b place (ticked time place.point).point (ticked time place.point).text station).deeds old.books t t1 w w1)
+    (sym e)
+    (subst (λ text. BreaksAt (stop ≡ Limit) (answered false (seat_at place) text) old.books t t1 w w1)
+    (woke_at time place old mid station stands at woke_here).made.text
+    (subst (λ s. BreaksAt (stop ≡ Limit) (answered false s mid.replies) old.books t t1 w w1) (sym seated)
     (breaks_before (answered false seat mid.replies) old.books mid.books t t1 w w1 woke.scribe_is woke.config_is breaks)))
+
+-- behind an answer
+
+pub answer_lives : (result : Result Bool Stop) (time : ℕ) (seat : Seat) (old mid new : Recording) (t t1 : Option (List Turn)) (w w1 : Option (List ℕ))
+    → Woke time seat.peer old mid → RanAnswer result seat mid new t t1 w w1 → IfOk result (λ lives. WakesSo time seat old lives)
+answer_lives (Ok lives) time seat old mid new t t1 w w1 woke answered = wakes_so time seat lives old mid woke answered.closes
+answer_lives (Err stop) time seat old mid new t t1 w w1 woke answered = tt
+
+pub answer_config : {config : Config} → (result : Result Bool Stop) (seat : Seat) (old new : Recording) (t t1 : Option (List Turn)) (w w1 : Option (List ℕ))
+    → RanAnswer result seat old new t t1 w w1 → old.books.desk.config ≡ config → OnOk result (new.books.desk.config ≡ config)
+answer_config (Ok lives) seat old new t t1 w w1 answered is = (answered.answers nobody).config_is ∙ is
+answer_config (Err stop) seat old new t t1 w w1 answered is = tt
 
 -- a piece of a session
 
@@ -157,43 +169,41 @@ received_as piece peer inside old mid cleared before now same none told hands ot
       door_is = door_is;
     })
 
+pub broke_unreceived : {T : Type 0} {stop : Stop} → (result : Result T Stop) → IsErrAnd result (λ e. e ≡ stop) → (piece : List ℕ) (seat : Seat)
+    (old new : Recording) (t : Option (List Turn)) (w w1 : Option (List ℕ)) → TellsPart (stop ≡ Limit) (received seat.peer piece) old.books w w1
+    → RanAt result seat (λ place. receives old.books.desk.config place piece) old new t t w w1
+broke_unreceived {T} {stop} result same piece seat old new t w w1 part station stands place found seated =
+    handed result same _ _ _ _ (breaks_more (tells (received place.peer piece) ∷ []) _ old.books t t w w1
+    (settles_writable old.books.desk.config _ place _ _ _ (place_known station old stands seat.peer place found))
+    (subst (λ (s : Seat). BreaksAt (stop ≡ Limit) (tells (received s.peer piece) ∷ []) old.books t t w w1) (sym seated)
+    (breaks_tell (received seat.peer piece) old.books t w w1 part)))
+
 pub did_receive : (piece : List ℕ) (seat : Seat) (lives : Bool) (old mid new : Recording) (t t1 : Option (List Turn)) (w w1 w2 : Option (List ℕ))
-    → Received piece seat.peer old mid w w1
-    → Answered seat lives mid new t t1 w1 w2 → DidAt seat (λ place. receives old.books.desk.config place piece) old new t t1 w w2
+    → Received piece seat.peer old mid w w1 → Answered seat lives mid new t t1 w1 w2
+    → RanAt {T = Unit {0}} (Ok tt) seat (λ place. receives old.books.desk.config place piece) old new t t1 w w2
 did_receive piece seat lives old mid new t t1 w w1 w2 heard answered station stands place found seated =
     received_step piece place old mid w w1 station stands (own_found seat station.places place found)
     (subst (λ (s : Seat). Received piece s.peer old mid w w1) (sym seated) heard) new t t1 w2 lives
     (subst (λ (s : Seat). Answered s lives mid new t t1 w1 w2) (sym seated) answered)
 
-pub breaks_unreceived : {L : Type 0} → (piece : List ℕ) (seat : Seat) (old : Recording) (t : Option (List Turn)) (w w1 : Option (List ℕ))
-    → TellsPart L (received seat.peer piece) old.books w w1
-    → BreaksIn L seat (λ place. receives old.books.desk.config place piece) old t t w w1
-breaks_unreceived {L} piece seat old t w w1 part station stands place found seated =
-    let step = receives old.books.desk.config place piece station in
-    breaks_more (tells (received place.peer piece) ∷ []) _ old.books t t w w1
-    (settles_writable old.books.desk.config _ place _ _ _ (place_known station old stands seat.peer place found))
-    (subst (λ (s : Seat). BreaksAt L (tells (received s.peer piece) ∷ []) old.books t t w w1) (sym seated)
-    (breaks_tell (received seat.peer piece) old.books t w w1 part))
-
-pub breaks_received : {L : Type 0} → (piece : List ℕ) (seat : Seat) (old mid : Recording) (t t1 : Option (List Turn)) (w w1 w2 : Option (List ℕ))
-    → Received piece seat.peer old mid w w1
-    → is_closed (standing_at_desk mid.books.desk seat.peer) ≡ true → BreaksAt L (answered false seat mid.replies) mid.books t t1 w1 w2
-    → BreaksIn L seat (λ place. receives old.books.desk.config place piece) old t t1 w w2
-breaks_received {L} piece seat old mid t t1 w w1 w2 heard closes breaks station stands place found seated =
+pub broke_received : {T : Type 0} {stop : Stop} → (result : Result T Stop) → IsErrAnd result (λ e. e ≡ stop) → (piece : List ℕ) (seat : Seat)
+    (old mid new : Recording) (t t1 : Option (List Turn)) (w w1 w2 : Option (List ℕ)) → Received piece seat.peer old mid w w1
+    → RanAnswer (Err stop) seat mid new t t1 w1 w2 → RanAt result seat (λ place. receives old.books.desk.config place piece) old new t t1 w w2
+broke_received {T} {stop} result same piece seat old mid new t t1 w w1 w2 heard (closes, breaks) station stands place found seated =
     let at = own_found seat station.places place found in
     let heard_here = subst (λ (s : Seat). Received piece s.peer old mid w w1) (sym seated) heard in
     let e = sym (received_stands piece place old mid w w1 station stands at heard_here)
     ∙ subst (λ (s : Seat). is_closed (standing_at_desk mid.books.desk s.peer) ≡ true) (sym seated) closes in
-    subst (λ b. BreaksAt L ((tells (received place.peer piece) ∷ [])
+    handed result same _ _ _ _ (subst (λ b. BreaksAt (stop ≡ Limit) ((tells (received place.peer piece) ∷ [])
     ++ (settles b place (handed_point old.books.desk.config place.peer place.point piece)
     (replies_to old.books.desk.config place.peer station.told piece)
     (record { told = station.told ++ received place.peer piece ∷ []; places = station.places })).deeds) old.books t t1 w w2) (sym e)
     (breaks_then nobody nobody (tells (received place.peer piece) ∷ []) old.books mid.books t t w w1
     (does_tell (received place.peer piece) old.books mid.books t w w1 heard_here.told nobody)
     _ t1 w2
-    (subst (λ text. BreaksAt L (answered false (seat_at place) text) mid.books t t1 w1 w2)
+    (subst (λ text. BreaksAt (stop ≡ Limit) (answered false (seat_at place) text) mid.books t t1 w1 w2)
     (sym (received_says piece place old mid w w1 station stands at heard_here))
-    (subst (λ s. BreaksAt L (answered false s mid.replies) mid.books t t1 w1 w2) (sym seated) breaks)))
+    (subst (λ s. BreaksAt (stop ≡ Limit) (answered false s mid.replies) mid.books t t1 w1 w2) (sym seated) breaks))))
 
 pub receives_writable : (piece : List ℕ) (config : Config) (place : Place) (station : Station) → IsNumbered config place.peer
     → IsWritable config (received place.peer piece)
@@ -215,50 +225,38 @@ module _ (time : ℕ) (seat : Seat) (later : Place → Station → Step) where
       (place_moved seat.peer (ticked time place.point).point station.places place found)
 
   pub woken_shut : (old new : Recording) (t t1 : Option (List Turn)) (w w1 : Option (List ℕ)) → WakesSo time seat old false
-      → DidAt seat (wakes time) old new t t1 w w1
-      → DidAt seat (wakes_then time later) old new t t1 w w1
+      → RanAt {T = Bool} (Ok false) seat (wakes time) old new t t1 w w1 → RanAt {T = Unit {0}} (Ok tt) seat (wakes_then time later) old new t t1 w w1
   woken_shut old new t t1 w w1 so did station stands place found seated =
       subst (λ b. DoesStep old.door (if b then wakes time place station else then_do (wakes time place station) (later (woken time place))) old new t t1 w w1)
       (sym (flipped false (expires time place) (so station stands place found)))
       (did station stands place found seated)
 
-  module _ (old mid : Recording) (t t1 t2 : Option (List Turn)) (w w1 w2 : Option (List ℕ)) (so : WakesSo time seat old true)
-      (did : DidAt seat (wakes time) old mid t t1 w w1) where
-    pub woken_then : (new : Recording) → DidAt seat later mid new t1 t2 w1 w2 → DidAt seat (wakes_then time later) old new t t2 w w2
-    woken_then new next station stands place found seated =
-        let e : expires time place ≡ false = flipped true (expires time place) (so station stands place found) in
-        let one = did station stands place found seated in
-        subst (λ b. DoesStep old.door (if b then wakes time place station else then_do (wakes time place station) (later (woken time place))) old new
-        t t2 w w2) (sym e)
-        (does_both (wakes time place station) (later (woken time place)) old mid new t t1 t2 w w1 w2 one
-        (next (wakes time place station).station one.stands (woken time place) (at_woken (expires time place) e station place found) seated))
-
-    pub woken_breaks : {L : Type 0} → BreaksIn L seat later mid t1 t2 w1 w2 → BreaksIn L seat (wakes_then time later) old t t2 w w2
-    woken_breaks {L} next station stands place found seated =
-        let e : expires time place ≡ false = flipped true (expires time place) (so station stands place found) in
-        let one = did station stands place found seated in
-        subst (λ b. BreaksAt L (if b then wakes time place station else then_do (wakes time place station) (later (woken time place))).deeds old.books
-        t t2 w w2) (sym e)
-        (breaks_both (wakes time place station) (later (woken time place)) old mid t t1 t2 w w1 w2 one
-        (next (wakes time place station).station one.stands (woken time place) (at_woken (expires time place) e station place found) seated))
+  pub woken_then : {T : Type 0} (result : Result T Stop) (old mid new : Recording) (t t1 t2 : Option (List Turn)) (w w1 w2 : Option (List ℕ))
+      → WakesSo time seat old true → RanAt {T = Bool} (Ok true) seat (wakes time) old mid t t1 w w1 → RanAt result seat later mid new t1 t2 w1 w2
+      → RanAt result seat (wakes_then time later) old new t t2 w w2
+  woken_then result old mid new t t1 t2 w w1 w2 so did next station stands place found seated =
+      let e : expires time place ≡ false = flipped true (expires time place) (so station stands place found) in
+      let one = did station stands place found seated in
+      subst (λ b. Ran result old.door (if b then wakes time place station else then_do (wakes time place station) (later (woken time place))) old new
+      t t2 w w2) (sym e)
+      (ran_then result (wakes time place station) (later (woken time place)) old mid new t t1 t2 w w1 w2 one
+      (next (wakes time place station).station one.stands (woken time place) (at_woken (expires time place) e station place found) seated))
 
   -- the clock broke it off
-  pub woken_broke : {L M : Type 0} → (old : Recording) (t t1 : Option (List Turn)) (w w1 : Option (List ℕ)) → (M → L)
-      → BreaksIn L seat (wakes time) old t t1 w w1
+  pub woken_broke : {T : Type 0} {stop : Stop} → (result : Result T Stop) → IsErrAnd result (λ e. e ≡ stop) → (old new : Recording)
+      (t t1 : Option (List Turn)) (w w1 : Option (List ℕ)) → RanAt {T = Bool} (Err stop) seat (wakes time) old new t t1 w w1
       → ((station : Station) → Stands station old → (place : Place) → place_for seat.peer station.places ≡ Some place → seat_at place ≡ seat
       → (there : Station) → AllByRecursion (IsWritable old.books.desk.config) (items_of (later (woken time place) there).deeds))
-      → BreaksIn M seat (wakes_then time later) old t t1 w w1
-  woken_broke {L} {M} old t t1 w w1 named broke writable station stands place found seated = by (expires time place)
+      → RanAt result seat (wakes_then time later) old new t t1 w w1
+  woken_broke {T} {stop} result same old new t t1 w w1 broke writable station stands place found seated =
+      handed result same _ _ _ _ (by (expires time place))
     where
-      there : BreaksAt M (wakes time place station).deeds old.books t t1 w w1
-      there = breaks_where named (broke station stands place found seated)
-
-      by : (b : Bool) → BreaksAt M (if b then wakes time place station else then_do (wakes time place station) (later (woken time place))).deeds
-          old.books t t1 w w1
-      by true = there
+      by : (b : Bool) → BreaksAt (stop ≡ Limit)
+          (if b then wakes time place station else then_do (wakes time place station) (later (woken time place))).deeds old.books t t1 w w1
+      by true = broke station stands place found seated
       by false =
           breaks_more (wakes time place station).deeds (later (woken time place) (wakes time place station).station).deeds old.books t t1 w w1
-          (writable station stands place found seated (wakes time place station).station) there
+          (writable station stands place found seated (wakes time place station).station) (broke station stands place found seated)
 
 -- what can be written of a piece
 pub piece_writable : (piece : List ℕ) (time : ℕ) (seat : Seat) (old : Recording) → length piece ≤ longest_payload
@@ -287,8 +285,7 @@ place_est station old stands peer place found =
     ∙ stands_est is_open.session.phase.state ∙ ap (λ (p : Point). is_established p.phase.state) is_open.point_is)
 
 pub did_not_hurry : (seat : Seat) (old : Recording) (t : Option (List Turn)) (w : Option (List ℕ))
-    → stands_established (standing_at_desk old.books.desk seat.peer) ≡ true
-    → DidAt seat hurries_where_new old old t t w w
+    → stands_established (standing_at_desk old.books.desk seat.peer) ≡ true → RanAt {T = Unit {0}} (Ok tt) seat hurries_where_new old old t t w w
 did_not_hurry seat old t w is station stands place found seated =
     subst (λ b. DoesStep old.door (if b then resting station else hurries place station) old old t t w w)
     (sym (place_est station old stands seat.peer place found ∙ is)) (does_rest station old t w stands)
@@ -296,32 +293,34 @@ did_not_hurry seat old t w is station stands place found seated =
 abbrev pub gives_up : Seat → List Deed
 gives_up seat = sends seat.line (notice_text 4 0) ∷ leaves seat
 
-pub did_hurry : (seat : Seat) (old new : Recording) (t t1 t2 : Option (List Turn)) (w w1 : Option (List ℕ))
-    → stands_established (standing_at_desk old.books.desk seat.peer) ≡ false
-    → Grew t t1 (said seat.line (notice_text 4 0) ∷ []) → Does nobody nobody (leaves seat) old.books new.books t1 t2 w w1 → Left seat old new
-    → DidAt seat hurries_where_new old new t t2 w w1
-did_hurry seat old new t t1 t2 w w1 is grew does left station stands place found seated =
-    let all : Does nobody nobody (gives_up seat) old.books new.books t t2 w w1 =
-    does_then nobody nobody (sends seat.line (notice_text 4 0) ∷ []) old.books old.books t t1 w w
-    (does_ask nobody (sends seat.line (notice_text 4 0) ∷ []) old.books t t1 w refl grew) nobody (leaves seat) new.books t2 w1 does in
-    subst (λ b. DoesStep old.door (if b then resting station else hurries place station) old new t t2 w w1)
-    (sym (place_est station old stands seat.peer place found ∙ is))
-    (record {
-      does = subst (λ s. Does nobody nobody (gives_up s) old.books new.books t t2 w w1) (sym seated) all;
-      stands = stands_gone place station old new stands (own_found seat station.places place found)
-          (subst (λ s. Left s old new) (sym seated) left) does.config_is;
-      door_is = left.door_is;
-    })
+pub ran_hurry : {T : Type 0} (result : Result T Stop) (seat : Seat) (old new : Recording) (t t1 t2 : Option (List Turn)) (w w1 : Option (List ℕ))
+    → stands_established (standing_at_desk old.books.desk seat.peer) ≡ false → Grew t t1 (said seat.line (notice_text 4 0) ∷ [])
+    → OnOk result ((expired : ℕ → Bool) → Does expired (expired_after (was_lost seat.peer) expired) (leaves seat) old.books new.books t1 t2 w w1)
+    → OnOk result (Left seat old new) → OnErr result (BreaksAt (IsErrOf result Limit) (leaves seat) old.books t1 t2 w w1)
+    → RanAt result seat hurries_where_new old new t t2 w w1
+ran_hurry {T} result seat old new t t1 t2 w w1 is grew does left breaks station stands place found seated =
+    subst (λ b. Ran result old.door (if b then resting station else hurries place station) old new t t2 w w1)
+    (sym (place_est station old stands seat.peer place found ∙ is)) (by result does left breaks)
+  where
+    sent : Does nobody nobody (sends seat.line (notice_text 4 0) ∷ []) old.books old.books t t1 w w
+    sent = does_ask nobody (sends seat.line (notice_text 4 0) ∷ []) old.books t t1 w refl grew
 
-pub breaks_hurry : {L : Type 0} → (seat : Seat) (old : Recording) (t t1 t2 : Option (List Turn)) (w w1 : Option (List ℕ))
-    → stands_established (standing_at_desk old.books.desk seat.peer) ≡ false
-    → Grew t t1 (said seat.line (notice_text 4 0) ∷ []) → BreaksAt L (leaves seat) old.books t1 t2 w w1 → BreaksIn L seat hurries_where_new old t t2 w w1
-breaks_hurry {L} seat old t t1 t2 w w1 is grew breaks station stands place found seated =
-    subst (λ b. BreaksAt L (if b then resting station else hurries place station).deeds old.books t t2 w w1)
-    (sym (place_est station old stands seat.peer place found ∙ is))
-    (subst (λ s. BreaksAt L (gives_up s) old.books t t2 w w1) (sym seated)
-    (breaks_then nobody nobody (sends seat.line (notice_text 4 0) ∷ []) old.books old.books t t1 w w
-    (does_ask nobody (sends seat.line (notice_text 4 0) ∷ []) old.books t t1 w refl grew) (leaves seat) t2 w1 breaks))
+    by : (r : Result T Stop)
+        → OnOk r ((expired : ℕ → Bool) → Does expired (expired_after (was_lost seat.peer) expired) (leaves seat) old.books new.books t1 t2 w w1)
+        → OnOk r (Left seat old new) → OnErr r (BreaksAt (IsErrOf r Limit) (leaves seat) old.books t1 t2 w w1)
+        → Ran r old.door (hurries place station) old new t t2 w w1
+    by (Ok value) does left breaks = record {
+      does = subst (λ s. Does nobody nobody (gives_up s) old.books new.books t t2 w w1) (sym seated)
+          (does_then nobody nobody (sends seat.line (notice_text 4 0) ∷ []) old.books old.books t t1 w w sent nobody (leaves seat) new.books t2 w1
+          (does nobody));
+      stands = stands_gone place station old new stands (own_found seat station.places place found)
+          (subst (λ s. Left s old new) (sym seated) left) (does nobody).config_is;
+      door_is = left.door_is;
+    }
+    by (Err stop) does left breaks =
+        subst (λ s. BreaksAt (stop ≡ Limit) (gives_up s) old.books t t2 w w1) (sym seated)
+        (breaks_then nobody nobody (sends seat.line (notice_text 4 0) ∷ []) old.books old.books t t1 w w sent (leaves seat) t2 w1
+        (breaks_where (ap Err) breaks))
 
 -- the time that a session has
 
@@ -329,24 +328,17 @@ place_early : (time : ℕ) (seat : Seat) (place : Place) → seat_at place ≡ s
 place_early time seat place seated = ap (λ (s : Seat). nat_lt (time - s.since) open_time) seated
 
 pub did_early : (time : ℕ) (seat : Seat) (old : Recording) (t : Option (List Turn)) (w : Option (List ℕ)) → nat_lt (time - seat.since) open_time ≡ true
-    → DidAt seat (hurries_where_late time) old old t t w w
+    → RanAt {T = Unit {0}} (Ok tt) seat (hurries_where_late time) old old t t w w
 did_early time seat old t w early station stands place found seated =
     subst (λ b. DoesStep old.door (if b then resting station else hurries_where_new place station) old old t t w w)
     (sym (place_early time seat place seated ∙ early)) (does_rest station old t w stands)
 
-pub did_late : (time : ℕ) (seat : Seat) (old new : Recording) (t t1 : Option (List Turn)) (w w1 : Option (List ℕ))
-    → nat_lt (time - seat.since) open_time ≡ false
-    → DidAt seat hurries_where_new old new t t1 w w1 → DidAt seat (hurries_where_late time) old new t t1 w w1
-did_late time seat old new t t1 w w1 late did station stands place found seated =
-    subst (λ b. DoesStep old.door (if b then resting station else hurries_where_new place station) old new t t1 w w1)
-    (sym (place_early time seat place seated ∙ late)) (did station stands place found seated)
-
-pub breaks_late : {L : Type 0} → (time : ℕ) (seat : Seat) (old : Recording) (t t1 : Option (List Turn)) (w w1 : Option (List ℕ))
-    → nat_lt (time - seat.since) open_time ≡ false
-    → BreaksIn L seat hurries_where_new old t t1 w w1 → BreaksIn L seat (hurries_where_late time) old t t1 w w1
-breaks_late {L} time seat old t t1 w w1 late did station stands place found seated =
-    subst (λ b. BreaksAt L (if b then resting station else hurries_where_new place station).deeds old.books t t1 w w1)
-    (sym (place_early time seat place seated ∙ late)) (did station stands place found seated)
+pub ran_late : {T : Type 0} (result : Result T Stop) (time : ℕ) (seat : Seat) (old new : Recording) (t t1 : Option (List Turn)) (w w1 : Option (List ℕ))
+    → nat_lt (time - seat.since) open_time ≡ false → RanAt result seat hurries_where_new old new t t1 w w1
+    → RanAt result seat (hurries_where_late time) old new t t1 w w1
+ran_late result time seat old new t t1 w w1 late ran station stands place found seated =
+    subst (λ b. Ran result old.door (if b then resting station else hurries_where_new place station) old new t t1 w w1)
+    (sym (place_early time seat place seated ∙ late)) (ran station stands place found seated)
 
 pub late_writable : (time : ℕ) (seat : Seat) (old : Recording) (station : Station) → Stands station old → (place : Place)
     → place_for seat.peer station.places ≡ Some place
@@ -364,36 +356,22 @@ late_writable time seat old station stands place found seated there =
 
 -- the seat of a line is a place's
 
-pub did_line : (line : ℕ) (seat : Seat) (step : Place → Station → Step) (old new : Recording) (t t1 : Option (List Turn)) (w w1 : Option (List ℕ))
-    → seat_of line old.seats ≡ Some seat
-    → DidAt seat step old new t t1 w w1
-    → DidSo (λ station. elim (place_of line station.places) [ None ↦ resting station | Some place ↦ step place station ]) old new t t1 w w1
-did_line line seat step old new t t1 w w1 is did station stands =
+pub ran_line : {T : Type 0} (result : Result T Stop) (line : ℕ) (seat : Seat) (step : Place → Station → Step) (old new : Recording)
+    (t t1 : Option (List Turn)) (w w1 : Option (List ℕ)) → seat_of line old.seats ≡ Some seat → RanAt result seat step old new t t1 w w1
+    → RanSo result (λ station. elim (place_of line station.places) [ None ↦ resting station | Some place ↦ step place station ]) old new t t1 w w1
+ran_line result line seat step old new t t1 w w1 is ran station stands =
     let at : FoundAt (λ (place : Place). place.line == line) station.places seat =
     found_at (λ (other : Seat). other.line == line) station.places seat (ap (seat_of line) (sym stands.seats_are) ∙ is) in
     let own : place_for seat.peer station.places ≡ Some at.place =
     subst (λ (s : Seat). place_for s.peer station.places ≡ Some at.place) at.seated (place_found line station.places at.place stands.apart at.found) in
-    subst (λ (found : Option Place). DoesStep old.door (elim found [ None ↦ resting station | Some place ↦ step place station ]) old new t t1 w w1)
+    subst (λ (found : Option Place). Ran result old.door (elim found [ None ↦ resting station | Some place ↦ step place station ]) old new t t1 w w1)
     (sym at.found)
-    (did station stands at.place own at.seated)
+    (ran station stands at.place own at.seated)
 
 pub did_no_line : (line : ℕ) (step : Place → Station → Step) (old : Recording) (t : Option (List Turn)) (w : Option (List ℕ)) → seat_of line old.seats ≡ None
-    → DidSo (λ station. elim (place_of line station.places) [ None ↦ resting station | Some place ↦ step place station ]) old old t t w w
+    → (station : Station) → Stands station old
+    → DoesStep old.door (elim (place_of line station.places) [ None ↦ resting station | Some place ↦ step place station ]) old old t t w w
 did_no_line line step old t w is station stands =
     subst (λ (found : Option Place). DoesStep old.door (elim found [ None ↦ resting station | Some place ↦ step place station ]) old old t t w w)
     (sym (found_none (λ (other : Seat). other.line == line) station.places (ap (seat_of line) (sym stands.seats_are) ∙ is)))
     (does_rest station old t w stands)
-
-pub breaks_line : {L : Type 0}
-    → (line : ℕ) (seat : Seat) (step : Place → Station → Step) (old : Recording) (t t1 : Option (List Turn)) (w w1 : Option (List ℕ))
-    → seat_of line old.seats ≡ Some seat
-    → BreaksIn L seat step old t t1 w w1
-    → BreaksSo L (λ station. elim (place_of line station.places) [ None ↦ resting station | Some place ↦ step place station ]) old t t1 w w1
-breaks_line {L} line seat step old t t1 w w1 is did station stands =
-    let at : FoundAt (λ (place : Place). place.line == line) station.places seat =
-    found_at (λ (other : Seat). other.line == line) station.places seat (ap (seat_of line) (sym stands.seats_are) ∙ is) in
-    let own : place_for seat.peer station.places ≡ Some at.place =
-    subst (λ (s : Seat). place_for s.peer station.places ≡ Some at.place) at.seated (place_found line station.places at.place stands.apart at.found) in
-    subst (λ (found : Option Place). BreaksAt L (elim found as (λ _. Step) [ None ↦ resting station | Some place ↦ step place station ]).deeds
-    old.books t t1 w w1) (sym at.found)
-    (did station stands at.place own at.seated)

@@ -3,15 +3,20 @@ use Rattle.fs_recorder.proofs.PlaceWords.{Bool, List, Option, [], ap, append_ass
 use Rattle.fs_recorder.proofs.PlaceWords.{AllByRecursion, if◌then◌else◌, Grew, Turn, shut, Config, IsWritable, nobody, Recording, items_of, What}
 use Rattle.fs_recorder.proofs.PlaceWords.{Station, Step, checks_peer, follows, hears, AtDoor, door_after, door_with, is_due, late_lines, swept_at}
 use Rattle.fs_recorder.proofs.PlaceWords.{swept_where_due, peers_at, peers_in, resting, seat_at, shuts, sweeps, sweeps_all, sweeps_where_due, then_do}
-use Rattle.fs_recorder.proofs.PlaceWords.{turns_away, BreaksAt, BreaksSo, DidHear, DidSo, DoesStep, Stands}
-use Rattle.fs_recorder.proofs.Doing.{breaks_early, breaks_more, breaks_then, breaks_where, does_ask, does_then, shuts_asked, shuts_items}
+use Rattle.fs_recorder.proofs.PlaceWords.{turns_away, BreaksAt, DoesStep, Stands, Ran, RanHear, RanSo, Stop, Limit, IsErrAnd, Ok, Err, Result}
+use Rattle.fs_recorder.proofs.Doing.{breaks_early, breaks_more, breaks_then, does_ask, does_then, shuts_asked, shuts_items, handed}
 use Rattle.fs_recorder.proofs.Knowing.{Known, known_checks_peer, known_follows, known_sweeps, known_where_due, new_told}
-use Rattle.fs_recorder.proofs.{Stepping.{breaks_both, does_both, does_rest}, Waiting.{stands_door}}
-use Rattle.fs_recorder.specs.{Books.{Booked}, Deeds.{Does, passing}, Laws.{IsShort}, Steps.{Place}}
+use Rattle.fs_recorder.proofs.{Stepping.{does_both, does_rest, ran_then}, Waiting.{stands_door}}
+use Rattle.fs_recorder.specs.Books.{Booked}
+use Rattle.fs_recorder.specs.Deeds.{Does, passing}
+use Rattle.fs_recorder.specs.Laws.{IsShort}
+use Rattle.fs_recorder.specs.Steps.{Place}
 use Rattle.fs_recorder.specs.declared.seats.Seat.{Seat}
-use Rattle.fs_base.specs.{Gate.{what_from}, declared.Came.{Came, TheVariants.{Ended, Made, Nothing, Octets, Taken}}}
+use Rattle.fs_base.specs.Gate.{what_from}
+use Rattle.fs_base.specs.declared.Came.{Came}
+use Rattle.fs_base.specs.declared.Came.TheVariants.{Ended, Made, Nothing, Octets, Taken}
 use Rattle.std.proofs.Common.{arith, drop, get_or, length, take, ◌+◌, ◌<◌, ◌≤◌}
-use Rattle.std.proofs.lemmas.{List.{drop_more, length-drop, length-take, map-append, take-append-drop, take_more}}
+use Rattle.std.proofs.lemmas.List.{drop_more, length-drop, length-take, map-append, take-append-drop, take_more}
 use Rattle.std.specs.Prelude.{map}
 
 -- some peers, and then others
@@ -26,8 +31,8 @@ sweeps_both time (peer ∷ front) later station =
     ∙ ap (λ deeds. record { deeds = deeds; station = last.station }) (sym (append_assoc first.deeds mid.deeds last.deeds))
 
 module _ (time : ℕ) (front : List ℕ) (peer : ℕ) (a b : Recording) (t t1 t2 : Option (List Turn)) (w w1 w2 : Option (List ℕ)) where
-  pub did_more : (c : Recording) → DidSo (sweeps time front) a b t t1 w w1 → DidSo (checks_peer time peer) b c t1 t2 w1 w2
-      → DidSo (sweeps time (front ++ peer ∷ [])) a c t t2 w w2
+  pub did_more : (c : Recording) → RanSo {T = Unit {0}} (Ok tt) (sweeps time front) a b t t1 w w1
+      → RanSo {T = Unit {0}} (Ok tt) (checks_peer time peer) b c t1 t2 w1 w2 → RanSo {T = Unit {0}} (Ok tt) (sweeps time (front ++ peer ∷ [])) a c t t2 w w2
   did_more c did later station stands =
       let one = did station stands in
       let next = later (sweeps time front station).station one.stands in
@@ -37,17 +42,18 @@ module _ (time : ℕ) (front : List ℕ) (peer : ℕ) (a b : Recording) (t t1 t2
       (does_both (sweeps time front station) (sweeps time (peer ∷ [])) a b c t t1 t2 w w1 w2 one single)
 
   -- it was broken off at a peer
-  pub breaks_more_peers : {L M : Type 0} → (later : List ℕ) → (M → L) → DidSo (sweeps time front) a b t t1 w w1
-      → BreaksSo L (checks_peer time peer) b t1 t2 w1 w2
-      → BreaksSo M (sweeps time (front ++ peer ∷ later)) a t t2 w w2
-  breaks_more_peers {L} {M} later named did breaks station stands =
+  pub broke_more : {T : Type 0} {stop : Stop} → (result : Result T Stop) → IsErrAnd result (λ e. e ≡ stop) → (c : Recording) (later : List ℕ)
+      → RanSo {T = Unit {0}} (Ok tt) (sweeps time front) a b t t1 w w1 → RanSo {T = Unit {0}} (Err stop) (checks_peer time peer) b c t1 t2 w1 w2
+      → RanSo result (sweeps time (front ++ peer ∷ later)) a c t t2 w w2
+  broke_more {T} {stop} result same c later did breaks station stands =
       let one = did station stands in
       let mid = (sweeps time front station).station in
       let known = known_checks_peer b.books.desk.config time peer mid one.stands.known in
-      subst (λ (step : Step). BreaksAt M step.deeds a.books t t2 w w2) (sym (sweeps_both time front (peer ∷ later) station))
-      (breaks_both (sweeps time front station) (sweeps time (peer ∷ later)) a b t t1 t2 w w1 w2 one
+      handed result same _ _ _ _
+      (subst (λ (step : Step). BreaksAt (stop ≡ Limit) step.deeds a.books t t2 w w2) (sym (sweeps_both time front (peer ∷ later) station))
+      (ran_then {T = Unit {0}} (Err stop) (sweeps time front station) (sweeps time (peer ∷ later)) a b c t t1 t2 w w1 w2 one
       (breaks_more (checks_peer time peer mid).deeds (sweeps time later (checks_peer time peer mid).station).deeds b.books t1 t2 w1 w2
-      (known_sweeps b.books.desk.config time later (checks_peer time peer mid).station known.known).writable (breaks_where named (breaks mid one.stands))))
+      (known_sweeps b.books.desk.config time later (checks_peer time peer mid).station known.known).writable (breaks mid one.stands))))
 
 -- the peers of seats are those of their places
 peers_same : (places : List Place) → peers_in (map seat_at places) ≡ peers_at places
@@ -57,24 +63,18 @@ peers_same (place ∷ places) = ap (λ peers. place.peer ∷ peers) (peers_same 
 pub peers_are : (old : Recording) (station : Station) → Stands station old → peers_in old.seats ≡ peers_at station.places
 peers_are old station stands = ap peers_in stands.seats_are ∙ peers_same station.places
 
-module _ (time : ℕ) (old : Recording) (t t1 : Option (List Turn)) (w w1 : Option (List ℕ)) where
-  pub did_sweep : (seats : List Seat) (new : Recording) → seats ≡ old.seats → DidSo (sweeps time (peers_in seats)) old new t t1 w w1
-      → DidSo (sweeps_all time) old new t t1 w w1
-  did_sweep seats new same did station stands =
-      subst (λ peers. DoesStep old.door (sweeps time peers station) old new t t1 w w1) (ap peers_in same ∙ peers_are old station stands) (did station stands)
-
-  pub breaks_sweep : {L : Type 0} → (seats : List Seat) → seats ≡ old.seats → BreaksSo L (sweeps time (peers_in seats)) old t t1 w w1
-      → BreaksSo L (sweeps_all time) old t t1 w w1
-  breaks_sweep {L} seats same breaks station stands =
-      subst (λ peers. BreaksAt L (sweeps time peers station).deeds old.books t t1 w w1) (ap peers_in same
-      ∙ peers_are old station stands) (breaks station stands)
+pub ran_sweep : {T : Type 0} (result : Result T Stop) (time : ℕ) (old new : Recording) (t t1 : Option (List Turn)) (w w1 : Option (List ℕ))
+    (seats : List Seat) → seats ≡ old.seats → RanSo result (sweeps time (peers_in seats)) old new t t1 w w1
+    → RanSo result (sweeps_all time) old new t t1 w w1
+ran_sweep result time old new t t1 w w1 seats same ran station stands =
+    subst (λ peers. Ran result old.door (sweeps time peers station) old new t t1 w w1) (ap peers_in same ∙ peers_are old station stands) (ran station stands)
 
 -- it was broken off before it began
-pub breaks_sweep_early : {L : Type 0} → (time : ℕ) (old : Recording) (t : Option (List Turn)) (w : Option (List ℕ)) → (L → ⊥)
-    → BreaksSo L (sweeps_all time) old t t w w
-breaks_sweep_early {L} time old t w never station stands =
-    breaks_early (sweeps_all time station).deeds old.books t w
-    (known_sweeps old.books.desk.config time (peers_at station.places) station stands.known).writable never
+pub broke_sweep : {T : Type 0} {stop : Stop} → (result : Result T Stop) → IsErrAnd result (λ e. e ≡ stop) → (stop ≡ Limit → ⊥) → (time : ℕ)
+    (old new : Recording) (t : Option (List Turn)) (w : Option (List ℕ)) → RanSo result (sweeps_all time) old new t t w w
+broke_sweep result same never time old new t w station stands =
+    handed result same _ _ _ _ (breaks_early (sweeps_all time station).deeds old.books t w
+    (known_sweeps old.books.desk.config time (peers_at station.places) station stands.known).writable never)
 
 -- An event.
 module _ (config : Config) (time : ℕ) (what : What) (old mid : Recording) (t t1 : Option (List Turn)) (w w1 : Option (List ℕ)) where
@@ -93,8 +93,8 @@ module _ (config : Config) (time : ℕ) (what : What) (old mid : Recording) (t t
   hears_at door station = then_do (event_step station) (sweeps_where_due door time)
 
   -- no clock is due
-  pub did_early : is_due mid.door.swept time ≡ false → DidHear behind_event event_step old mid t t1 w w1
-      → DidHear (door_after config time what old.seats old.door) (hears config old.door time what) old mid t t1 w w1
+  pub did_early : is_due mid.door.swept time ≡ false → RanHear {T = Unit {0}} (Ok tt) behind_event event_step old mid t t1 w w1
+      → RanHear {T = Unit {0}} (Ok tt) (door_after config time what old.seats old.door) (hears config old.door time what) old mid t t1 w w1
   did_early e did station stands =
       let one = did station stands in
       let all = does_both (event_step station) resting old mid mid t t1 t1 w w1 w1 one
@@ -106,62 +106,62 @@ module _ (config : Config) (time : ℕ) (what : What) (old mid : Recording) (t t
       (record { does = all.does; stands = all.stands; door_is = refl })))
 
   -- the clock is due
-  module _ (due : is_due mid.door.swept time ≡ true) (did : DidHear behind_event event_step old mid t t1 w w1) (t2 t3 : Option (List Turn))
-      (w2 : Option (List ℕ))
+  module _ (due : is_due mid.door.swept time ≡ true) (did : RanHear {T = Unit {0}} (Ok tt) behind_event event_step old mid t t1 w w1)
+      (t2 t3 : Option (List Turn)) (w2 : Option (List ℕ))
       (away : Grew t1 t2 (map shut (late_lines time mid.door.guests))) where
     turned_away : Does nobody nobody (map shuts (late_lines time mid.door.guests)) mid.books mid.books t1 t2 w1 w1
     turned_away =
         does_ask nobody (map shuts (late_lines time mid.door.guests)) mid.books t1 t2 w1 (shuts_items (late_lines time mid.door.guests))
         (subst (Grew t1 t2) (sym (shuts_asked (late_lines time mid.door.guests))) away)
 
-    pub did_due : (new : Recording) → DidSo (sweeps_all time) (record mid { door = swept_at time mid.door }) new t2 t3 w1 w2
-        → DidHear (door_after config time what old.seats old.door) (hears config old.door time what) old new t t3 w w2
-    did_due new later station stands =
-        let one = did station stands in
-        let next = later (event_step station).station (stands_door (event_step station).station mid (swept_at time mid.door) one.stands) in
-        subst (λ (seats : List Seat). DoesStep (swept_where_due time behind_event) (hears_at (door_with config time what seats old.door) station) old
+    pub ran_due : {T : Type 0} (result : Result T Stop) (new : Recording)
+        → RanSo result (sweeps_all time) (record mid { door = swept_at time mid.door }) new t2 t3 w1 w2
+        → RanHear result (door_after config time what old.seats old.door) (hears config old.door time what) old new t t3 w w2
+    ran_due {T} result new later station stands =
+        subst (λ (seats : List Seat). Ran result (swept_where_due time behind_event) (hears_at (door_with config time what seats old.door) station) old
         new t t3 w w2) stands.seats_are
-        (subst (λ (door : AtDoor). DoesStep (swept_where_due time door) (hears_at door station) old new t t3 w w2) one.door_is
-        (subst (λ (b : Bool). DoesStep (if b then swept_at time mid.door else mid.door) (hears_by b station) old new t t3 w w2) (sym due)
-        (record {
+        (subst (λ (door : AtDoor). Ran result (swept_where_due time door) (hears_at door station) old new t t3 w w2) one.door_is
+        (subst (λ (b : Bool). Ran result (if b then swept_at time mid.door else mid.door) (hears_by b station) old new t t3 w w2) (sym due)
+        (by result (later (event_step station).station (stands_door (event_step station).station mid (swept_at time mid.door) one.stands)))))
+      where
+        one : DoesStep behind_event (event_step station) old mid t t1 w w1
+        one = did station stands
+
+        swept : Step
+        swept = sweeps_all time (event_step station).station
+
+        by : (r : Result T Stop) → Ran r (swept_at time mid.door) swept (record mid { door = swept_at time mid.door }) new t2 t3 w1 w2
+            → Ran r (swept_at time mid.door) (hears_by true station) old new t t3 w w2
+        by (Ok value) next = record {
           does = does_then nobody nobody (event_step station).deeds old.books mid.books t t1 w w1 one.does nobody
-              (map shuts (late_lines time mid.door.guests) ++ (sweeps_all time (event_step station).station).deeds) new.books t3 w2
+              (map shuts (late_lines time mid.door.guests) ++ swept.deeds) new.books t3 w2
               (does_then nobody nobody (map shuts (late_lines time mid.door.guests)) mid.books mid.books t1 t2 w1 w1 turned_away nobody
-              (sweeps_all time (event_step station).station).deeds new.books t3 w2 next.does);
+              swept.deeds new.books t3 w2 next.does);
           stands = next.stands;
           door_is = next.door_is;
-        })))
-
-    -- it was broken off at the clock
-    pub breaks_due : {L : Type 0} → BreaksSo L (sweeps_all time) (record mid { door = swept_at time mid.door }) t2 t3 w1 w2
-        → BreaksSo L (hears config old.door time what) old t t3 w w2
-    breaks_due {L} later station stands =
-        let one = did station stands in
-        let next = later (event_step station).station (stands_door (event_step station).station mid (swept_at time mid.door) one.stands) in
-        subst (λ (seats : List Seat). BreaksAt L (hears_at (door_with config time what seats old.door) station).deeds old.books t t3 w w2) stands.seats_are
-        (subst (λ (door : AtDoor). BreaksAt L (hears_at door station).deeds old.books t t3 w w2) one.door_is
-        (subst (λ (b : Bool). BreaksAt L (hears_by b station).deeds old.books t t3 w w2) (sym due)
-        (breaks_then nobody nobody (event_step station).deeds old.books mid.books t t1 w w1 one.does
-        (map shuts (late_lines time mid.door.guests) ++ (sweeps_all time (event_step station).station).deeds) t3 w2
-        (breaks_then nobody nobody (map shuts (late_lines time mid.door.guests)) mid.books mid.books t1 t2 w1 w1 turned_away
-        (sweeps_all time (event_step station).station).deeds t3 w2 next))))
+        }
+        by (Err stop) next =
+            breaks_then nobody nobody (event_step station).deeds old.books mid.books t t1 w w1 one.does
+            (map shuts (late_lines time mid.door.guests) ++ swept.deeds) t3 w2
+            (breaks_then nobody nobody (map shuts (late_lines time mid.door.guests)) mid.books mid.books t1 t2 w1 w1 turned_away swept.deeds t3 w2 next)
 
 -- it was broken off at the event itself
-pub breaks_follow : {L M : Type 0} → (config : Config) (time : ℕ) (what : What) (old : Recording) (t t1 : Option (List Turn)) (w w1 : Option (List ℕ))
-    → config ≡ old.books.desk.config → IsShort what → (M → L) → BreaksSo L (follows config old.door.guests time what) old t t1 w w1
-    → BreaksSo M (hears config old.door time what) old t t1 w w1
-breaks_follow {L} {M} config time what old t t1 w w1 same short named breaks station stands =
+pub broke_follow : {T : Type 0} {stop : Stop} → (result : Result T Stop) → IsErrAnd result (λ e. e ≡ stop) → (config : Config) (time : ℕ) (what : What)
+    (door : AtDoor) (old new : Recording) (t t1 : Option (List Turn)) (w w1 : Option (List ℕ)) → config ≡ old.books.desk.config → IsShort what
+    → RanSo {T = Unit {0}} (Err stop) (follows config old.door.guests time what) old new t t1 w w1
+    → RanHear result door (hears config old.door time what) old new t t1 w w1
+broke_follow {T} {stop} result same config time what door old new t t1 w w1 is short breaks station stands =
     let first = follows config old.door.guests time what station in
     let door = door_with config time what (map seat_at station.places) old.door in
-    let broken : BreaksAt M first.deeds old.books t t1 w w1 = breaks_where named (breaks station stands) in
-    let known : Known config station = subst (λ c. Known c station) (sym same) stands.known in
+    let broken : BreaksAt (stop ≡ Limit) first.deeds old.books t t1 w w1 = breaks station stands in
+    let known : Known config station = subst (λ c. Known c station) (sym is) stands.known in
     let writable : AllByRecursion (IsWritable config) (items_of first.deeds) =
-    subst (λ c. AllByRecursion (IsWritable c) (items_of first.deeds)) (sym same) broken.writable in
+    subst (λ c. AllByRecursion (IsWritable c) (items_of first.deeds)) (sym is) broken.writable in
     let step = known_follows config old.door.guests time what station known short (new_told config old.door.guests time what station writable) in
-    breaks_more first.deeds (sweeps_where_due door time first.station).deeds old.books t t1 w w1
-    (subst (λ c. AllByRecursion (IsWritable c) (items_of (sweeps_where_due door time first.station).deeds)) same
+    handed result same _ _ _ _ (breaks_more first.deeds (sweeps_where_due door time first.station).deeds old.books t t1 w w1
+    (subst (λ c. AllByRecursion (IsWritable c) (items_of (sweeps_where_due door time first.station).deeds)) is
     (known_where_due config time door first.station step.known).writable)
-    broken
+    broken)
 
 -- the peers of the seats up to one, and of those behind it
 

@@ -3,6 +3,7 @@ pub use Rattle.std.proofs.Common.{Bool, Err, List, None, Ok, Option, Result, Som
 pub use Rattle.std.proofs.Common.{append_assoc, arith, drop, false, filter, length, length-append, not, refl, rules, subst, sym, take, true, ℕ, ◌++◌}
 pub use Rattle.std.proofs.Common.{◌+◌, ◌-◌, ◌<◌, ◌&&◌, ◌==◌, ◌||◌, ◌^◌, ◌∙◌, ◌∷◌, ◌≡◌, ◌≢◌, ◌≤◌, ◌⊎◌}
 pub use Rattle.std.proofs.{lemmas.{List.{append-nil, length-drop, take_all}}, Math.Seq.{drop-append_seam}}
+pub use Rattle.std.specs.Result.{IsErrAnd, IsErrOf}
 pub use Rattle.std.specs.{List.{AllByRecursion}, Prelude.{IfOk, IsSome, is_some, nat_lt, OnErr, OnOk, find, flat_map, if◌then◌else◌}}
 pub use Rattle.fs_base.proofs.{NumberTests.{eq_itself}, Grew.{Grew-refl, Grew-trans, on_err, part_more, part_then, part_whole}}
 pub use Rattle.fs_base.specs.{Config.{peer_of}, Gate.{Turn, said, shut}, Sink.{Grew, GrewPart}, declared.config.{Config.{Config}, Peer.{Peer}}}
@@ -23,4 +24,6 @@ pub use Rattle.fs_recorder.specs.Steps.{Place, Station, Step, checks, doing, exp
 pub use Rattle.fs_recorder.specs.Steps.{is_early, is_established, moved, octets_of, peers_at, place_for, place_of, places_without, receives}
 pub use Rattle.fs_recorder.specs.Steps.{replies_to, resting, seat_at, settles, speaks, then_do, wakes, woken}
 pub use Rattle.fs_recorder.specs.{Tapes.{Scribed, items_in, last_of, longer_by}, Door.{AtDoor, open_time}, declared.seats.Seat.{Seat}}
-pub use Rattle.fs_recorder.specs.Works.{AreApart, BreaksAt, BreaksIn, BreaksSo, DidAt, DidSo, DoesStep, IsOpenAt, Left, Settled, Stands, WakesSo}
+pub use Rattle.fs_recorder.specs.Works.{Answered, AreApart, BreaksAt, DoesStep, IsOpenAt, Left, Ran, RanAnswer, RanAt, RanHear, RanSeat, RanSo}
+pub use Rattle.fs_recorder.specs.Works.{Settled, Stands, WakesSo}
+pub use Rattle.fs_recorder.specs.declared.stop.Stop.{Stop, TheVariants.{Limit, Memory}}

@@ -1,19 +1,17 @@
 //! The sessions with all configured peers, each over a connection of its own, and the tape of what they say.
 
-ghost use Rattle.std.specs.{Prelude.{◌≡◌, ◌≤◌, ◌+◌, ℕ, Bool, true, false, [], IfOk, IfSome, IsSome, OnOk, OnErr, drop, length, not}, Result.{IsErrOf}};
+ghost use Rattle.std.specs.{Prelude.{◌≡◌, ◌≤◌, ℕ, Bool, [], IfOk, IfSome, IsSome, OnOk, OnErr, drop, length}, Result.{IsErrOf}};
 ghost use Rattle.fs_base.specs.{Config.{peer_of}, Gate.{FitsIn, taken, what_from}, Outside.{Rose}, Sink.{Grew, GrewPart}};
 ghost use Rattle.fs_tape.specs.{Magic.{magic_of}, Tape.{was_lost}, declared.magic.Version.TheVariants.{Two}};
-ghost use Rattle.fs_desk.specs.Desk.{expired_after, standing_at_desk};
+ghost use Rattle.fs_desk.specs.Desk.{expired_after};
 ghost use Rattle.fs_recorder.specs.Books.{Agrees, Tells, TellsPart};
-ghost use Rattle.fs_recorder.specs.Deeds.{AreKnown, Does, IsKnown, StayKnown, answered, asked_in, behind_answer, is_closed, leaves, passing, says};
-ghost use Rattle.fs_recorder.specs.Deeds.{stands_established};
+ghost use Rattle.fs_recorder.specs.Deeds.{AreKnown, Does, IsKnown, StayKnown, asked_in, is_closed, leaves, passing, says, stands_established};
 ghost use Rattle.fs_recorder.specs.Door.{empty_door, without_guest};
 ghost use Rattle.fs_recorder.specs.Steps.{admits, checks, checks_peer, comes, door_after, door_with, empty_station, ends, follows, gives, hears};
-ghost use Rattle.fs_recorder.specs.Steps.{hears_octets, hurries_where_new, is_established, peer_for, peers_in, receives, replaces, seats_one, speaks};
+ghost use Rattle.fs_recorder.specs.Steps.{hears_octets, hurries_where_new, is_established, peer_for, peers_in, receives, replaces, speaks};
 ghost use Rattle.fs_recorder.specs.Steps.{sweeps, sweeps_all, takes, vacates, waits, wakes};
 ghost use Rattle.fs_recorder.specs.Tapes.{begun};
-ghost use Rattle.fs_recorder.specs.Works.{BreaksAt, BreaksIn, BreaksQuietly, BreaksSo, DidAt, DidHear, DidQuietly, DidSeat, DidSo, Left, Settled};
-ghost use Rattle.fs_recorder.specs.Works.{Stands, WakesSo};
+ghost use Rattle.fs_recorder.specs.Works.{BreaksAt, Left, RanAnswer, RanAt, RanHear, RanQuietly, RanSeat, RanSo, Stands, WakesSo};
 
 use crate::books::Books;
 use crate::door::{Door, Guest, has_time, said_as};
@@ -101,16 +99,12 @@ impl<'a> Recorder<'a> {
         ensures later { S.faults sink.old ≤ S.faults sink.new }
         ensures failed { IsErrOf result Stop.Failed → Rose (S.faults sink.old) (S.faults sink.new) }
         ensures size { length buffer.new ≡ length buffer.old }
-        ensures did { OnOk result (DidHear
+        ensures ran { RanHear result
             (door_after self.old.books.desk.config event.time (what_from event.came (drop 15 buffer.old)) self.old.seats self.old.door)
             (hears self.old.books.desk.config self.old.door event.time (what_from event.came (drop 15 buffer.old)))
             (passing event.moment self.old) self.new
-            (G.turns gate.old) (G.turns gate.new) (S.written sink.old) (S.written sink.new)) }
+            (G.turns gate.old) (G.turns gate.new) (S.written sink.old) (S.written sink.new) }
         ensures stay { OnOk result (StayKnown (passing event.moment self.old) self.new) }
-        ensures breaks { OnErr result (BreaksSo (IsErrOf result Stop.Limit)
-            (hears self.old.books.desk.config self.old.door event.time (what_from event.came (drop 15 buffer.old)))
-            (passing event.moment self.old)
-            (G.turns gate.old) (G.turns gate.new) (S.written sink.old) (S.written sink.new)) }
     {
         self.books.pass(event.moment);
         self.follow(event, buffer, gate, sink)?;
@@ -137,15 +131,12 @@ impl<'a> Recorder<'a> {
         ensures later { S.faults sink.old ≤ S.faults sink.new }
         ensures failed { IsErrOf result Stop.Failed → Rose (S.faults sink.old) (S.faults sink.new) }
         ensures size { length buffer.new ≡ length buffer.old }
-        ensures did { OnOk result (DidHear
+        ensures ran { RanHear result
             (door_with self.old.books.desk.config event.time (what_from event.came (drop 15 buffer.old)) self.old.seats self.old.door)
             (follows self.old.books.desk.config self.old.door.guests event.time (what_from event.came (drop 15 buffer.old)))
             self.old self.new
-            (G.turns gate.old) (G.turns gate.new) (S.written sink.old) (S.written sink.new)) }
+            (G.turns gate.old) (G.turns gate.new) (S.written sink.old) (S.written sink.new) }
         ensures stay { OnOk result (StayKnown self.old self.new) }
-        ensures breaks { OnErr result (BreaksSo (IsErrOf result Stop.Limit)
-            (follows self.old.books.desk.config self.old.door.guests event.time (what_from event.came (drop 15 buffer.old))) self.old
-            (G.turns gate.old) (G.turns gate.new) (S.written sink.old) (S.written sink.new)) }
     {
         match event.came {
             Came::Taken { line, from } => self.come(line, from, event.time, gate, sink),
@@ -175,14 +166,11 @@ impl<'a> Recorder<'a> {
         ensures still { G.faults gate.new ≡ G.faults gate.old }
         ensures later { S.faults sink.old ≤ S.faults sink.new }
         ensures failed { IsErrOf result Stop.Failed → Rose (S.faults sink.old) (S.faults sink.new) }
-        ensures did { OnOk result (DidHear
+        ensures ran { RanHear result
             (door_with self.old.books.desk.config time (taken line from) self.old.seats self.old.door)
             (comes self.old.books.desk.config line from time self.old.door.guests) self.old self.new
-            (G.turns gate.old) (G.turns gate.new) (S.written sink.old) (S.written sink.new)) }
+            (G.turns gate.old) (G.turns gate.new) (S.written sink.old) (S.written sink.new) }
         ensures stay { OnOk result (StayKnown self.old self.new) }
-        ensures breaks { OnErr result (BreaksSo (IsErrOf result Stop.Limit)
-            (comes self.old.books.desk.config line from time self.old.door.guests) self.old
-            (G.turns gate.old) (G.turns gate.new) (S.written sink.old) (S.written sink.new)) }
     {
         if self.waits(from) {
             let since = time;
@@ -215,11 +203,9 @@ impl<'a> Recorder<'a> {
         ensures still { G.faults gate.new ≡ G.faults gate.old }
         ensures later { S.faults sink.old ≤ S.faults sink.new }
         ensures failed { IsErrOf result Stop.Failed → Rose (S.faults sink.old) (S.faults sink.new) }
-        ensures did { OnOk result (DidSo (takes self.old.books.desk.config line from told since) self.old self.new
-            (G.turns gate.old) (G.turns gate.new) (S.written sink.old) (S.written sink.new)) }
+        ensures ran { RanSo result (takes self.old.books.desk.config line from told since) self.old self.new
+            (G.turns gate.old) (G.turns gate.new) (S.written sink.old) (S.written sink.new) }
         ensures stay { OnOk result (StayKnown self.old self.new) }
-        ensures breaks { OnErr result (BreaksSo (IsErrOf result Stop.Limit) (takes self.old.books.desk.config line from told since) self.old
-            (G.turns gate.old) (G.turns gate.new) (S.written sink.old) (S.written sink.new)) }
     {
         match self.peer_for(from, told) {
             Some(peer) => self.replace(line, peer, since, gate, sink),
@@ -260,11 +246,9 @@ impl<'a> Recorder<'a> {
         ensures still { G.faults gate.new ≡ G.faults gate.old }
         ensures later { S.faults sink.old ≤ S.faults sink.new }
         ensures failed { IsErrOf result Stop.Failed → Rose (S.faults sink.old) (S.faults sink.new) }
-        ensures did { OnOk result (DidSo (replaces line peer since) self.old self.new
-            (G.turns gate.old) (G.turns gate.new) (S.written sink.old) (S.written sink.new)) }
+        ensures ran { RanSo result (replaces line peer since) self.old self.new
+            (G.turns gate.old) (G.turns gate.new) (S.written sink.old) (S.written sink.new) }
         ensures stay { OnOk result (StayKnown self.old self.new) }
-        ensures breaks { OnErr result (BreaksSo (IsErrOf result Stop.Limit) (replaces line peer since) self.old
-            (G.turns gate.old) (G.turns gate.new) (S.written sink.old) (S.written sink.new)) }
     {
         self.vacate(peer, gate, sink)?;
         self.seat(Seat { line, peer, since }, sink)
@@ -281,12 +265,10 @@ impl<'a> Recorder<'a> {
         ensures still { G.faults gate.new ≡ G.faults gate.old }
         ensures later { S.faults sink.old ≤ S.faults sink.new }
         ensures failed { IsErrOf result Stop.Failed → Rose (S.faults sink.old) (S.faults sink.new) }
-        ensures did { OnOk result (DidSo (vacates peer) self.old self.new
-            (G.turns gate.old) (G.turns gate.new) (S.written sink.old) (S.written sink.new)) }
+        ensures ran { RanSo result (vacates peer) self.old self.new
+            (G.turns gate.old) (G.turns gate.new) (S.written sink.old) (S.written sink.new) }
         ensures config { OnOk result (self.new.books.desk.config ≡ self.old.books.desk.config) }
         ensures stay { OnOk result (StayKnown self.old self.new) }
-        ensures breaks { OnErr result (BreaksSo (IsErrOf result Stop.Limit) (vacates peer) self.old
-            (G.turns gate.old) (G.turns gate.new) (S.written sink.old) (S.written sink.new)) }
     {
         match seat_for(&self.seats, peer) {
             Some(seat) => self.dismiss(seat, gate, sink),
@@ -300,9 +282,7 @@ impl<'a> Recorder<'a> {
         ensures later { S.faults sink.old ≤ S.faults sink.new }
         ensures failed { IsErrOf result Stop.Failed → Rose (S.faults sink.old) (S.faults sink.new) }
         ensures stay { OnOk result (StayKnown self.old self.new) }
-        ensures did { OnOk result (DidSeat seat self.old self.new (S.written sink.old) (S.written sink.new)) }
-        ensures breaks { OnErr result (BreaksQuietly (IsErrOf result Stop.Limit)
-            (seats_one seat) self.old (S.written sink.old) (S.written sink.new)) }
+        ensures ran { RanSeat result seat self.old self.new (S.written sink.old) (S.written sink.new) }
     {
         self.books.up(seat.peer, sink)?;
         add(&mut self.seats, seat)?;
@@ -354,9 +334,7 @@ impl<'a> Recorder<'a> {
         ensures later { S.faults sink.old ≤ S.faults sink.new }
         ensures failed { IsErrOf result Stop.Failed → Rose (S.faults sink.old) (S.faults sink.new) }
         ensures stay { OnOk result (StayKnown self.old self.new) }
-        ensures did { OnOk result (DidQuietly (ends line) self.old self.new (S.written sink.old) (S.written sink.new)) }
-        ensures breaks { OnErr result (BreaksQuietly (IsErrOf result Stop.Limit)
-            (ends line) self.old (S.written sink.old) (S.written sink.new)) }
+        ensures ran { RanQuietly result (ends line) self.old self.new (S.written sink.old) (S.written sink.new) }
     {
         match seat_of(&self.seats, line) {
             Some(seat) => self.lose(seat, sink),
@@ -379,13 +357,10 @@ impl<'a> Recorder<'a> {
         ensures still { G.faults gate.new ≡ G.faults gate.old }
         ensures later { S.faults sink.old ≤ S.faults sink.new }
         ensures failed { IsErrOf result Stop.Failed → Rose (S.faults sink.old) (S.faults sink.new) }
-        ensures did { OnOk result (DidHear (without_guest line self.old.door)
+        ensures ran { RanHear result (without_guest line self.old.door)
             (gives self.old.books.desk.config line time (drop 15 piece.old) self.old.door.guests) self.old self.new
-            (G.turns gate.old) (G.turns gate.new) (S.written sink.old) (S.written sink.new)) }
+            (G.turns gate.old) (G.turns gate.new) (S.written sink.old) (S.written sink.new) }
         ensures stay { OnOk result (StayKnown self.old self.new) }
-        ensures breaks { OnErr result (BreaksSo (IsErrOf result Stop.Limit)
-            (gives self.old.books.desk.config line time (drop 15 piece.old) self.old.door.guests) self.old
-            (G.turns gate.old) (G.turns gate.new) (S.written sink.old) (S.written sink.new)) }
     {
         self.admit(line, &piece[HEAD_SIZE..], gate, sink)?;
         self.octets(line, time, piece, gate, sink)
@@ -403,13 +378,10 @@ impl<'a> Recorder<'a> {
         ensures still { G.faults gate.new ≡ G.faults gate.old }
         ensures later { S.faults sink.old ≤ S.faults sink.new }
         ensures failed { IsErrOf result Stop.Failed → Rose (S.faults sink.old) (S.faults sink.new) }
-        ensures did { OnOk result (DidHear (without_guest line self.old.door)
+        ensures ran { RanHear result (without_guest line self.old.door)
             (admits self.old.books.desk.config line octets.now self.old.door.guests) self.old self.new
-            (G.turns gate.old) (G.turns gate.new) (S.written sink.old) (S.written sink.new)) }
+            (G.turns gate.old) (G.turns gate.new) (S.written sink.old) (S.written sink.new) }
         ensures stay { OnOk result (StayKnown self.old self.new) }
-        ensures breaks { OnErr result (BreaksSo (IsErrOf result Stop.Limit)
-            (admits self.old.books.desk.config line octets.now self.old.door.guests) self.old
-            (G.turns gate.old) (G.turns gate.new) (S.written sink.old) (S.written sink.new)) }
     {
         match self.door.call(line) {
             Some(guest) => {
@@ -435,12 +407,9 @@ impl<'a> Recorder<'a> {
         ensures still { G.faults gate.new ≡ G.faults gate.old }
         ensures later { S.faults sink.old ≤ S.faults sink.new }
         ensures failed { IsErrOf result Stop.Failed → Rose (S.faults sink.old) (S.faults sink.new) }
-        ensures did { OnOk result (DidSo (hears_octets self.old.books.desk.config line time (drop 15 piece.old)) self.old self.new
-            (G.turns gate.old) (G.turns gate.new) (S.written sink.old) (S.written sink.new)) }
+        ensures ran { RanSo result (hears_octets self.old.books.desk.config line time (drop 15 piece.old)) self.old self.new
+            (G.turns gate.old) (G.turns gate.new) (S.written sink.old) (S.written sink.new) }
         ensures stay { OnOk result (StayKnown self.old self.new) }
-        ensures breaks { OnErr result (BreaksSo (IsErrOf result Stop.Limit)
-            (hears_octets self.old.books.desk.config line time (drop 15 piece.old)) self.old
-            (G.turns gate.old) (G.turns gate.new) (S.written sink.old) (S.written sink.new)) }
     {
         match seat_of(&self.seats, line) {
             Some(seat) => self.speak(seat, time, piece, gate, sink),
@@ -463,12 +432,9 @@ impl<'a> Recorder<'a> {
         ensures still { G.faults gate.new ≡ G.faults gate.old }
         ensures later { S.faults sink.old ≤ S.faults sink.new }
         ensures failed { IsErrOf result Stop.Failed → Rose (S.faults sink.old) (S.faults sink.new) }
-        ensures did { OnOk result (DidAt seat (λ place. speaks self.old.books.desk.config time place (drop 15 piece.old)) self.old self.new
-            (G.turns gate.old) (G.turns gate.new) (S.written sink.old) (S.written sink.new)) }
+        ensures ran { RanAt result seat (λ place. speaks self.old.books.desk.config time place (drop 15 piece.old)) self.old self.new
+            (G.turns gate.old) (G.turns gate.new) (S.written sink.old) (S.written sink.new) }
         ensures stay { OnOk result (StayKnown self.old self.new) }
-        ensures breaks { OnErr result (BreaksIn (IsErrOf result Stop.Limit)
-            seat (λ place. speaks self.old.books.desk.config time place (drop 15 piece.old)) self.old
-            (G.turns gate.old) (G.turns gate.new) (S.written sink.old) (S.written sink.new)) }
     {
         let is_open = self.wake(seat, time, gate, sink)?;
         if !is_open {
@@ -491,12 +457,9 @@ impl<'a> Recorder<'a> {
         ensures still { G.faults gate.new ≡ G.faults gate.old }
         ensures later { S.faults sink.old ≤ S.faults sink.new }
         ensures failed { IsErrOf result Stop.Failed → Rose (S.faults sink.old) (S.faults sink.new) }
-        ensures did { OnOk result (DidAt seat (λ place. receives self.old.books.desk.config place (drop 15 piece.old)) self.old self.new
-            (G.turns gate.old) (G.turns gate.new) (S.written sink.old) (S.written sink.new)) }
+        ensures ran { RanAt result seat (λ place. receives self.old.books.desk.config place (drop 15 piece.old)) self.old self.new
+            (G.turns gate.old) (G.turns gate.new) (S.written sink.old) (S.written sink.new) }
         ensures stay { OnOk result (StayKnown self.old self.new) }
-        ensures breaks { OnErr result (BreaksIn (IsErrOf result Stop.Limit)
-            seat (λ place. receives self.old.books.desk.config place (drop 15 piece.old)) self.old
-            (G.turns gate.old) (G.turns gate.new) (S.written sink.old) (S.written sink.new)) }
     {
         self.replies.clear();
         self.books
@@ -517,11 +480,9 @@ impl<'a> Recorder<'a> {
         ensures still { G.faults gate.new ≡ G.faults gate.old }
         ensures later { S.faults sink.old ≤ S.faults sink.new }
         ensures failed { IsErrOf result Stop.Failed → Rose (S.faults sink.old) (S.faults sink.new) }
-        ensures did { OnOk result (DidAt seat (wakes time) self.old self.new
-            (G.turns gate.old) (G.turns gate.new) (S.written sink.old) (S.written sink.new)) }
+        ensures ran { RanAt result seat (wakes time) self.old self.new
+            (G.turns gate.old) (G.turns gate.new) (S.written sink.old) (S.written sink.new) }
         ensures stay { OnOk result (StayKnown self.old self.new) }
-        ensures breaks { OnErr result (BreaksIn (IsErrOf result Stop.Limit) seat (wakes time) self.old
-            (G.turns gate.old) (G.turns gate.new) (S.written sink.old) (S.written sink.new)) }
         ensures lives { IfOk result (λ lives. WakesSo time seat self.old lives) }
         ensures config { OnOk result (self.new.books.desk.config ≡ self.old.books.desk.config) }
     {
@@ -541,16 +502,9 @@ impl<'a> Recorder<'a> {
         ensures still { G.faults gate.new ≡ G.faults gate.old }
         ensures later { S.faults sink.old ≤ S.faults sink.new }
         ensures failed { IsErrOf result Stop.Failed → Rose (S.faults sink.old) (S.faults sink.new) }
-        ensures closes { IfOk result (λ lives. is_closed (standing_at_desk self.old.books.desk seat.peer) ≡ not lives) }
-        ensures answers { IfOk result (λ lives. (expired : ℕ → Bool)
-            → Does expired (behind_answer lives seat.peer expired) (answered lives seat self.old.replies)
-            self.old.books self.new.books
-            (G.turns gate.old) (G.turns gate.new) (S.written sink.old) (S.written sink.new)) }
+        ensures answered { RanAnswer result seat self.old self.new
+            (G.turns gate.old) (G.turns gate.new) (S.written sink.old) (S.written sink.new) }
         ensures stay { OnOk result (StayKnown self.old self.new) }
-        ensures settled { IfOk result (λ lives. Settled lives seat self.old self.new) }
-        ensures shut { OnErr result (is_closed (standing_at_desk self.old.books.desk seat.peer) ≡ true) }
-        ensures breaks { OnErr result (BreaksAt (IsErrOf result Stop.Limit) (answered false seat self.old.replies) self.old.books
-            (G.turns gate.old) (G.turns gate.new) (S.written sink.old) (S.written sink.new)) }
     {
         self.say(seat.line, gate);
         if !is_closed(self.books.standing(seat.peer)) {
@@ -578,11 +532,9 @@ impl<'a> Recorder<'a> {
         ensures still { G.faults gate.new ≡ G.faults gate.old }
         ensures later { S.faults sink.old ≤ S.faults sink.new }
         ensures failed { IsErrOf result Stop.Failed → Rose (S.faults sink.old) (S.faults sink.new) }
-        ensures did { OnOk result (DidSo (sweeps_all time) self.old self.new
-            (G.turns gate.old) (G.turns gate.new) (S.written sink.old) (S.written sink.new)) }
+        ensures ran { RanSo result (sweeps_all time) self.old self.new
+            (G.turns gate.old) (G.turns gate.new) (S.written sink.old) (S.written sink.new) }
         ensures stay { OnOk result (StayKnown self.old self.new) }
-        ensures breaks { OnErr result (BreaksSo (IsErrOf result Stop.Limit) (sweeps_all time) self.old
-            (G.turns gate.old) (G.turns gate.new) (S.written sink.old) (S.written sink.new)) }
     {
         let seats = self.seats.clone()?;
         self.check_each(&seats, time, gate, sink)
@@ -600,11 +552,9 @@ impl<'a> Recorder<'a> {
         ensures still { G.faults gate.new ≡ G.faults gate.old }
         ensures later { S.faults sink.old ≤ S.faults sink.new }
         ensures failed { IsErrOf result Stop.Failed → Rose (S.faults sink.old) (S.faults sink.new) }
-        ensures did { OnOk result (DidSo (sweeps time (peers_in seats.now)) self.old self.new
-            (G.turns gate.old) (G.turns gate.new) (S.written sink.old) (S.written sink.new)) }
+        ensures ran { RanSo result (sweeps time (peers_in seats.now)) self.old self.new
+            (G.turns gate.old) (G.turns gate.new) (S.written sink.old) (S.written sink.new) }
         ensures stay { OnOk result (StayKnown self.old self.new) }
-        ensures breaks { OnErr result (BreaksSo (IsErrOf result Stop.Limit) (sweeps time (peers_in seats.now)) self.old
-            (G.turns gate.old) (G.turns gate.new) (S.written sink.old) (S.written sink.new)) }
     {
         for seat in seats {
             self.check_peer(seat.peer, time, gate, sink)?;
@@ -624,11 +574,9 @@ impl<'a> Recorder<'a> {
         ensures still { G.faults gate.new ≡ G.faults gate.old }
         ensures later { S.faults sink.old ≤ S.faults sink.new }
         ensures failed { IsErrOf result Stop.Failed → Rose (S.faults sink.old) (S.faults sink.new) }
-        ensures did { OnOk result (DidSo (checks_peer time peer) self.old self.new
-            (G.turns gate.old) (G.turns gate.new) (S.written sink.old) (S.written sink.new)) }
+        ensures ran { RanSo result (checks_peer time peer) self.old self.new
+            (G.turns gate.old) (G.turns gate.new) (S.written sink.old) (S.written sink.new) }
         ensures stay { OnOk result (StayKnown self.old self.new) }
-        ensures breaks { OnErr result (BreaksSo (IsErrOf result Stop.Limit) (checks_peer time peer) self.old
-            (G.turns gate.old) (G.turns gate.new) (S.written sink.old) (S.written sink.new)) }
     {
         match seat_for(&self.seats, peer) {
             Some(seat) => self.check(seat, time, gate, sink),
@@ -648,11 +596,9 @@ impl<'a> Recorder<'a> {
         ensures still { G.faults gate.new ≡ G.faults gate.old }
         ensures later { S.faults sink.old ≤ S.faults sink.new }
         ensures failed { IsErrOf result Stop.Failed → Rose (S.faults sink.old) (S.faults sink.new) }
-        ensures did { OnOk result (DidAt seat (checks time) self.old self.new
-            (G.turns gate.old) (G.turns gate.new) (S.written sink.old) (S.written sink.new)) }
+        ensures ran { RanAt result seat (checks time) self.old self.new
+            (G.turns gate.old) (G.turns gate.new) (S.written sink.old) (S.written sink.new) }
         ensures stay { OnOk result (StayKnown self.old self.new) }
-        ensures breaks { OnErr result (BreaksIn (IsErrOf result Stop.Limit) seat (checks time) self.old
-            (G.turns gate.old) (G.turns gate.new) (S.written sink.old) (S.written sink.new)) }
     {
         let is_open = self.wake(seat, time, gate, sink)?;
         if !is_open {
@@ -675,11 +621,9 @@ impl<'a> Recorder<'a> {
         ensures still { G.faults gate.new ≡ G.faults gate.old }
         ensures later { S.faults sink.old ≤ S.faults sink.new }
         ensures failed { IsErrOf result Stop.Failed → Rose (S.faults sink.old) (S.faults sink.new) }
-        ensures did { OnOk result (DidAt seat hurries_where_new self.old self.new
-            (G.turns gate.old) (G.turns gate.new) (S.written sink.old) (S.written sink.new)) }
+        ensures ran { RanAt result seat hurries_where_new self.old self.new
+            (G.turns gate.old) (G.turns gate.new) (S.written sink.old) (S.written sink.new) }
         ensures stay { OnOk result (StayKnown self.old self.new) }
-        ensures breaks { OnErr result (BreaksIn (IsErrOf result Stop.Limit) seat hurries_where_new self.old
-            (G.turns gate.old) (G.turns gate.new) (S.written sink.old) (S.written sink.new)) }
     {
         if is_established(self.books.standing(seat.peer)) {
             return Ok(());

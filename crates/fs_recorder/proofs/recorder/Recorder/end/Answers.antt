@@ -1,5 +1,4 @@
-use Rattle.fs_recorder.proofs.{Words.{ap, sym, ◌==◌, ◌∙◌, Recording, Seat, seat_of}, Doing.{err_to}, Seating.{known_found}}
-use Rattle.fs_recorder.proofs.Connecting.{breaks_end, did_end, did_end_none, ok_both}
+use Rattle.fs_recorder.proofs.{Words.{ap, sym, ◌==◌, ◌∙◌, Recording, Seat, seat_of}, Seating.{known_found}, Connecting.{did_end_none, ran_end}}
 use Rattle.fs_recorder.proofs.recorder.Recorder.end.Goals as goal
 
 pub lose-requires : goal.lose-requires
@@ -8,21 +7,14 @@ lose-requires g c =
     (ap (λ (r : Recording). seat_of c.args.line r.seats) (sym c.self.view_is) ∙ ap (seat_of c.args.line) (sym c.deref.ensures.value)
     ∙ sym c.seat_of.ensures ∙ c.in-Some.is)
 
-pub returns-in-Some-clause-did : goal.returns-in-Some-clause-did
-returns-in-Some-clause-did g c = ok_both c.lose.result c.lose.ensures.told c.lose.ensures.left
-    (λ told left. did_end c.args.line c.in-Some.seat c.args.self.now c.lose.new.self _ _
+pub returns-in-Some-clause-ran : goal.returns-in-Some-clause-ran
+returns-in-Some-clause-ran g c =
+    ran_end c.lose.result c.args.line c.in-Some.seat c.args.self.now c.lose.new.self _ _
     (ap (λ (r : Recording). seat_of c.args.line r.seats) (sym c.self.view_is) ∙ ap (seat_of c.args.line) (sym c.deref.ensures.value)
     ∙ sym c.seat_of.ensures ∙ c.in-Some.is)
-    told left)
+    c.lose.ensures.told c.lose.ensures.left c.lose.ensures.err
 
-pub returns-in-Some-clause-breaks : goal.returns-in-Some-clause-breaks
-returns-in-Some-clause-breaks g c = err_to c.lose.result c.lose.ensures.err
-    (λ part. breaks_end c.args.line c.in-Some.seat c.args.self.now _ _
-    (ap (λ (r : Recording). seat_of c.args.line r.seats) (sym c.self.view_is) ∙ ap (seat_of c.args.line) (sym c.deref.ensures.value)
-    ∙ sym c.seat_of.ensures ∙ c.in-Some.is)
-    part)
-
-pub returns-in-None-clause-did : goal.returns-in-None-clause-did
-returns-in-None-clause-did g c = did_end_none c.args.line c.args.self.now _
+pub returns-in-None-clause-ran : goal.returns-in-None-clause-ran
+returns-in-None-clause-ran g c = did_end_none c.args.line c.args.self.now _
     (ap (λ (r : Recording). seat_of c.args.line r.seats) (sym c.self.view_is) ∙ ap (seat_of c.args.line) (sym c.deref.ensures.value)
     ∙ sym c.seat_of.ensures ∙ c.in-None.is)

@@ -1,30 +1,28 @@
-use Rattle.fs_recorder.proofs.Words.{ap, on_err, subst, sym, ◌∙◌, ◌++◌, ◌∷◌, [], refl, part_whole, IsKnown, Recording}
-use Rattle.fs_recorder.proofs.{Seating.{known_added}, Connecting.{breaks_seat, did_seat}, Doing.{handed_on, no_memory}, Telling.{part_where}}
-use Rattle.fs_recorder.specs.{Steps.{seats_one}, Works.{BreaksQuietly, DidSeat}}
-use Rattle.std.specs.Result.{IsErrOf}
-use Rattle.fs_recorder.specs.declared.stop.Stop.TheVariants.{Limit}
+use Rattle.fs_recorder.proofs.Words.{Limit, Memory, TellsPart, came_up, ◌≡◌, ap, subst, sym, ◌∙◌, ◌++◌, ◌∷◌, [], refl, part_whole, IsKnown}
+use Rattle.fs_recorder.proofs.Words.{Recording, RanSeat, Ok, Err}
+use Rattle.fs_recorder.proofs.{Seating.{known_added}, Connecting.{did_seat, broke_seat}, Telling.{part_where}}
 use Rattle.fs_recorder.proofs.recorder.Recorder.seat.Goals as goal
 
-pub returns-in_err-up-clause-breaks : goal.returns-in_err-up-clause-breaks
-returns-in_err-up-clause-breaks g c = on_err c.from_residual.result
-    (subst (λ (r : Recording). BreaksQuietly (IsErrOf c.from_residual.result Limit) (seats_one c.args.seat) r (g.S.Sink.written c.args.sink.now)
-    (g.S.Sink.written c.up.new.sink)) c.self.view_is
-    (breaks_seat c.args.seat _ _ _ (part_where (handed_on c.in_err-up.field-0.0 c.from_residual.result c.from_residual.ensures.1) c.in_err-up.ensures.err)))
+pub returns-in_err-up-clause-ran : goal.returns-in_err-up-clause-ran
+returns-in_err-up-clause-ran g c =
+    broke_seat c.from_residual.result c.from_residual.ensures.1 c.args.seat c.args.self.now _ _ _
+    (subst (λ (r : Recording). TellsPart (c.in_err-up.field-0.0 ≡ Limit) (came_up c.args.seat.peer) r.books (g.S.Sink.written c.args.sink.now)
+    (g.S.Sink.written c.up.new.sink)) c.self.view_is (part_where (ap Err) c.in_err-up.ensures.err))
 
-pub returns-in_err-add-clause-breaks : goal.returns-in_err-add-clause-breaks
-returns-in_err-add-clause-breaks g c = on_err c.from_residual-in_err-add.result
-    (subst (λ (r : Recording). BreaksQuietly (IsErrOf c.from_residual-in_err-add.result Limit) (seats_one c.args.seat) r
-    (g.S.Sink.written c.args.sink.now) (g.S.Sink.written c.up.new.sink)) c.self.view_is
-    (breaks_seat c.args.seat _ _ _
+pub returns-in_err-add-clause-ran : goal.returns-in_err-add-clause-ran
+returns-in_err-add-clause-ran g c =
+    broke_seat c.from_residual-in_err-add.result c.from_residual-in_err-add.ensures.1 c.args.seat c.args.self.now _ _ _
+    (subst (λ (r : Recording). TellsPart (Memory ≡ Limit) (came_up c.args.seat.peer) r.books (g.S.Sink.written c.args.sink.now)
+    (g.S.Sink.written c.up.new.sink)) c.self.view_is
     (record {
       writable = c.in_ok-up.ensures.told.writable;
       part = part_whole _ _ _ c.in_ok-up.ensures.told.grew;
-      full = λ limited. absurd (no_memory c.from_residual-in_err-add.result c.from_residual-in_err-add.ensures.1 limited);
-    })))
+      full = λ limited. absurd cc;
+    }))
 
-pub returns-clause-did : goal.returns-clause-did
-returns-clause-did g c =
-    subst (λ (r : Recording). DidSeat c.args.seat r
+pub returns-clause-ran : goal.returns-clause-ran
+returns-clause-ran g c =
+    subst (λ (r : Recording). RanSeat {T = Unit {0}} (Ok tt) c.args.seat r
     (record { books = c.up.new.self; seats = c.add.new.seats.items; door = c.self.inside.door; replies = c.self.inside.replies.items })
     (g.S.Sink.written c.args.sink.now) (g.S.Sink.written c.up.new.sink))
     c.self.view_is
