@@ -5,8 +5,8 @@ use Rattle.fs_recorder.proofs.PlaceWords.{IsNumbered, IsWritable, came_up, was_l
 use Rattle.fs_recorder.proofs.PlaceWords.{session_at, Tells, TellsPart, Does, Recording, leaves, shuts, tells, seat_for, seat_of, Place, Station}
 use Rattle.fs_recorder.proofs.PlaceWords.{Step, checks, checks_peer, doing, ends, peer_for, peers_at, place_for, place_of, places_without, replaces}
 use Rattle.fs_recorder.proofs.PlaceWords.{resting, seat_at, seats_one, taken_by, takes, vacates, BreaksAt, DoesStep, IsOpenAt, Left, Stands, Seat}
-use Rattle.fs_recorder.proofs.PlaceWords.{Ran, RanAt, RanSo, RanQuietly, RanSeat, Stop, Limit, IsErrAnd, IsErrOf, Bool, OnErr, expired_after}
-use Rattle.fs_recorder.proofs.Doing.{breaks_more, breaks_tell, breaks_where, does_ask, does_tell, handed}
+use Rattle.fs_recorder.proofs.PlaceWords.{Ran, RanAt, RanSo, RanQuietly, RanSeat, Stop, Limit, IsErrAnd, IsErrOf, Bool, OnErr, expired_after, broken}
+use Rattle.fs_recorder.proofs.{PlaceWords.{done}, Doing.{breaks_more, breaks_tell, breaks_where, does_ask, does_tell, handed}}
 use Rattle.fs_recorder.proofs.Places.{FoundAt, found_at, found_none, open_left, others_left, place_found, place_is}
 use Rattle.fs_recorder.proofs.{Placing.{apart_more, more_are, none_of_others, others_of_none, peers_more}, Settling.{stands_gone}}
 use Rattle.fs_recorder.proofs.{Stepping.{does_rest, ran_then}, Telling.{part_where}}
@@ -28,7 +28,7 @@ fresh_open config desk seat (Some peer) known e =
 pub did_seat : (seat : Seat) (old new : Recording) (before now : Option (List ℕ)) → Tells (came_up seat.peer) old.books new.books before now
     → session_at seat.peer new.books.desk.sessions ≡ begins old.books.desk.config seat.peer
     → KeepsOthers seat.peer old.books.desk new.books.desk → IsSome (peer_of seat.peer old.books.desk.config.peers)
-    → new.seats ≡ old.seats ++ seat ∷ [] → new.door ≡ old.door → RanSeat {T = Unit {0}} (Ok tt) seat old new before now
+    → new.seats ≡ old.seats ++ seat ∷ [] → new.door ≡ old.door → RanSeat done seat old new before now
 did_seat seat old new before now told begun others known seats door turns station stands none = record {
   does = does_tell (came_up seat.peer) old.books new.books turns before now told nobody;
   stands = record {
@@ -162,7 +162,7 @@ did_end_none line old w none turns station stands =
 -- a peer's connection is replaced
 
 pub ran_replace : {T : Type 0} (result : Result T Stop) (line peer time : ℕ) (old mid new : Recording) (t t1 : Option (List Turn))
-    (w w1 w2 : Option (List ℕ)) → RanSo {T = Unit {0}} (Ok tt) (vacates peer) old mid t t1 w w1
+    (w w1 w2 : Option (List ℕ)) → RanSo done (vacates peer) old mid t t1 w w1
     → RanSeat result (record { line = line; peer = peer; since = time }) mid new w1 w2 → RanSo result (replaces line peer time) old new t t1 w w2
 ran_replace {T = T} result line peer time old mid new t t1 w w1 w2 did later station stands = by result later
   where
@@ -181,7 +181,7 @@ ran_replace {T = T} result line peer time old mid new t t1 w w1 w2 did later sta
 
 pub broke_replace : {T : Type 0} {stop : Stop} → (result : Result T Stop) → IsErrAnd result (λ e. e ≡ stop) → (line peer time : ℕ)
     (old new : Recording) (t t1 : Option (List Turn)) (w w1 : Option (List ℕ)) → IsWritable old.books.desk.config (came_up peer)
-    → RanSo {T = Unit {0}} (Err stop) (vacates peer) old new t t1 w w1 → RanSo result (replaces line peer time) old new t t1 w w1
+    → RanSo (broken stop) (vacates peer) old new t t1 w w1 → RanSo result (replaces line peer time) old new t t1 w w1
 broke_replace result same line peer time old new t t1 w w1 writable breaks station stands =
     handed result same _ _ _ _ (breaks_more (vacates peer station).deeds (tells (came_up peer) ∷ []) old.books t t1 w w1 (writable, tt) (breaks station stands))
 

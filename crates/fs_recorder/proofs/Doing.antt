@@ -3,7 +3,7 @@ use Rattle.fs_recorder.proofs.Words.{ℕ, Bool, List, [], ◌∷◌, ◌++◌, O
 use Rattle.fs_recorder.proofs.Words.{AllByRecursion, Turn, said, shut, Grew, Grew-refl, Grew-trans, part_more, part_then, GrewPart, take, IsWritable}
 use Rattle.fs_recorder.proofs.Words.{item_text, Item, timed, Two, expired_after, nobody, AgreesBut, Booked, Tells, TellsPart, BreaksAt, Deed, Does}
 use Rattle.fs_recorder.proofs.Words.{asked_in, items_of, leaves, says, sends, shuts, tells, text_at, text_now, told_at, Seat, was_lost, Result, Ok}
-use Rattle.fs_recorder.proofs.{Words.{Err, IfOk, OnErr, OnOk, arith, length, length-append, ◌+◌, ◌≤◌, Ran, Recording, AtDoor, Step}, Telling.{told_on}}
+use Rattle.fs_recorder.proofs.{Words.{Err, OnErr, OnOk, arith, length, length-append, ◌+◌, ◌≤◌, Ran, Recording, AtDoor, Step}, Telling.{told_on}}
 use Rattle.std.specs.Result.{IsErrAnd, IsErrOf}
 use Rattle.fs_recorder.specs.declared.stop.Stop.{Stop}
 use Rattle.fs_recorder.specs.declared.stop.Stop.TheVariants.{Limit, Memory}
@@ -211,20 +211,6 @@ err_to (Err error) x f = f x
 pub ok_both : {T E : Type 0} {X Y Z : Type 0} (result : Result T E) → OnOk result X → OnOk result Y → (X → Y → Z) → OnOk result Z
 ok_both (Ok value) x y f = f x y
 ok_both (Err error) x y f = tt
-
-pub err_both : {T E : Type 0} {X Y Z : Type 0} (result : Result T E) → OnErr result X → OnErr result Y → (X → Y → Z) → OnErr result Z
-err_both (Ok value) x y f = tt
-err_both (Err error) x y f = f x y
-
--- what three clauses say of a value
-pub ok_all : {T E : Type 0} {P Q R : T → Type 0} {X : Type 0} (result : Result T E) → IfOk result P → IfOk result Q → IfOk result R
-    → ((value : T) → P value → Q value → R value → X) → OnOk result X
-ok_all (Ok value) p q r f = f value p q r
-ok_all (Err error) p q r f = tt
-
-pub if_to : {T E : Type 0} {P Q : T → Type 0} (result : Result T E) → IfOk result P → ((value : T) → P value → Q value) → IfOk result Q
-if_to (Ok value) p f = f value p
-if_to (Err error) p f = tt
 
 -- an error that `?` hands on names the limit only where it did
 pub handed_on : {T U : Type 0} → (stop : Stop) (result : Result T Stop) → IsErrAnd result (λ e. e ≡ stop) → IsErrOf result Limit

@@ -18,6 +18,6 @@ pub use Rattle.fs_recorder.specs.Steps.{follows, gives, handed_point, hears, hea
 pub use Rattle.fs_recorder.specs.Steps.{is_established, moved, peer_for, peers_at, peers_in, place_for, place_of, places_without, receives, replaces}
 pub use Rattle.fs_recorder.specs.Steps.{replies_to, resting, seat_at, seats_one, settles, speaks, sweeps, sweeps_all, sweeps_where_due, taken_by}
 pub use Rattle.fs_recorder.specs.Steps.{takes, then_do, turns_away, vacates, waits, wakes, woken}
-pub use Rattle.fs_recorder.specs.Works.{AreApart, BreaksAt, DoesStep, IsOpenAt, Left, Ran, RanAt, RanHear, RanQuietly, RanSeat, RanSo, Stands}
+pub use Rattle.fs_recorder.specs.Works.{AreApart, BreaksAt, DoesStep, IsOpenAt, Left, Ran, RanAt, RanHear, RanQuietly, RanSeat, RanSo, Stands, broken, done}
 pub use Rattle.fs_recorder.specs.declared.{door.Guest.{Guest}, seats.Seat.{Seat}, stop.Stop.{Stop, TheVariants.{Limit}}}
 pub use Rattle.std.specs.Result.{IsErrAnd, IsErrOf}

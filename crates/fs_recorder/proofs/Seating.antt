@@ -3,7 +3,7 @@ use Rattle.fs_base.specs.declared.config.Address.{Address}
 use Rattle.fs_recorder.specs.Seats.{free_by, free_peer, free_peer_of}
 use Rattle.fs_recorder.proofs.Words.{ℕ, Bool, true, false, List, [], ◌∷◌, ◌++◌, Some, None, ◌∙◌, ◌==◌, ◌≡◌, if◌then◌else◌, filter, find, not, refl}
 use Rattle.fs_recorder.proofs.Words.{Option, sym, subst, AllByRecursion, Config, Peer, IsSome, eq_itself, peer_of, Seat, AreKnown, IsKnown, Recording}
-use Rattle.fs_recorder.proofs.Words.{without}
+use Rattle.fs_recorder.proofs.Words.{without, ap}
 
 filtered : (P : Seat → Type 0) (test : Seat → Bool) (seats : List Seat) → AllByRecursion P seats → AllByRecursion P (filter test seats)
 filtered P test [] all = tt
@@ -80,3 +80,9 @@ found_by from (Some number) seats peers peer e = by (free_peer_of from number se
         → (elim found as (λ _. Option Peer) [ None ↦ free_peer from seats peers | Some one ↦ Some one ]) ≡ Some peer → FoundBy peers peer
     by None g f = record { test = _; found = f }
     by (Some one) g f = record { test = _; found = g ∙ f }
+
+-- what is found among the seats is found of those within
+pub seen_in : {X : Type 0} (look : List Seat → X) (inside old : Recording) (seats : List Seat) (found answer : X) → inside ≡ old
+    → seats ≡ inside.seats → found ≡ look seats → found ≡ answer → look old.seats ≡ answer
+seen_in look inside old seats found answer same seats_are is answered =
+    ap (λ (r : Recording). look r.seats) (sym same) ∙ ap look (sym seats_are) ∙ sym is ∙ answered

@@ -1,14 +1,14 @@
 -- How it stands behind the steps of one session.
-use Rattle.fs_recorder.proofs.Words.{ℕ, Bool, true, false, List, [], ◌∷◌, ◌++◌, Option, Some, None, ◌==◌, ◌≡◌, ◌≢◌, not, refl, ap, sym, subst, ◌∙◌}
+use Rattle.fs_recorder.proofs.Words.{ℕ, Bool, true, false, List, [], ◌∷◌, ◌++◌, Option, Some, ◌==◌, ◌≡◌, ◌≢◌, not, refl, ap, sym, subst, ◌∙◌}
 use Rattle.fs_recorder.proofs.Words.{true≢false, append-nil, AllByRecursion, AreApart, Turn, Config, IsNumbered, Item, received, was_lost, HandsPeer}
-use Rattle.fs_recorder.proofs.Words.{KeepsOthers, Played, PlayedBut, RepliesBehind, StaysPlayed, ExpiresPlayed, ExpiresSo, TicksPeer, expired_after}
-use Rattle.fs_recorder.proofs.Words.{expired_with, session_at, standing_at_desk, standing_of, nobody, point_of, Live, Point, Booked, Tells, Does}
-use Rattle.fs_recorder.proofs.Words.{Recording, answered, is_closed, items_of, leaves, says, tells, Place, Station, doing, expires, handed_point}
-use Rattle.fs_recorder.proofs.Words.{moved, peers_at, place_for, places_without, receives, replies_to, seat_at, settles, then_do, wakes, without}
-use Rattle.fs_recorder.proofs.{Words.{DoesStep, IsOpenAt, Left, Stands, Answered}, Doing.{does_tell, does_then, items_both, says_items}}
+use Rattle.fs_recorder.proofs.Words.{KeepsOthers, Played, PlayedBut, RepliesBehind, expired_after, expired_with, session_at, standing_at_desk}
+use Rattle.fs_recorder.proofs.Words.{standing_of, nobody, Point, Booked, Tells, Does, Recording, answered, is_closed, items_of, leaves, says, tells}
+use Rattle.fs_recorder.proofs.Words.{Place, Station, doing, expires, handed_point, moved, peers_at, place_for, places_without, receives, replies_to}
+use Rattle.fs_recorder.proofs.Words.{seat_at, settles, then_do, wakes, without, DoesStep, IsOpenAt, Left, Settled, Stands, Answered}
+use Rattle.fs_recorder.proofs.Doing.{does_tell, does_then, items_both, says_items}
 use Rattle.fs_recorder.proofs.Places.{apart_left, at_found, open_moved, open_without, peers_left, peers_moved, seats_moved, seats_without}
 use Rattle.fs_recorder.proofs.Sessions.{Ticked, not_shut, place_open, point_on, replies_are, session_on, ticked_at, ticked_shut, ticked_stays}
-use Rattle.fs_recorder.proofs.Waking.{answered_so, does_woke, expired_none, none_behind}
+use Rattle.fs_recorder.proofs.Waking.{Woke, answered_so, does_woke, expired_none, none_behind}
 use Rattle.fs_speaker.specs.End.{ticked}
 use Rattle.fs_speaker.specs.State.{standing_by}
 use Rattle.fs_desk.proofs.Standing.{desk_stands}
@@ -17,16 +17,16 @@ use Rattle.fs_desk.proofs.Standing.{desk_stands}
 pub stands_moved : (place : Place) (now : Point) (told : List Item) (station : Station) (old mid new : Recording) → Stands station old
     → mid.books.desk.config ≡ old.books.desk.config → mid.seats ≡ old.seats
     → ((number : ℕ) → (number == place.peer) ≡ false → session_at number mid.books.desk.sessions ≡ session_at number old.books.desk.sessions)
-    → (session : Live) → session_at place.peer mid.books.desk.sessions ≡ Some session → session.closed ≡ None → point_of session ≡ now
-    → Played old.books.desk.config told mid.books.desk → new.books ≡ mid.books → new.seats ≡ mid.seats
-    → Stands (record { told = told; places = moved place.peer now station.places }) new
-stands_moved place now told station old mid new stands config_is seats_are others session own alive point_is played same seats =
-    let config : old.books.desk.config ≡ new.books.desk.config = sym config_is ∙ ap (λ (b : Booked). b.desk.config) (sym same) in
+    → IsOpenAt mid.books.desk (record place { point = now }) → Played old.books.desk.config told mid.books.desk
+    → Settled true (seat_at place) mid new → Stands (record { told = told; places = moved place.peer now station.places }) new
+stands_moved place now told station old mid new stands config_is seats_are others is_open played settled =
+    let config : old.books.desk.config ≡ new.books.desk.config = sym config_is ∙ ap (λ (b : Booked). b.desk.config) (sym settled.0) in
     record {
-      played = subst (λ (b : Booked). Played b.desk.config told b.desk) (sym same) (subst (λ c. Played c told mid.books.desk) (sym config_is) played);
-      seats_are = seats ∙ seats_are ∙ stands.seats_are ∙ sym (seats_moved place.peer now station.places);
-      live = subst (λ (b : Booked). AllByRecursion (IsOpenAt b.desk) (moved place.peer now station.places)) (sym same)
-          (open_moved place.peer old.books.desk mid.books.desk others now session own alive point_is station.places stands.live);
+      played = subst (λ (b : Booked). Played b.desk.config told b.desk) (sym settled.0) (subst (λ c. Played c told mid.books.desk) (sym config_is) played);
+      seats_are = settled.1.0 ∙ seats_are ∙ stands.seats_are ∙ sym (seats_moved place.peer now station.places);
+      live = subst (λ (b : Booked). AllByRecursion (IsOpenAt b.desk) (moved place.peer now station.places)) (sym settled.0)
+          (open_moved place.peer old.books.desk mid.books.desk others now is_open.session is_open.session_is is_open.alive is_open.point_is station.places
+          stands.live);
       apart = subst AreApart (sym (peers_moved place.peer now station.places)) stands.apart;
       known = subst (AllByRecursion (IsNumbered new.books.desk.config)) (sym (peers_moved place.peer now station.places))
           (subst (λ c. AllByRecursion (IsNumbered c) (peers_at station.places)) config stands.known);
@@ -34,14 +34,14 @@ stands_moved place now told station old mid new stands config_is seats_are other
 
 -- where it goes
 pub stands_left : (place : Place) (told : List Item) (expired : ℕ → Bool) (station : Station) (old mid new : Recording) → Stands station old
-    → place_for place.peer station.places ≡ Some place → mid.books.desk.config ≡ old.books.desk.config → mid.seats ≡ old.seats
+    → place_for place.peer station.places ≡ Some place → mid.seats ≡ old.seats
     → ((number : ℕ) → (number == place.peer) ≡ false → session_at number mid.books.desk.sessions ≡ session_at number old.books.desk.sessions)
     → PlayedBut expired old.books.desk.config told mid.books.desk
     → ((number : ℕ) → expired_after (was_lost place.peer) expired number ≡ false)
-    → Left (seat_at place) mid new → new.books.desk.config ≡ mid.books.desk.config
+    → Left (seat_at place) mid new → new.books.desk.config ≡ old.books.desk.config
     → Stands (record { told = told ++ was_lost place.peer ∷ []; places = places_without place.line station.places }) new
-stands_left place told expired station old mid new stands found config_is seats_are others played none left config_same =
-    let config : old.books.desk.config ≡ new.books.desk.config = sym (config_same ∙ config_is) in
+stands_left place told expired station old mid new stands found seats_are others played none left config_is =
+    let config : old.books.desk.config ≡ new.books.desk.config = sym config_is in
     record {
       played = subst (λ c. Played c (told ++ was_lost place.peer ∷ []) new.books.desk) config
           (expired_none (expired_after (was_lost place.peer) expired) old.books.desk.config (told ++ was_lost place.peer ∷ []) new.books.desk
@@ -59,7 +59,7 @@ pub stands_gone : (place : Place) (station : Station) (old new : Recording) → 
     → Left (seat_at place) old new → new.books.desk.config ≡ old.books.desk.config
     → Stands (record { told = station.told ++ was_lost place.peer ∷ []; places = places_without place.line station.places }) new
 stands_gone place station old new stands found left config_is =
-    stands_left place station.told nobody station old old new stands found refl refl (λ _ _. refl) stands.played (λ _. refl) left config_is
+    stands_left place station.told nobody station old old new stands found refl (λ _ _. refl) stands.played (λ _. refl) left config_is
 
 -- what is told where a session says something, and where it closes
 
@@ -71,17 +71,6 @@ pub told_leaves : (place : Place) (text : List ℕ) (told : List Item)
 told_leaves place text told =
     ap (λ items. told ++ items) (items_both (says place.line text) (leaves (seat_at place))
     ∙ ap (λ items. items ++ was_lost place.peer ∷ []) (says_items place.line text))
-
--- The clock was heard at a session.
-pub record Woke (time peer : ℕ) (old mid : Recording) : Type 0 where
-  pub ticks : TicksPeer peer time old.books.desk mid.books.desk [] mid.replies
-  pub stays : StaysPlayed peer old.books.desk mid.books.desk
-  pub expired : ExpiresPlayed peer old.books.desk mid.books.desk
-  pub so : ExpiresSo peer old.books.desk mid.books.desk
-  pub config_is : mid.books.desk.config ≡ old.books.desk.config
-  pub scribe_is : mid.books.scribe ≡ old.books.scribe
-  pub seats_are : mid.seats ≡ old.seats
-  pub door_is : mid.door ≡ old.door
 
 pub woke_at : (time : ℕ) (place : Place) (old mid : Recording) (station : Station) → Stands station old → place_for place.peer station.places ≡ Some place
     → Woke time place.peer old mid → Ticked time place old.books.desk mid.books.desk mid.replies
@@ -104,18 +93,17 @@ module _ (time : ℕ) (place : Place) (old mid new : Recording) (turns turns' : 
       → Does nobody nobody (answered lives (seat_at place) text) old.books new.books turns turns' before now
   woke_does lives a =
       subst (λ said. Does nobody nobody (answered lives (seat_at place) said) old.books new.books turns turns' before now) at.made.text
-      (does_woke place.peer time lives (answered lives (seat_at place) mid.replies) old.books mid.books new.books [] mid.replies turns turns' before now
-      w.ticks w.stays w.expired w.so w.config_is w.scribe_is a.closes a.answers)
+      (does_woke time (seat_at place) lives old mid new turns turns' before now w a)
 
   woke_so : (lives : Bool) → expires time place ≡ not lives → Answered (seat_at place) lives mid new turns turns' before now
       → DoesStep old.door (settles (not lives) place to text station) old new turns turns' before now
   woke_so true e a = record {
     does = woke_does true a;
     stands = subst (λ told. Stands (record { told = told; places = moved place.peer to station.places }) new) (sym (told_says place.line text station.told))
-        (stands_moved place to station.told station old mid new stands w.config_is w.seats_are at.others at.session at.session_is (at.made.alive e)
-        (at.made.point_is e)
+        (stands_moved place to station.told station old mid new stands w.config_is w.seats_are at.others
+        (record { session = at.session; session_is = at.session_is; alive = at.made.alive e; point_is = at.made.point_is e })
         (w.stays (ticked_stays time place old.books.desk mid.books.desk mid.replies at e) nobody old.books.desk.config station.told stands.played)
-        a.settled.0 a.settled.1.0);
+        a.settled);
     door_is = a.settled.1.1 ∙ w.door_is;
   }
   woke_so false e a =
@@ -128,8 +116,9 @@ module _ (time : ℕ) (place : Place) (old mid new : Recording) (turns turns' : 
         does = woke_does false a;
         stands = subst (λ told. Stands (record { told = told; places = places_without place.line station.places }) new)
             (sym (told_leaves place text station.told))
-            (stands_left place station.told (expired_with place.peer nobody) station old mid new stands found w.config_is w.seats_are at.others
-            (w.expired other nobody old.books.desk.config station.told stands.played) (none_behind place.peer) a.settled (a.answers nobody).config_is);
+            (stands_left place station.told (expired_with place.peer nobody) station old mid new stands found w.seats_are at.others
+            (w.expired other nobody old.books.desk.config station.told stands.played) (none_behind place.peer) a.settled
+            ((a.answers nobody).config_is ∙ w.config_is));
         door_is = a.settled.door_is ∙ w.door_is;
       }
 
@@ -193,13 +182,18 @@ module _ (piece : List ℕ) (place : Place) (old mid : Recording) (before now : 
         let alive = not_shut on.0 (ap (λ kept. is_closed (standing_by kept)) (sym on.1) ∙ received_stands ∙ e) in
         subst (λ told. Stands (record { told = told; places = moved place.peer to_piece station.places }) new) (sym (told_says place.line said told_now))
         (stands_moved place to_piece told_now station old mid new stands r.told.config_is r.seats_are
-        (r.others nobody config station.told stands.played) on.0 on.1 alive
-        (point_on config station.told old.books.desk mid.books.desk place piece mid.replies on.0 received_open stands.played r.hands on.1 alive)
-        received_played a.settled.0 a.settled.1.0)
+        (r.others nobody config station.told stands.played)
+        (record {
+          session = on.0;
+          session_is = on.1;
+          alive = alive;
+          point_is = point_on config station.told old.books.desk mid.books.desk place piece mid.replies on.0 received_open stands.played r.hands on.1 alive;
+        })
+        received_played a.settled)
     received_so false e a =
         subst (λ told. Stands (record { told = told; places = places_without place.line station.places }) new) (sym (told_leaves place said told_now))
-        (stands_left place told_now nobody station old mid new stands found r.told.config_is r.seats_are
-        (r.others nobody config station.told stands.played) received_played (λ _. refl) a.settled (a.answers nobody).config_is)
+        (stands_left place told_now nobody station old mid new stands found r.seats_are
+        (r.others nobody config station.told stands.played) received_played (λ _. refl) a.settled ((a.answers nobody).config_is ∙ r.told.config_is))
 
     received_door : (lives : Bool) → Answered (seat_at place) lives mid new turns turns' now later → new.door ≡ old.door
     received_door true a = a.settled.1.1 ∙ r.door_is
@@ -214,7 +208,7 @@ module _ (piece : List ℕ) (place : Place) (old mid : Recording) (before now : 
     received_does lives a =
         subst (λ deeds. Does nobody nobody deeds mid.books new.books turns turns' now later)
         (ap (answered lives (seat_at place)) (sym received_says) ∙ sym (settled_deeds lives))
-        (answered_so place.peer lives (answered lives (seat_at place) mid.replies) mid.books new.books turns turns' now later a.answers)
+        (answered_so (seat_at place) lives mid new turns turns' now later a)
 
     pub received_step : (lives : Bool) → Answered (seat_at place) lives mid new turns turns' now later
         → DoesStep old.door (receives config place piece station) old new turns turns' before later

@@ -1,19 +1,18 @@
 -- Steps that were taken, and steps that were broken off.
-use Rattle.fs_recorder.proofs.Words.{Answered, longest_payload, length, ◌≤◌, ℕ, Bool, true, false, List, [], ◌∷◌, ◌++◌, Option, Some, None, ◌==◌, ◌-◌, ◌≡◌, not}
-use Rattle.fs_recorder.proofs.Words.{refl, ap, sym, subst, ◌∙◌, ◌+◌, true≢false, if◌then◌else◌, nat_lt, AllByRecursion, IsWritable, Grew, Grew-refl}
-use Rattle.fs_recorder.proofs.Words.{GrewPart, Turn, said, Config, IsNumbered, received, was_lost, HandsPeer, KeepsOthers, RepliesBehind, TicksPeer}
-use Rattle.fs_recorder.proofs.Words.{StaysPlayed, ExpiresPlayed, ExpiresSo, standing_at_desk, nobody, Point, AtDoor, Booked, Scribed, Tells}
-use Rattle.fs_recorder.proofs.Words.{TellsPart, Deed, Does, Recording, answered, is_closed, items_of, leaves, says, sends, tells, text_at}
+use Rattle.fs_recorder.proofs.Words.{Answered, longest_payload, length, ◌≤◌, ℕ, Bool, true, false, List, [], ◌∷◌, ◌++◌, Option, Some, None, ◌==◌, ◌-◌}
+use Rattle.fs_recorder.proofs.Words.{◌≡◌, not, refl, ap, sym, subst, ◌∙◌, ◌+◌, true≢false, if◌then◌else◌, nat_lt, AllByRecursion, IsWritable, Grew}
+use Rattle.fs_recorder.proofs.Words.{Grew-refl, GrewPart, Turn, said, Config, IsNumbered, received, was_lost, HandsPeer, KeepsOthers, RepliesBehind}
+use Rattle.fs_recorder.proofs.Words.{TicksPeer, StaysPlayed, ExpiresPlayed, ExpiresSo, standing_at_desk, nobody, Point, AtDoor, Booked, Scribed}
+use Rattle.fs_recorder.proofs.Words.{Tells, TellsPart, Deed, Does, Recording, answered, is_closed, items_of, leaves, says, sends, tells, text_at}
 use Rattle.fs_recorder.proofs.Words.{stands_established, Place, Station, Step, expires, handed_point, hurries, hurries_where_late, hurries_where_new}
 use Rattle.fs_recorder.proofs.Words.{is_early, is_established, moved, open_time, place_for, place_of, receives, replies_to, resting, seat_at, settles}
 use Rattle.fs_recorder.proofs.Words.{then_do, wakes, woken, Seat, seat_of, BreaksAt, DoesStep, IsOpenAt, Left, Stands, WakesSo, Ran, RanAnswer, RanAt}
-use Rattle.fs_recorder.proofs.Words.{RanSo, Stop, Limit, IsErrAnd, IsErrOf, Ok, Err, Result, IfOk, OnOk, OnErr, expired_after}
+use Rattle.fs_recorder.proofs.Words.{RanSo, Stop, Limit, IsErrAnd, IsErrOf, Ok, Err, Result, IfOk, OnOk, OnErr, expired_after, done}
 use Rattle.fs_recorder.proofs.Doing.{breaks_early, breaks_more, breaks_tell, breaks_then, breaks_where, does_ask, does_tell, does_then, items_both}
 use Rattle.fs_recorder.proofs.Doing.{says_items, handed}
 use Rattle.fs_recorder.proofs.Places.{FoundAt, at_found, found_at, found_none, peers_all, place_found, place_is, place_moved}
-use Rattle.fs_recorder.proofs.Sessions.{open_stands}
-use Rattle.fs_recorder.proofs.Settling.{Received, Woke, received_says, received_stands, received_step, stands_gone, woke_at, woke_lives}
-use Rattle.fs_recorder.proofs.Settling.{woke_step}
+use Rattle.fs_recorder.proofs.{Sessions.{open_stands}, Waking.{Woke}}
+use Rattle.fs_recorder.proofs.Settling.{Received, received_says, received_stands, received_step, stands_gone, woke_at, woke_lives, woke_step}
 use Rattle.fs_speaker.specs.declared.Standing.TheVariants.{Live as LiveIn}
 use Rattle.fs_speaker.specs.declared.State.{State}
 use Rattle.fs_speaker.specs.declared.State.TheVariants.{WaitOpen, WaitKeep, Established, Closed}
@@ -180,7 +179,7 @@ broke_unreceived {T} {stop} result same piece seat old new t w w1 part station s
 
 pub did_receive : (piece : List ℕ) (seat : Seat) (lives : Bool) (old mid new : Recording) (t t1 : Option (List Turn)) (w w1 w2 : Option (List ℕ))
     → Received piece seat.peer old mid w w1 → Answered seat lives mid new t t1 w1 w2
-    → RanAt {T = Unit {0}} (Ok tt) seat (λ place. receives old.books.desk.config place piece) old new t t1 w w2
+    → RanAt done seat (λ place. receives old.books.desk.config place piece) old new t t1 w w2
 did_receive piece seat lives old mid new t t1 w w1 w2 heard answered station stands place found seated =
     received_step piece place old mid w w1 station stands (own_found seat station.places place found)
     (subst (λ (s : Seat). Received piece s.peer old mid w w1) (sym seated) heard) new t t1 w2 lives
@@ -225,7 +224,7 @@ module _ (time : ℕ) (seat : Seat) (later : Place → Station → Step) where
       (place_moved seat.peer (ticked time place.point).point station.places place found)
 
   pub woken_shut : (old new : Recording) (t t1 : Option (List Turn)) (w w1 : Option (List ℕ)) → WakesSo time seat old false
-      → RanAt {T = Bool} (Ok false) seat (wakes time) old new t t1 w w1 → RanAt {T = Unit {0}} (Ok tt) seat (wakes_then time later) old new t t1 w w1
+      → RanAt {T = Bool} (Ok false) seat (wakes time) old new t t1 w w1 → RanAt done seat (wakes_then time later) old new t t1 w w1
   woken_shut old new t t1 w w1 so did station stands place found seated =
       subst (λ b. DoesStep old.door (if b then wakes time place station else then_do (wakes time place station) (later (woken time place))) old new t t1 w w1)
       (sym (flipped false (expires time place) (so station stands place found)))
@@ -285,7 +284,7 @@ place_est station old stands peer place found =
     ∙ stands_est is_open.session.phase.state ∙ ap (λ (p : Point). is_established p.phase.state) is_open.point_is)
 
 pub did_not_hurry : (seat : Seat) (old : Recording) (t : Option (List Turn)) (w : Option (List ℕ))
-    → stands_established (standing_at_desk old.books.desk seat.peer) ≡ true → RanAt {T = Unit {0}} (Ok tt) seat hurries_where_new old old t t w w
+    → stands_established (standing_at_desk old.books.desk seat.peer) ≡ true → RanAt done seat hurries_where_new old old t t w w
 did_not_hurry seat old t w is station stands place found seated =
     subst (λ b. DoesStep old.door (if b then resting station else hurries place station) old old t t w w)
     (sym (place_est station old stands seat.peer place found ∙ is)) (does_rest station old t w stands)
@@ -328,7 +327,7 @@ place_early : (time : ℕ) (seat : Seat) (place : Place) → seat_at place ≡ s
 place_early time seat place seated = ap (λ (s : Seat). nat_lt (time - s.since) open_time) seated
 
 pub did_early : (time : ℕ) (seat : Seat) (old : Recording) (t : Option (List Turn)) (w : Option (List ℕ)) → nat_lt (time - seat.since) open_time ≡ true
-    → RanAt {T = Unit {0}} (Ok tt) seat (hurries_where_late time) old old t t w w
+    → RanAt done seat (hurries_where_late time) old old t t w w
 did_early time seat old t w early station stands place found seated =
     subst (λ b. DoesStep old.door (if b then resting station else hurries_where_new place station) old old t t w w)
     (sym (place_early time seat place seated ∙ early)) (does_rest station old t w stands)

@@ -3,7 +3,8 @@ use Rattle.fs_recorder.proofs.PlaceWords.{Bool, List, Option, [], ap, append_ass
 use Rattle.fs_recorder.proofs.PlaceWords.{AllByRecursion, if◌then◌else◌, Grew, Turn, shut, Config, IsWritable, nobody, Recording, items_of, What}
 use Rattle.fs_recorder.proofs.PlaceWords.{Station, Step, checks_peer, follows, hears, AtDoor, door_after, door_with, is_due, late_lines, swept_at}
 use Rattle.fs_recorder.proofs.PlaceWords.{swept_where_due, peers_at, peers_in, resting, seat_at, shuts, sweeps, sweeps_all, sweeps_where_due, then_do}
-use Rattle.fs_recorder.proofs.PlaceWords.{turns_away, BreaksAt, DoesStep, Stands, Ran, RanHear, RanSo, Stop, Limit, IsErrAnd, Ok, Err, Result}
+use Rattle.fs_recorder.proofs.PlaceWords.{turns_away, BreaksAt, DoesStep, Stands, Ran, RanHear, RanSo, Stop, Limit, IsErrAnd, Ok, Err, Result, broken}
+use Rattle.fs_recorder.proofs.PlaceWords.{done}
 use Rattle.fs_recorder.proofs.Doing.{breaks_early, breaks_more, breaks_then, does_ask, does_then, shuts_asked, shuts_items, handed}
 use Rattle.fs_recorder.proofs.Knowing.{Known, known_checks_peer, known_follows, known_sweeps, known_where_due, new_told}
 use Rattle.fs_recorder.proofs.{Stepping.{does_both, does_rest, ran_then}, Waiting.{stands_door}}
@@ -31,8 +32,8 @@ sweeps_both time (peer ∷ front) later station =
     ∙ ap (λ deeds. record { deeds = deeds; station = last.station }) (sym (append_assoc first.deeds mid.deeds last.deeds))
 
 module _ (time : ℕ) (front : List ℕ) (peer : ℕ) (a b : Recording) (t t1 t2 : Option (List Turn)) (w w1 w2 : Option (List ℕ)) where
-  pub did_more : (c : Recording) → RanSo {T = Unit {0}} (Ok tt) (sweeps time front) a b t t1 w w1
-      → RanSo {T = Unit {0}} (Ok tt) (checks_peer time peer) b c t1 t2 w1 w2 → RanSo {T = Unit {0}} (Ok tt) (sweeps time (front ++ peer ∷ [])) a c t t2 w w2
+  pub did_more : (c : Recording) → RanSo done (sweeps time front) a b t t1 w w1
+      → RanSo done (checks_peer time peer) b c t1 t2 w1 w2 → RanSo done (sweeps time (front ++ peer ∷ [])) a c t t2 w w2
   did_more c did later station stands =
       let one = did station stands in
       let next = later (sweeps time front station).station one.stands in
@@ -43,7 +44,7 @@ module _ (time : ℕ) (front : List ℕ) (peer : ℕ) (a b : Recording) (t t1 t2
 
   -- it was broken off at a peer
   pub broke_more : {T : Type 0} {stop : Stop} → (result : Result T Stop) → IsErrAnd result (λ e. e ≡ stop) → (c : Recording) (later : List ℕ)
-      → RanSo {T = Unit {0}} (Ok tt) (sweeps time front) a b t t1 w w1 → RanSo {T = Unit {0}} (Err stop) (checks_peer time peer) b c t1 t2 w1 w2
+      → RanSo done (sweeps time front) a b t t1 w w1 → RanSo (broken stop) (checks_peer time peer) b c t1 t2 w1 w2
       → RanSo result (sweeps time (front ++ peer ∷ later)) a c t t2 w w2
   broke_more {T} {stop} result same c later did breaks station stands =
       let one = did station stands in
@@ -51,7 +52,7 @@ module _ (time : ℕ) (front : List ℕ) (peer : ℕ) (a b : Recording) (t t1 t2
       let known = known_checks_peer b.books.desk.config time peer mid one.stands.known in
       handed result same _ _ _ _
       (subst (λ (step : Step). BreaksAt (stop ≡ Limit) step.deeds a.books t t2 w w2) (sym (sweeps_both time front (peer ∷ later) station))
-      (ran_then {T = Unit {0}} (Err stop) (sweeps time front station) (sweeps time (peer ∷ later)) a b c t t1 t2 w w1 w2 one
+      (ran_then (broken stop) (sweeps time front station) (sweeps time (peer ∷ later)) a b c t t1 t2 w w1 w2 one
       (breaks_more (checks_peer time peer mid).deeds (sweeps time later (checks_peer time peer mid).station).deeds b.books t1 t2 w1 w2
       (known_sweeps b.books.desk.config time later (checks_peer time peer mid).station known.known).writable (breaks mid one.stands))))
 
@@ -93,8 +94,8 @@ module _ (config : Config) (time : ℕ) (what : What) (old mid : Recording) (t t
   hears_at door station = then_do (event_step station) (sweeps_where_due door time)
 
   -- no clock is due
-  pub did_early : is_due mid.door.swept time ≡ false → RanHear {T = Unit {0}} (Ok tt) behind_event event_step old mid t t1 w w1
-      → RanHear {T = Unit {0}} (Ok tt) (door_after config time what old.seats old.door) (hears config old.door time what) old mid t t1 w w1
+  pub did_early : is_due mid.door.swept time ≡ false → RanHear done behind_event event_step old mid t t1 w w1
+      → RanHear done (door_after config time what old.seats old.door) (hears config old.door time what) old mid t t1 w w1
   did_early e did station stands =
       let one = did station stands in
       let all = does_both (event_step station) resting old mid mid t t1 t1 w w1 w1 one
@@ -106,8 +107,8 @@ module _ (config : Config) (time : ℕ) (what : What) (old mid : Recording) (t t
       (record { does = all.does; stands = all.stands; door_is = refl })))
 
   -- the clock is due
-  module _ (due : is_due mid.door.swept time ≡ true) (did : RanHear {T = Unit {0}} (Ok tt) behind_event event_step old mid t t1 w w1)
-      (t2 t3 : Option (List Turn)) (w2 : Option (List ℕ))
+  module _ (due : is_due mid.door.swept time ≡ true) (did : RanHear done behind_event event_step old mid t t1 w w1) (t2 t3 : Option (List Turn))
+      (w2 : Option (List ℕ))
       (away : Grew t1 t2 (map shut (late_lines time mid.door.guests))) where
     turned_away : Does nobody nobody (map shuts (late_lines time mid.door.guests)) mid.books mid.books t1 t2 w1 w1
     turned_away =
@@ -148,7 +149,7 @@ module _ (config : Config) (time : ℕ) (what : What) (old mid : Recording) (t t
 -- it was broken off at the event itself
 pub broke_follow : {T : Type 0} {stop : Stop} → (result : Result T Stop) → IsErrAnd result (λ e. e ≡ stop) → (config : Config) (time : ℕ) (what : What)
     (door : AtDoor) (old new : Recording) (t t1 : Option (List Turn)) (w w1 : Option (List ℕ)) → config ≡ old.books.desk.config → IsShort what
-    → RanSo {T = Unit {0}} (Err stop) (follows config old.door.guests time what) old new t t1 w w1
+    → RanSo (broken stop) (follows config old.door.guests time what) old new t t1 w w1
     → RanHear result door (hears config old.door time what) old new t t1 w w1
 broke_follow {T} {stop} result same config time what door old new t t1 w w1 is short breaks station stands =
     let first = follows config old.door.guests time what station in

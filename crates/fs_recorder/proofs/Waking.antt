@@ -1,4 +1,5 @@
 -- The clock at a session, and what is answered then.
+use Rattle.fs_recorder.proofs.Words.{Answered, Recording, Seat, [], answered}
 use Rattle.fs_recorder.proofs.Words.{◌≡◌, ◌≢◌, ◌⊎◌, inl, inr, ℕ, ◌==◌, ◌&&◌, ◌||◌, not, Bool, true, false, List, ◌++◌, Option, Some, None, refl, ap}
 use Rattle.fs_recorder.proofs.Words.{sym, subst, ◌∙◌, eqb-true, eq_itself, AllByRecursion, IsWritable, items_in, Turn, Config, Item, Timed, was_lost}
 use Rattle.fs_recorder.proofs.Words.{Desked, PlayedBut, StaysPlayed, ExpiresPlayed, ExpiresSo, TicksPeer, expired_after, expired_with, session_at}
@@ -101,10 +102,10 @@ settled peer true config told books agrees = agrees
 settled peer false config told books agrees = agrees
 
 -- an answer leaves no closed session behind
-pub answered_so : (peer : ℕ) (lives : Bool) (deeds : List Deed) (old new : Booked) (t t' : Option (List Turn)) (w w' : Option (List ℕ))
-    → ((expired : ℕ → Bool) → Does expired (behind_answer lives peer expired) deeds old new t t' w w') → Does nobody nobody deeds old new t t' w w'
-answered_so peer lives deeds old new t t' w w' answers =
-    let d = answers nobody in
+pub answered_so : (seat : Seat) (lives : Bool) (old new : Recording) (t t' : Option (List Turn)) (w w' : Option (List ℕ))
+    → Answered seat lives old new t t' w w' → Does nobody nobody (answered lives seat old.replies) old.books new.books t t' w w'
+answered_so seat lives old new t t' w w' a =
+    let d = a.answers nobody in
     record {
       writable = d.writable;
       tape = d.tape;
@@ -113,59 +114,67 @@ answered_so peer lives deeds old new t t' w w' answers =
       written_is = d.written_is;
       limit_is = d.limit_is;
       config_is = d.config_is;
-      agrees = λ config told agrees. settled peer lives config (told ++ told_at old.scribe.moment (items_of deeds)) new (d.agrees config told agrees);
+      agrees = λ config told agrees. settled seat.peer lives config
+          (told ++ told_at old.books.scribe.moment (items_of (answered lives seat old.replies))) new.books (d.agrees config told agrees);
     }
 
-module _ (peer time : ℕ) (lives : Bool) (deeds : List Deed) (old new : Booked) (desk : Desked) (replies replies' : List ℕ) (t t' : Option (List Turn))
-    (w w' : Option (List ℕ))
-    (ticks : TicksPeer peer time old.desk desk replies replies') (stays : StaysPlayed peer old.desk desk) (expires : ExpiresPlayed peer old.desk desk)
-    (so : ExpiresSo peer old.desk desk) (config_is : desk.config ≡ old.desk.config) (closes : is_closed (standing_at_desk desk peer) ≡ not lives)
-    (answers : (expired : ℕ → Bool) → Does expired (behind_answer lives peer expired) deeds (record { desk = desk; scribe = old.scribe }) new t t' w w') where
+-- The clock was heard at a session.
+pub record Woke (time peer : ℕ) (old mid : Recording) : Type 0 where
+  pub ticks : TicksPeer peer time old.books.desk mid.books.desk [] mid.replies
+  pub stays : StaysPlayed peer old.books.desk mid.books.desk
+  pub expired : ExpiresPlayed peer old.books.desk mid.books.desk
+  pub so : ExpiresSo peer old.books.desk mid.books.desk
+  pub config_is : mid.books.desk.config ≡ old.books.desk.config
+  pub scribe_is : mid.books.scribe ≡ old.books.scribe
+  pub seats_are : mid.seats ≡ old.seats
+  pub door_is : mid.door ≡ old.door
+
+module _ (time : ℕ) (seat : Seat) (lives : Bool) (old mid new : Recording) (t t' : Option (List Turn)) (w w' : Option (List ℕ))
+    (woke : Woke time seat.peer old mid) (a : Answered seat lives mid new t t' w w') where
+  abbrev deeds : List Deed
+  deeds = answered lives seat mid.replies
+
   abbrev told_on : List Timed → List Timed
-  told_on told = told ++ told_at old.scribe.moment (items_of deeds)
+  told_on told = told ++ told_at old.books.scribe.moment (items_of deeds)
+
+  answers : (expired : ℕ → Bool)
+      → Does expired (behind_answer lives seat.peer expired) deeds (record { desk = mid.books.desk; scribe = old.books.scribe }) new.books t t' w w'
+  answers = subst (λ (s : Scribed). (expired : ℕ → Bool)
+      → Does expired (behind_answer lives seat.peer expired) deeds (record { desk = mid.books.desk; scribe = s }) new.books t t' w w') woke.scribe_is a.answers
 
   lost_after : (b : Bool) → not b ≡ true → (config : Config) (told : List Timed)
-      → AgreesBut (behind_answer b peer (expired_with peer nobody)) config told new → Agrees config told new
+      → AgreesBut (behind_answer b seat.peer (expired_with seat.peer nobody)) config told new.books → Agrees config told new.books
   lost_after true e config told agrees = absurd (let no : false ≡ true = e in cc)
   lost_after false e config told agrees =
-      with_played (expired_after (was_lost peer) (expired_with peer nobody)) nobody config told new new.desk agrees
-      (λ played. expired_none (expired_after (was_lost peer) (expired_with peer nobody)) config (items_in told) new.desk played (none_behind peer))
+      let expired = expired_after (was_lost seat.peer) (expired_with seat.peer nobody) in
+      with_played expired nobody config told new.books new.books.desk agrees
+      (λ played. expired_none expired config (items_in told) new.books.desk played (none_behind seat.peer))
 
-  by_case : SameOrNot (standing_at_desk desk peer) (standing_at_desk old.desk peer) → (config : Config) (told : List Timed)
-      → Agrees config told old → Agrees config (told_on told) new
+  by_case : SameOrNot (standing_at_desk mid.books.desk seat.peer) (standing_at_desk old.books.desk seat.peer) → (config : Config) (told : List Timed)
+      → Agrees config told old.books → Agrees config (told_on told) new.books
   by_case (inl same) config told agrees =
-      settled peer lives config (told_on told) new
+      settled seat.peer lives config (told_on told) new.books
       ((answers nobody).agrees config told
-      (with_played nobody nobody config told old desk agrees (λ played. stays same nobody config (items_in told) played)))
+      (with_played nobody nobody config told old.books mid.books.desk agrees (λ played. woke.stays same nobody config (items_in told) played)))
   by_case (inr other) config told agrees =
-      let shut : not lives ≡ true = sym closes ∙ ap is_closed (so other).0 in
+      let shut : not lives ≡ true = sym a.closes ∙ ap is_closed (woke.so other).0 in
       lost_after lives shut config (told_on told)
-      ((answers (expired_with peer nobody)).agrees config told
-      (with_played nobody (expired_with peer nobody) config told old desk agrees (λ played. expires other nobody config (items_in told) played)))
+      ((answers (expired_with seat.peer nobody)).agrees config told
+      (with_played nobody (expired_with seat.peer nobody) config told old.books mid.books.desk agrees
+      (λ played. woke.expired other nobody config (items_in told) played)))
 
   -- the clock at a session, and what is answered
-  pub does_wake : Does nobody nobody deeds old new t t' w w'
-  does_wake =
+  pub does_woke : Does nobody nobody deeds old.books new.books t t' w w'
+  does_woke =
       let d = answers nobody in
       record {
-        writable = subst (λ config. AllByRecursion (IsWritable config) (items_of deeds)) config_is d.writable;
+        writable = subst (λ config. AllByRecursion (IsWritable config) (items_of deeds)) woke.config_is d.writable;
         tape = d.tape;
         gate = d.gate;
         moment_is = d.moment_is;
         written_is = d.written_is;
         limit_is = d.limit_is;
-        config_is = d.config_is ∙ config_is;
-        agrees = λ config told agrees. by_case (tick_case peer time old.desk desk replies replies' ticks) config told agrees;
+        config_is = d.config_is ∙ woke.config_is;
+        agrees = λ config told agrees.
+            by_case (tick_case seat.peer time old.books.desk mid.books.desk [] mid.replies woke.ticks) config told agrees;
       }
-
--- so where tape and desk are seen as one
-pub does_woke : (peer time : ℕ) (lives : Bool) (deeds : List Deed) (old mid new : Booked) (replies replies' : List ℕ) (t t' : Option (List Turn))
-    (w w' : Option (List ℕ))
-    → TicksPeer peer time old.desk mid.desk replies replies' → StaysPlayed peer old.desk mid.desk → ExpiresPlayed peer old.desk mid.desk
-    → ExpiresSo peer old.desk mid.desk → mid.desk.config ≡ old.desk.config → mid.scribe ≡ old.scribe
-    → is_closed (standing_at_desk mid.desk peer) ≡ not lives
-    → ((expired : ℕ → Bool) → Does expired (behind_answer lives peer expired) deeds mid new t t' w w') → Does nobody nobody deeds old new t t' w w'
-does_woke peer time lives deeds old mid new replies replies' t t' w w' ticks stays expires so config_is scribe_is closes answers =
-    does_wake peer time lives deeds old new mid.desk replies replies' t t' w w' ticks stays expires so config_is closes
-    (subst (λ (s : Scribed). (expired : ℕ → Bool)
-    → Does expired (behind_answer lives peer expired) deeds (record { desk = mid.desk; scribe = s }) new t t' w w') scribe_is answers)

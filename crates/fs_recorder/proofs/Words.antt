@@ -25,5 +25,5 @@ pub use Rattle.fs_recorder.specs.Steps.{is_early, is_established, moved, octets_
 pub use Rattle.fs_recorder.specs.Steps.{replies_to, resting, seat_at, settles, speaks, then_do, wakes, woken}
 pub use Rattle.fs_recorder.specs.{Tapes.{Scribed, items_in, last_of, longer_by}, Door.{AtDoor, open_time}, declared.seats.Seat.{Seat}}
 pub use Rattle.fs_recorder.specs.Works.{Answered, AreApart, BreaksAt, DoesStep, IsOpenAt, Left, Ran, RanAnswer, RanAt, RanHear, RanSeat, RanSo}
-pub use Rattle.fs_recorder.specs.Works.{Settled, Stands, WakesSo}
+pub use Rattle.fs_recorder.specs.Works.{Settled, Stands, WakesSo, broken, done}
 pub use Rattle.fs_recorder.specs.declared.stop.Stop.{Stop, TheVariants.{Limit, Memory}}

@@ -54,6 +54,13 @@ abbrev pub Ran : {T : Type 0} → Result T Stop → AtDoor → Step → (old new
 Ran (Ok value) door step old new turns turns' before now = DoesStep door step old new turns turns' before now
 Ran (Err stop) door step old new turns turns' before now = BreaksAt (stop ≡ Limit) step.deeds old.books turns turns' before now
 
+-- so where nothing is answered
+abbrev pub done : Result (Unit {0}) Stop
+done = Ok tt
+
+abbrev pub broken : Stop → Result (Unit {0}) Stop
+broken stop = Err stop
+
 -- from wherever it stood, and it changes which connections wait
 abbrev pub RanHear : {T : Type 0} → Result T Stop → (door : AtDoor) → (Station → Step) → (old new : Recording) → (turns turns' : Option (List Turn))
     → (before now : Option (List ℕ)) → Type 0

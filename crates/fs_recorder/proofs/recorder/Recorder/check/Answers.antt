@@ -1,4 +1,4 @@
-use Rattle.fs_recorder.proofs.Words.{subst, sym, peer_of, ◌∙◌, IsSome, WakesSo, hurries_where_late, Ok}
+use Rattle.fs_recorder.proofs.Words.{subst, sym, peer_of, ◌∙◌, IsSome, WakesSo, hurries_where_late, done}
 use Rattle.fs_recorder.proofs.Stepping.{did_early, late_writable, woken_broke, woken_shut, woken_then, ran_late}
 use Rattle.fs_recorder.proofs.recorder.Recorder.check.Goals as goal
 
@@ -14,7 +14,7 @@ returns-then-not-is_open-clause-ran g c =
 
 pub returns-then-has_time-clause-ran : goal.returns-then-has_time-clause-ran
 returns-then-has_time-clause-ran g c =
-    woken_then c.args.time c.args.seat (hurries_where_late c.args.time) (Ok (tt {0})) c.args.self.now c.wake.new.self c.wake.new.self _ _ _ _ _ _
+    woken_then c.args.time c.args.seat (hurries_where_late c.args.time) done c.args.self.now c.wake.new.self c.wake.new.self _ _ _ _ _ _
     (subst (WakesSo c.args.time c.args.seat c.args.self.now) c.if-not-is_open.false c.in_ok-is_open.ensures.lives) c.in_ok-is_open.ensures.ran
     (did_early c.args.time c.args.seat c.wake.new.self _ _ (sym c.has_time.ensures ∙ c.if-has_time.true))
 

@@ -1,27 +1,18 @@
-use Rattle.fs_recorder.proofs.{Words.{subst, sym, drop, AreKnown, Recording, RanHear, RanSo}, Doing.{ok_to}, Waiting.{changed_as, ran_door}}
+use Rattle.fs_recorder.proofs.{Words.{subst, sym, drop, AreKnown, Recording, RanHear, RanSo}, Doing.{ok_to}, Waiting.{changed_as, ran_door, ran_came}}
 use Rattle.std.proofs.lemmas.List.{drop-take}
-use Rattle.fs_base.specs.Gate.{what_from}
 use Rattle.fs_recorder.specs.Door.{without_guest}
-use Rattle.fs_recorder.specs.Steps.{door_with, ends, follows, gives}
+use Rattle.fs_recorder.specs.Steps.{ends, gives}
 use Rattle.fs_recorder.proofs.recorder.Recorder.follow.Goals as goal
 
 pub returns-in-Taken-clause-ran : goal.returns-in-Taken-clause-ran
 returns-in-Taken-clause-ran g c =
-    subst (λ came. RanHear c.come.result
-    (door_with c.args.self.now.books.desk.config c.args.event.time (what_from came (drop 15 c.args.buffer.now)) c.args.self.now.seats c.args.self.now.door)
-    (follows c.args.self.now.books.desk.config c.args.self.now.door.guests c.args.event.time (what_from came (drop 15 c.args.buffer.now)))
-    c.args.self.now c.come.new.self (g.G.Gate.turns c.args.gate.now) (g.G.Gate.turns c.come.new.gate) (g.S.Sink.written c.args.sink.now)
-    (g.S.Sink.written c.come.new.sink))
-    (sym c.in-Taken.is) c.come.ensures.ran
+    ran_came c.come.result c.args.self.now.books.desk.config c.args.event.time (drop 15 c.args.buffer.now) _ _ c.args.self.now c.come.new.self _ _ _ _
+    c.in-Taken.is c.come.ensures.ran
 
 pub returns-in-Octets-clause-ran : goal.returns-in-Octets-clause-ran
 returns-in-Octets-clause-ran g c =
-    subst (λ came. RanHear c.give.result
-    (door_with c.args.self.now.books.desk.config c.args.event.time (what_from came (drop 15 c.args.buffer.now)) c.args.self.now.seats c.args.self.now.door)
-    (follows c.args.self.now.books.desk.config c.args.self.now.door.guests c.args.event.time (what_from came (drop 15 c.args.buffer.now)))
-    c.args.self.now c.give.new.self (g.G.Gate.turns c.args.gate.now) (g.G.Gate.turns c.give.new.gate) (g.S.Sink.written c.args.sink.now)
-    (g.S.Sink.written c.give.new.sink))
-    (sym c.in-Octets.is)
+    ran_came c.give.result c.args.self.now.books.desk.config c.args.event.time (drop 15 c.args.buffer.now) _ _ c.args.self.now c.give.new.self _ _ _ _
+    c.in-Octets.is
     (subst (λ piece. RanHear c.give.result (without_guest c.in-Octets.line c.args.self.now.door)
     (gives c.args.self.now.books.desk.config c.in-Octets.line c.args.event.time piece c.args.self.now.door.guests)
     c.args.self.now c.give.new.self (g.G.Gate.turns c.args.gate.now) (g.G.Gate.turns c.give.new.gate) (g.S.Sink.written c.args.sink.now)
@@ -30,12 +21,8 @@ returns-in-Octets-clause-ran g c =
 
 pub returns-in-Ended-clause-ran : goal.returns-in-Ended-clause-ran
 returns-in-Ended-clause-ran g c =
-    subst (λ came. RanHear c.end.result
-    (door_with c.args.self.now.books.desk.config c.args.event.time (what_from came (drop 15 c.args.buffer.now)) c.args.self.now.seats c.args.self.now.door)
-    (follows c.args.self.now.books.desk.config c.args.self.now.door.guests c.args.event.time (what_from came (drop 15 c.args.buffer.now)))
-    c.args.self.now c.end.new.self (g.G.Gate.turns c.args.gate.now) (g.G.Gate.turns c.args.gate.now) (g.S.Sink.written c.args.sink.now)
-    (g.S.Sink.written c.end.new.sink))
-    (sym c.in-Ended.is)
+    ran_came c.end.result c.args.self.now.books.desk.config c.args.event.time (drop 15 c.args.buffer.now) _ _ c.args.self.now c.end.new.self _ _ _ _
+    c.in-Ended.is
     (ran_door c.end.result (without_guest c.in-Ended.line c.args.self.now.door) (ends c.in-Ended.line) c.args.self.now c.end.new.self _ _ _ _
     (subst (λ (r : Recording). RanSo c.end.result (ends c.in-Ended.line) r c.end.new.self (g.G.Gate.turns c.args.gate.now)
     (g.G.Gate.turns c.args.gate.now) (g.S.Sink.written c.args.sink.now) (g.S.Sink.written c.end.new.sink))

@@ -1,5 +1,5 @@
-use Rattle.fs_recorder.proofs.Words.{Err, drop, map, refl, shut, subst, sym, true, ◌∙◌, ◌≡◌, AreKnown, Grew, Recording, passing, RanHear, RanSo, Ok}
-use Rattle.fs_recorder.proofs.{Doing.{ok_to}, Sweeping.{passed_as, short_what, ran_due, broke_follow}, Waiting.{changed_as}}
+use Rattle.fs_recorder.proofs.Words.{drop, map, refl, shut, subst, sym, true, ◌∙◌, ◌≡◌, AreKnown, Grew, Recording, passing, RanHear, RanSo, broken}
+use Rattle.fs_recorder.proofs.{Words.{done}, Doing.{ok_to}, Sweeping.{passed_as, short_what, ran_due, broke_follow}, Waiting.{changed_as}}
 use Rattle.fs_base.specs.Gate.{what_from}
 use Rattle.fs_recorder.specs.Door.{is_due, late_lines, swept_at}
 use Rattle.fs_recorder.specs.Steps.{door_with, follows, sweeps_all}
@@ -10,7 +10,7 @@ returns-in_err-follow-clause-ran g c =
     broke_follow c.from_residual.result c.from_residual.ensures.1 c.args.self.now.books.desk.config c.args.event.time
     (what_from c.args.event.came (drop 15 c.args.buffer.now)) _ (passing c.args.event.moment c.args.self.now) _ _ _ _ _ refl
     (short_what c.args.event.came c.args.buffer.now c.requires.long)
-    (subst (λ (r : Recording). RanSo {T = Unit {0}} (Err c.in_err-follow.field-0.0)
+    (subst (λ (r : Recording). RanSo (broken c.in_err-follow.field-0.0)
     (follows r.books.desk.config r.door.guests c.args.event.time (what_from c.args.event.came (drop 15 c.args.buffer.now))) r c.follow.new.self
     (g.G.Gate.turns c.args.gate.now) (g.G.Gate.turns c.follow.new.gate) (g.S.Sink.written c.args.sink.now) (g.S.Sink.written c.follow.new.sink))
     (passed_as c.args.event.moment _ c.args.self.now c.pass.new.self c.pass.ensures c.self.view_is)
@@ -21,7 +21,7 @@ returns-clause-ran g c =
     ran_due c.args.self.now.books.desk.config c.args.event.time (what_from c.args.event.came (drop 15 c.args.buffer.now))
     (passing c.args.event.moment c.args.self.now) c.follow.new.self _ _ _ _
     (subst (λ (r : Recording). is_due r.door.swept c.args.event.time ≡ true) c.self-2.view_is (sym c.is_due.ensures ∙ c.if-not-is_due.false))
-    (subst (λ (r : Recording). RanHear {T = Unit {0}} (Ok tt)
+    (subst (λ (r : Recording). RanHear done
     (door_with r.books.desk.config c.args.event.time (what_from c.args.event.came (drop 15 c.args.buffer.now)) r.seats r.door)
     (follows r.books.desk.config r.door.guests c.args.event.time (what_from c.args.event.came (drop 15 c.args.buffer.now)))
     r c.follow.new.self (g.G.Gate.turns c.args.gate.now) (g.G.Gate.turns c.follow.new.gate) (g.S.Sink.written c.args.sink.now)

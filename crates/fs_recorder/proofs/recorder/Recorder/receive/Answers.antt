@@ -14,17 +14,13 @@ pub returns-in_err-answer-clause-ran : goal.returns-in_err-answer-clause-ran
 returns-in_err-answer-clause-ran g c =
     broke_received c.from_residual-in_err-answer.result c.from_residual-in_err-answer.ensures.1 (drop 15 c.args.piece.now) c.args.seat c.args.self.now
     _ _ _ _ _ _ _
-    (received_as (drop 15 c.args.piece.now) c.args.seat.peer
-    (record { books = c.self.inside.books; seats = c.self.inside.seats.items; door = c.self.inside.door; replies = c.self.inside.replies.items })
-    c.args.self.now _ c.clear.new.self.items _ _ c.self.view_is c.clear.ensures.items
-    c.in_ok-octets.ensures.told c.in_ok-octets.ensures.handed c.in_ok-octets.ensures.others c.in_ok-octets.ensures.replied refl refl)
+    (received_as _ _ _ _ _ _ _ _ c.self.view_is c.clear.ensures.items c.in_ok-octets.ensures.told c.in_ok-octets.ensures.handed
+    c.in_ok-octets.ensures.others c.in_ok-octets.ensures.replied refl refl)
     c.in_err-answer.ensures.answered
 
 pub returns-clause-ran : goal.returns-clause-ran
 returns-clause-ran g c =
     did_receive (drop 15 c.args.piece.now) c.args.seat _ c.args.self.now _ _ _ _ _ _ _
-    (received_as (drop 15 c.args.piece.now) c.args.seat.peer
-    (record { books = c.self.inside.books; seats = c.self.inside.seats.items; door = c.self.inside.door; replies = c.self.inside.replies.items })
-    c.args.self.now _ c.clear.new.self.items _ _ c.self.view_is c.clear.ensures.items
-    c.in_ok-octets.ensures.told c.in_ok-octets.ensures.handed c.in_ok-octets.ensures.others c.in_ok-octets.ensures.replied refl refl)
+    (received_as _ _ _ _ _ _ _ _ c.self.view_is c.clear.ensures.items c.in_ok-octets.ensures.told c.in_ok-octets.ensures.handed
+    c.in_ok-octets.ensures.others c.in_ok-octets.ensures.replied refl refl)
     c.in_ok-answer.ensures.answered

@@ -1,6 +1,5 @@
-use Rattle.fs_recorder.proofs.Words.{Limit, Memory, TellsPart, came_up, ◌≡◌, ap, subst, sym, ◌∙◌, ◌++◌, ◌∷◌, [], refl, part_whole, IsKnown}
-use Rattle.fs_recorder.proofs.Words.{Recording, RanSeat, Ok, Err}
-use Rattle.fs_recorder.proofs.{Seating.{known_added}, Connecting.{did_seat, broke_seat}, Telling.{part_where}}
+use Rattle.fs_recorder.proofs.Words.{Limit, Memory, TellsPart, came_up, ◌≡◌, ap, subst, sym, ◌∙◌, ◌++◌, ◌∷◌, [], refl, part_whole, IsKnown, Recording}
+use Rattle.fs_recorder.proofs.{Words.{RanSeat, Err, done}, Seating.{known_added}, Connecting.{did_seat, broke_seat}, Telling.{part_where}}
 use Rattle.fs_recorder.proofs.recorder.Recorder.seat.Goals as goal
 
 pub returns-in_err-up-clause-ran : goal.returns-in_err-up-clause-ran
@@ -22,7 +21,7 @@ returns-in_err-add-clause-ran g c =
 
 pub returns-clause-ran : goal.returns-clause-ran
 returns-clause-ran g c =
-    subst (λ (r : Recording). RanSeat {T = Unit {0}} (Ok tt) c.args.seat r
+    subst (λ (r : Recording). RanSeat done c.args.seat r
     (record { books = c.up.new.self; seats = c.add.new.seats.items; door = c.self.inside.door; replies = c.self.inside.replies.items })
     (g.S.Sink.written c.args.sink.now) (g.S.Sink.written c.up.new.sink))
     c.self.view_is

@@ -10,11 +10,8 @@ returns-in_err-tick-clause-ran g c =
 pub returns-clause-ran : goal.returns-clause-ran
 returns-clause-ran g c =
     ran_wake c.answer.result c.args.time c.args.seat c.args.self.now _ c.answer.new.self _ _ _ _
-    (woke_as c.args.time c.args.seat.peer
-    (record { books = c.self.inside.books; seats = c.self.inside.seats.items; door = c.self.inside.door; replies = c.self.inside.replies.items })
-    c.args.self.now _ c.clear.new.self.items c.self.view_is c.clear.ensures.items
-    c.in_ok-tick.ensures.ticked c.in_ok-tick.ensures.played c.in_ok-tick.ensures.others c.in_ok-tick.ensures.expired c.tick.ensures.config
-    c.tick.ensures.scribe refl refl)
+    (woke_as _ _ _ _ _ _ c.self.view_is c.clear.ensures.items c.in_ok-tick.ensures.ticked c.in_ok-tick.ensures.played c.in_ok-tick.ensures.others
+    c.in_ok-tick.ensures.expired c.tick.ensures.config c.tick.ensures.scribe refl refl)
     c.answer.ensures.answered
 
 pub returns-clause-stay : goal.returns-clause-stay
@@ -26,11 +23,8 @@ returns-clause-stay g c = ok_to c.answer.result c.answer.ensures.stay
 pub returns-clause-lives : goal.returns-clause-lives
 returns-clause-lives g c =
     answer_lives c.answer.result c.args.time c.args.seat c.args.self.now _ c.answer.new.self _ _ _ _
-    (woke_as c.args.time c.args.seat.peer
-    (record { books = c.self.inside.books; seats = c.self.inside.seats.items; door = c.self.inside.door; replies = c.self.inside.replies.items })
-    c.args.self.now _ c.clear.new.self.items c.self.view_is c.clear.ensures.items
-    c.in_ok-tick.ensures.ticked c.in_ok-tick.ensures.played c.in_ok-tick.ensures.others c.in_ok-tick.ensures.expired c.tick.ensures.config
-    c.tick.ensures.scribe refl refl)
+    (woke_as _ _ _ _ _ _ c.self.view_is c.clear.ensures.items c.in_ok-tick.ensures.ticked c.in_ok-tick.ensures.played c.in_ok-tick.ensures.others
+    c.in_ok-tick.ensures.expired c.tick.ensures.config c.tick.ensures.scribe refl refl)
     c.answer.ensures.answered
 
 pub returns-clause-config : goal.returns-clause-config
