@@ -1,22 +1,21 @@
 -- How a kept session stands, whatever happened: what was said through its connection is the OPEN, KEEPALIVEs and changes of
 -- rules, and leaves the receiving end exactly what it was told.
 use Rattle.std.specs.List.{AllByRecursion}
-use Rattle.fs_base.{specs.Gate.{What, ended, gave, made, nothing, taken}, proofs.Bools.{and_parts, false_of_not}}
+use Rattle.fs_base.{specs.Gate.{What, ended, gave, made, nothing, taken}, proofs.Bools.{false_of_not}}
 use Rattle.fs_session.specs.declared.times.Times.{Times}
 use Rattle.fs_speaker.{specs.Numbers.{HasOwnNumbers, IsFourOctet}, proofs.{MessageRuns.{hand_each}, Waking.{open_not, tick_each}}}
 use Rattle.fs_desk.specs.Updates.{flow_left}
-use Rattle.fs_peering.specs.Keeper.{Connection, Kept, Outcome, Said, accepts, at_first, at_line, begins, begins_one, checks, comes_up, dialling}
-use Rattle.fs_peering.specs.Keeper.{dials, exceeds, follows, is_due, is_late, is_up, lets_go, machine_of, parting, parts, receives, rests, rises}
-use Rattle.fs_peering.specs.Keeper.{news_up, outcome, speaks, news_told, ends, speaks_on, spoke, spoken_so, tells, tells_all, terms_at, wakes}
-use Rattle.fs_peering.specs.Keeper.{with_connection, with_rules, change_text}
+use Rattle.fs_peering.specs.Keeper.{Connection, Kept, accepts, at_first, begins, checks, comes_up, dialling, dials, exceeds, follows, is_up, lets_go}
+use Rattle.fs_peering.specs.Keeper.{machine_of, parts, receives, outcome, speaks, news_told, ends, spoke, tells, tells_all, terms_at, wakes}
+use Rattle.fs_peering.specs.Keeper.{with_connection, with_rules, change_text, rises}
 use Rattle.fs_peering.specs.KeeperLaws.{Act, KeepsEqual, LeavesExactly, MayAct, MayKeep, accepted, acted, dialled, heard, kept_from, told_all}
-use Rattle.fs_peering.proofs.Words.{AreRead, Bool, Closed, Config, Expires, Fault, Handed, Keeps, List, Needs, None, Option, Peer, Phase, Point}
+use Rattle.fs_peering.proofs.Words.{AreRead, Bool, Config, Expires, Fault, Handed, Keeps, List, Needs, None, Option, Peer, Phase, Point}
 use Rattle.fs_peering.proofs.Words.{Quiet as IsQuiet, Sending, Some, Tick, [], announcer, ap, append-nil, at_moment, at_start, false, hand}
 use Rattle.fs_peering.proofs.Words.{if◌then◌else◌, inl, inr, is_established, is_some, message_text, needs_of, not, notice_text, open_sent, receiver}
-use Rattle.fs_peering.proofs.Words.{refl, runs_by, same_Some, sender_of, subst, sym, terms_of, tick_at, ticked, ticks, true, true≢false, ℕ, ◌&&◌}
-use Rattle.fs_peering.proofs.Words.{◌++◌, ◌==◌, ◌∙◌, ◌∷◌, ◌≡◌, ◌⊎◌}
-use Rattle.fs_peering.proofs.{Answering.{Opens, opens_by}, Changing.{Holds, IsFit, IsFitOr, tells_change}}
+use Rattle.fs_peering.proofs.Words.{refl, runs_by, same_Some, sender_of, subst, sym, terms_of, tick_at, ticked, ticks, true, true≢false, ℕ, ◌++◌, ◌∙◌}
+use Rattle.fs_peering.proofs.{Words.{◌∷◌, ◌≡◌, ◌⊎◌}, Answering.{Opens, opens_by}, Changing.{Holds, IsFit, IsFitOr, tells_change}}
 use Rattle.fs_peering.proofs.Leading.{Leads, leads_alive, leads_first_alive, leads_open, leads_then, leads_whole, met, up}
+use Rattle.fs_peering.proofs.Outcomes.{accepts_each, checks_each, dials_each, line_each, receives_each, tells_all_each, wakes_each}
 use Rattle.fs_peering.proofs.{Phases.{Quiet, awaits_open, quiet_by}, Sendable.{arrives}}
 
 module _ (config : Config) (peer : Peer) (own : HasOwnNumbers config) (asn : IsFourOctet peer.asn) where
@@ -163,49 +162,12 @@ module _ (config : Config) (peer : Peer) (own : HasOwnNumbers config) (asn : IsF
   spoke_is rules c text now i s = record { peer_is = i.peer_is; asked = i.asked; same = i.same; stands = s }
 
   wakes_kept : (time : ℕ) (c : Connection) (kept : Kept) → IsKept kept → IsConnection kept.rules c → IsKept (wakes time c kept).kept
-  wakes_kept time c kept k i = by (ticked time c.point).point.closed refl
-    where
-      made_so : Handed
-      made_so = ticked time c.point
-
-      said : Option Closed → Said
-      said how = elim how [
-        | Some why ↦ spoken_so made_so.text made_so.point (Some why)
-        | None ↦
-            if is_late time c.since c.point then spoken_so (made_so.text ++ notice_text 4 0) made_so.point (Some (Fault 4 0))
-            else spoken_so made_so.text made_so.point None
-      ]
-
-      comes : Said → Outcome
-      comes s = elim s.closing [ Some why ↦ parts s.text why time c kept | None ↦ speaks_on s.text s.point None c kept ]
-
-      result : Said → Kept
-      result s = (comes s).kept
-
-      late : made_so.point.closed ≡ None → (b : Bool)
-          → IsKept (result (if b then spoken_so (made_so.text ++ notice_text 4 0) made_so.point (Some (Fault 4 0))
-          else spoken_so made_so.text made_so.point None))
-      late e true = gone_kept time kept k.rules
-      late e false = with_kept (spoke made_so.text made_so.point c) kept k.rules
-          (spoke_is kept.rules c made_so.text made_so.point i (tick_stands time c i.stands e))
-
-      by : (how : Option Closed) → made_so.point.closed ≡ how → IsKept (result (said how))
-      by (Some why) e = gone_kept time kept k.rules
-      by None e = late e (is_late time c.since c.point)
+  wakes_kept time c kept k i = wakes_each (λ o. IsKept o.kept) time c kept (λ text why. gone_kept time kept k.rules)
+      (λ e. with_kept (spoke (ticked time c.point).text (ticked time c.point).point c) kept k.rules
+      (spoke_is kept.rules c (ticked time c.point).text (ticked time c.point).point i (tick_stands time c i.stands e)))
 
   checks_kept : (time : ℕ) (kept : Kept) → IsKept kept → IsKept (checks time kept).kept
-  checks_kept time kept k = by kept.connection refl
-    where
-      inner : (c : Connection) → kept.connection ≡ Some c → (b : Bool) → IsKept (if b then wakes time c kept else rests kept).kept
-      inner c e true = wakes_kept time c kept k (k.connection c e)
-      inner c e false = k
-
-      comes : Option Connection → Outcome
-      comes o = elim o [ None ↦ rests kept | Some c ↦ if c.made then wakes time c kept else rests kept ]
-
-      by : (o : Option Connection) → kept.connection ≡ o → IsKept (comes o).kept
-      by None e = k
-      by (Some c) e = inner c e c.made
+  checks_kept time kept k = checks_each (λ o. IsKept o.kept) time kept k (λ c e m. wakes_kept time c kept k (k.connection c e))
 
   up_kept : (b : Bool) (x : Connection) (kept : Kept) → IsKept kept → IsConnection kept.rules x → IsKept (with_connection (Some x) (comes_up b kept))
   up_kept true x kept k i = with_kept x (comes_up true kept) k.rules i
@@ -213,31 +175,10 @@ module _ (config : Config) (peer : Peer) (own : HasOwnNumbers config) (asn : IsF
 
   receives_kept : (time : ℕ) (piece : List ℕ) (c : Connection) (kept : Kept) → IsKept kept → IsConnection kept.rules c → c.made ≡ true
       → IsKept (receives config time piece c kept).kept
-  receives_kept time piece c kept k i m = by made_so.point.closed refl
-    where
-      made_so : Handed
-      made_so = hand (machine_of config c) time c.point piece
-
-      said : Option Closed → Said
-      said how = elim how [
-        | Some why ↦ spoken_so (made_so.text ++ parting why) made_so.point (Some why)
-        | None ↦ spoken_so made_so.text made_so.point None
-      ]
-
-      comes : Said → Outcome
-      comes s = elim s.closing [
-        | Some why ↦ parts s.text why time c kept
-        | None ↦ speaks_on s.text s.point (news_up (rises c.point s.point)) c (comes_up (rises c.point s.point) kept)
-      ]
-
-      result : Said → Kept
-      result s = (comes s).kept
-
-      by : (how : Option Closed) → made_so.point.closed ≡ how → IsKept (result (said how))
-      by (Some why) e = gone_kept time kept k.rules
-      by None e =
-          up_kept (rises c.point made_so.point) (spoke made_so.text made_so.point c) kept k
-          (spoke_is kept.rules c made_so.text made_so.point i (hand_stands time piece c m i.stands e))
+  receives_kept time piece c kept k i m = receives_each (λ o. IsKept o.kept) config time piece c kept (λ text why. gone_kept time kept k.rules)
+      (λ e. let made_so : Handed = hand (machine_of config c) time c.point piece in
+      up_kept (rises c.point made_so.point) (spoke made_so.text made_so.point c) kept k
+      (spoke_is kept.rules c made_so.text made_so.point i (hand_stands time piece c m i.stands e)))
 
   begins_kept : (time : ℕ) (c : Connection) (kept : Kept) → IsKept kept → IsConnection kept.rules c → c.made ≡ false → IsKept (begins config time c kept).kept
   begins_kept time c kept k i m = with_kept _ kept k.rules (record { peer_is = i.peer_is; asked = i.asked; same = i.same; stands = by i.stands })
@@ -252,27 +193,14 @@ module _ (config : Config) (peer : Peer) (own : HasOwnNumbers config) (asn : IsF
       })
       by (inr l) = absurd (no_made c.made m l.made_is)
 
-  line_kept : (line : ℕ) (test : Connection → Bool) (act : Connection → Kept → Outcome) (kept : Kept) → IsKept kept
-      → ((c : Connection) → kept.connection ≡ Some c → test c ≡ true → IsKept (act c kept).kept) → IsKept (at_line line test act kept).kept
-  line_kept line test act kept k acts = by kept.connection refl
-    where
-      inner : (c : Connection) → kept.connection ≡ Some c → (b : Bool) → ((c.line == line) && test c) ≡ b → IsKept (if b then act c kept else rests kept).kept
-      inner c e true f = acts c e (and_parts (c.line == line) (test c) f).1
-      inner c e false f = k
-
-      comes : Option Connection → Outcome
-      comes o = elim o [ None ↦ rests kept | Some c ↦ if (c.line == line) && test c then act c kept else rests kept ]
-
-      by : (o : Option Connection) → kept.connection ≡ o → IsKept (comes o).kept
-      by None e = k
-      by (Some c) e = inner c e ((c.line == line) && test c) refl
-
   follows_kept : (time : ℕ) (what : What) (kept : Kept) → IsKept kept → IsKept (follows config time what kept).kept
   follows_kept time (made line) kept k =
-      line_kept line (λ c. not c.made) (begins config time) kept k (λ c e m. begins_kept time c kept k (k.connection c e) (false_of_not c.made m))
+      line_each (λ o. IsKept o.kept) line (λ c. not c.made) (begins config time) kept k
+      (λ c e m. begins_kept time c kept k (k.connection c e) (false_of_not c.made m))
   follows_kept time (gave line piece) kept k =
-      line_kept line (λ c. c.made) (receives config time piece) kept k (λ c e m. receives_kept time piece c kept k (k.connection c e) m)
-  follows_kept time (ended line) kept k = line_kept line (λ c. true) (ends time) kept k (λ c e m. gone_kept time kept k.rules)
+      line_each (λ o. IsKept o.kept) line (λ c. c.made) (receives config time piece) kept k (λ c e m. receives_kept time piece c kept k (k.connection c e) m)
+  follows_kept time (ended line) kept k =
+      line_each (λ o. IsKept o.kept) line (λ c. true) (ends time) kept k (λ c e m. gone_kept time kept k.rules)
   follows_kept time (taken line from) kept k = k
   follows_kept time nothing kept k = k
 
@@ -317,7 +245,8 @@ module _ (config : Config) (peer : Peer) (own : HasOwnNumbers config) (asn : IsF
   late_up c e (inr l) = l
 
   accepts_kept : (time : ℕ) (new : Sending) (kept : Kept) → MayKeep config peer new → IsKept kept → IsKept (accepts config time new kept).kept
-  accepts_kept time new kept may k = by kept.connection refl
+  accepts_kept time new kept may k = accepts_each (λ o. IsKept o.kept) config time new kept (λ idle. untold (λ c e. none_told c.told (idle c e)))
+      (λ c e f. let i = k.connection c e in tells_kept time new c other refl may i.peer_is i.asked (late_told c f i.stands))
     where
       other : Kept
       other = with_rules new kept
@@ -335,95 +264,20 @@ module _ (config : Config) (peer : Peer) (own : HasOwnNumbers config) (asn : IsF
       none_told None e = refl
       none_told (Some told) e = absurd (true≢false e)
 
-      inner : (c : Connection) → kept.connection ≡ Some c → (b : Bool) → is_some c.told ≡ b
-          → IsKept (if b then tells config time new c other else rests other).kept
-      inner c e true f =
-          let i = k.connection c e in
-          tells_kept time new c other refl may i.peer_is i.asked (late_told c f i.stands)
-      inner c e false f = untold (λ d g. none_told d.told (ap is_some (ap (λ (x : Connection). x.told) (sym (same_Some c d (sym e ∙ g)))) ∙ f))
-
-      comes : Option Connection → Outcome
-      comes o = elim o [ None ↦ rests other | Some c ↦ if is_some c.told then tells config time new c other else rests other ]
-
-      by : (o : Option Connection) → kept.connection ≡ o → IsKept (comes o).kept
-      by None e = untold (λ c f. absurd (never c (sym e ∙ f)))
-        where
-          never : (c : Connection) → None ≡ Some c → ⊥
-          never c g = cc
-      by (Some c) e = inner c e (is_some c.told) refl
-
   tells_all_kept : (time : ℕ) (kept : Kept) → IsKept kept → IsKept (tells_all config time kept).kept
-  tells_all_kept time kept k = by kept.connection refl
-    where
-      tells_by : Connection → Option Sending → Outcome
-      tells_by c rules = elim rules [
-        | None ↦ rests kept
-        | Some new ↦ if is_up c.point && not (is_some c.told) then tells config time new c kept
-            else rests kept
-      ]
-
-      inner : (c : Connection) → kept.connection ≡ Some c → (new : Sending) → kept.rules ≡ Some new → (b : Bool) → (is_up c.point && not (is_some c.told)) ≡ b
-          → IsKept (if b then tells config time new c kept else rests kept).kept
-      inner c e new r true f =
-          let i = k.connection c e in
-          tells_kept time new c kept r (k.rules new r) i.peer_is i.asked (late_up c (and_parts (is_up c.point) (not (is_some c.told)) f).0 i.stands)
-      inner c e new r false f = k
-
-      with_rules_by : (c : Connection) → kept.connection ≡ Some c → (o : Option Sending) → kept.rules ≡ o → IsKept (tells_by c o).kept
-      with_rules_by c e None r = k
-      with_rules_by c e (Some new) r = inner c e new r (is_up c.point && not (is_some c.told)) refl
-
-      comes : Option Connection → Outcome
-      comes o = elim o [ None ↦ rests kept | Some c ↦ tells_by c kept.rules ]
-
-      by : (o : Option Connection) → kept.connection ≡ o → IsKept (comes o).kept
-      by None e = k
-      by (Some c) e = with_rules_by c e kept.rules refl
+  tells_all_kept time kept k = tells_all_each (λ o. IsKept o.kept) config time kept k (λ c e new r f.
+      let i = k.connection c e in tells_kept time new c kept r (k.rules new r) i.peer_is i.asked (late_up c f i.stands))
 
   -- A CONNECTION IS DIALLED
   module _ (sender : sender_of config.peers ≡ Some peer) where
     dials_kept : (line time : ℕ) (address : List ℕ) (kept : Kept) → IsKept kept → IsKept (dials config line time address kept).kept
-    dials_kept line time address kept k = by kept.connection
-      where
-        begun : (sending : Sending) → kept.rules ≡ Some sending → (other : Peer) → sender_of config.peers ≡ Some other
-            → IsConnection kept.rules (dialling line time other sending)
-        begun sending r other s = record {
+    dials_kept line time address kept k = dials_each (λ o. IsKept o.kept) config line time address kept k
+        (λ sending r other s. with_kept (dialling line time other sending) kept k.rules (record {
           peer_is = sym (same_Some peer other (sym sender ∙ s));
           asked = k.rules sending r;
           same = λ told e. absurd (some_none told None refl e);
           stands = inl (record { waits = refl; untold = refl; leads = λ m. absurd (no_made false refl m) });
-        }
-
-        due : (sending : Sending) → kept.rules ≡ Some sending → (other : Peer) → sender_of config.peers ≡ Some other → (b : Bool)
-            → IsKept (if b then begins_one line time address other sending kept else rests kept).kept
-        due sending r other s true = with_kept (dialling line time other sending) kept k.rules (begun sending r other s)
-        due sending r other s false = k
-
-        for_peer : Sending → Option Peer → Outcome
-        for_peer sending found = elim found [
-          | None ↦ rests kept
-          | Some other ↦ if is_due time kept
-              then begins_one line time address other sending kept else rests kept
-        ]
-
-        of_peer : (sending : Sending) → kept.rules ≡ Some sending → (found : Option Peer) → sender_of config.peers ≡ found
-            → IsKept (for_peer sending found).kept
-        of_peer sending r None s = k
-        of_peer sending r (Some other) s = due sending r other s (is_due time kept)
-
-        for_rules : Option Sending → Outcome
-        for_rules rules = elim rules [ None ↦ rests kept | Some sending ↦ for_peer sending (sender_of config.peers) ]
-
-        of_rules : (o : Option Sending) → kept.rules ≡ o → IsKept (for_rules o).kept
-        of_rules None r = k
-        of_rules (Some sending) r = of_peer sending r (sender_of config.peers) refl
-
-        comes : Option Connection → Outcome
-        comes o = elim o [ Some c ↦ rests kept | None ↦ for_rules kept.rules ]
-
-        by : (o : Option Connection) → IsKept (comes o).kept
-        by (Some c) = k
-        by None = of_rules kept.rules refl
+        }))
 
     -- ALL ACTS
     acted_kept : (act : Act) (kept : Kept) → MayAct config peer act → IsKept kept → IsKept (acted config kept act)

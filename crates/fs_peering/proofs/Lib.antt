@@ -40,6 +40,7 @@ mod Holding
 mod Packing
 mod Leading
 mod Changing
+pub mod Outcomes
 pub mod Kept
 mod SentOnLine
 mod Linking

@@ -1,16 +1,16 @@
 -- What counts as said through a kept connection was sent on its line, where no line was dialled twice.
 use Rattle.fs_base.specs.Gate.{Turn, What, came, dialled as begun, ended, gave, made, nothing, read, said, shut, taken}
 use Rattle.fs_base.proofs.Bools.{and_parts, false_of_not, or_false}
-use Rattle.fs_peering.specs.Keeper.{Connection, Kept, Outcome, Said, accepts, at_first, at_line, begins, begins_one, change_text, checks, comes_up}
-use Rattle.fs_peering.specs.Keeper.{dialling, dials, ends, exceeds, follows, hears, is_due, is_late, is_up, lets_go, machine_of, news_told, news_up}
-use Rattle.fs_peering.specs.Keeper.{outcome, parting, parts, receives, rests, rises, speaks, speaks_on, spoke, spoken_so, tells, tells_all, terms_at}
-use Rattle.fs_peering.specs.Keeper.{wakes, with_connection, with_rules}
+use Rattle.fs_peering.specs.Keeper.{Connection, Kept, Outcome, accepts, at_first, at_line, begins, begins_one, change_text, checks, comes_up}
+use Rattle.fs_peering.specs.Keeper.{dialling, dials, ends, exceeds, follows, hears, is_up, lets_go, news_told, outcome, parts, receives, speaks}
+use Rattle.fs_peering.specs.Keeper.{tells, tells_all, terms_at, wakes, with_connection, with_rules, machine_of, news_up, rises, spoke}
 use Rattle.fs_peering.specs.KeeperLaws.{Act, SendsAll, accepted, acted, are_new, asked, asked_from, dialled, heard, is_among, kept_from, sent_on}
 use Rattle.fs_peering.specs.KeeperLaws.{told_all}
 use Rattle.fs_peering.specs.declared.keeper.News.{News}
-use Rattle.fs_peering.proofs.Words.{Bool, Closed, Config, Fault, Handed, List, None, Option, Peer, Sending, Some, [], ap, append-nil, append_assoc}
-use Rattle.fs_peering.proofs.Words.{arith, false, hand, if◌then◌else◌, is_some, nat_tests, needs_of, not, notice_text, open_sent, refl, same_Some}
-use Rattle.fs_peering.proofs.Words.{sender_of, subst, sym, ticked, true, true≢false, ℕ, ◌&&◌, ◌++◌, ◌==◌, ◌||◌, ◌∙◌, ◌∷◌, ◌≡◌}
+use Rattle.fs_peering.proofs.Words.{Bool, Closed, Config, Fault, List, None, Option, Peer, Sending, Some, [], ap, append-nil, append_assoc, arith}
+use Rattle.fs_peering.proofs.Words.{false, if◌then◌else◌, is_some, nat_tests, needs_of, not, notice_text, open_sent, refl, same_Some, subst, sym}
+use Rattle.fs_peering.proofs.Words.{true, true≢false, ℕ, ◌++◌, ◌==◌, ◌||◌, ◌∙◌, ◌∷◌, ◌≡◌, Handed, hand, ticked}
+use Rattle.fs_peering.proofs.Outcomes.{accepts_each, checks_each, dials_each, line_each, receives_each, tells_all_each, wakes_each}
 
 -- LINES
 
@@ -182,89 +182,27 @@ never_false b e f = true≢false (sym e ∙ f)
 module _ (config : Config) where
   wakes_sent : (seen : List ℕ) (turns : List Turn) (time : ℕ) (c : Connection) (kept : Kept) → Sends seen turns kept → IsSent seen turns c → c.made ≡ true
       → Does seen turns (wakes time c kept)
-  wakes_sent seen turns time c kept s i m = by made_so.point.closed
-    where
-      made_so : Handed
-      made_so = ticked time c.point
-
-      told : Option Closed → Said
-      told how = elim how [
-        | Some why ↦ spoken_so made_so.text made_so.point (Some why)
-        | None ↦
-            if is_late time c.since c.point then spoken_so (made_so.text ++ notice_text 4 0) made_so.point (Some (Fault 4 0))
-            else spoken_so made_so.text made_so.point None
-      ]
-
-      comes : Said → Outcome
-      comes r = elim r.closing [ Some why ↦ parts r.text why time c kept | None ↦ speaks_on r.text r.point None c kept ]
-
-      late : (b : Bool) → Does seen turns
-          (comes (if b then spoken_so (made_so.text ++ notice_text 4 0) made_so.point (Some (Fault 4 0))
-          else spoken_so made_so.text made_so.point None))
-      late true = closes seen turns c (made_so.text ++ notice_text 4 0) (Fault 4 0) time kept s.others i.among
-      late false =
-          says seen turns c (spoke made_so.text made_so.point c) made_so.text refl refl (λ f. absurd (never_false c.made m f)) None kept s.others i
-
-      by : (how : Option Closed) → Does seen turns (comes (told how))
-      by (Some why) = closes seen turns c made_so.text why time kept s.others i.among
-      by None = late (is_late time c.since c.point)
+  wakes_sent seen turns time c kept s i m = wakes_each (Does seen turns) time c kept (λ text why. closes seen turns c text why time kept s.others i.among)
+      (λ e. says seen turns c (spoke (ticked time c.point).text (ticked time c.point).point c) (ticked time c.point).text refl refl
+      (λ f. absurd (never_false c.made m f)) None kept s.others i)
 
   checks_sent : (seen : List ℕ) (turns : List Turn) (time : ℕ) (kept : Kept) → Sends seen turns kept → Does seen turns (checks time kept)
-  checks_sent seen turns time kept s = by kept.connection refl
-    where
-      inner : (c : Connection) → kept.connection ≡ Some c → (b : Bool) → c.made ≡ b → Does seen turns (if b then wakes time c kept else rests kept)
-      inner c e true m = wakes_sent seen turns time c kept s (s.own c e) m
-      inner c e false m = asks_none seen turns None kept s
-
-      comes : Option Connection → Outcome
-      comes o = elim o [ None ↦ rests kept | Some c ↦ if c.made then wakes time c kept else rests kept ]
-
-      by : (o : Option Connection) → kept.connection ≡ o → Does seen turns (comes o)
-      by None e = asks_none seen turns None kept s
-      by (Some c) e = inner c e c.made refl
+  checks_sent seen turns time kept s =
+      checks_each (Does seen turns) time kept (asks_none seen turns None kept s) (λ c e m. wakes_sent seen turns time c kept s (s.own c e) m)
 
   receives_sent : (seen : List ℕ) (turns : List Turn) (time : ℕ) (piece : List ℕ) (c : Connection) (kept : Kept) → Sends seen turns kept
       → IsSent seen turns c → c.made ≡ true
       → Does seen turns (receives config time piece c kept)
-  receives_sent seen turns time piece c kept s i m = by made_so.point.closed
-    where
-      made_so : Handed
-      made_so = hand (machine_of config c) time c.point piece
-
-      told : Option Closed → Said
-      told how = elim how [
-        | Some why ↦ spoken_so (made_so.text ++ parting why) made_so.point (Some why)
-        | None ↦ spoken_so made_so.text made_so.point None
-      ]
-
-      comes : Said → Outcome
-      comes r = elim r.closing [
-        | Some why ↦ parts r.text why time c kept
-        | None ↦ speaks_on r.text r.point (news_up (rises c.point r.point)) c (comes_up (rises c.point r.point) kept)
-      ]
-
-      by : (how : Option Closed) → Does seen turns (comes (told how))
-      by (Some why) = closes seen turns c (made_so.text ++ parting why) why time kept s.others i.among
-      by None =
-          says seen turns c (spoke made_so.text made_so.point c) made_so.text refl refl (λ f. absurd (never_false c.made m f))
-          (news_up (rises c.point made_so.point)) (comes_up (rises c.point made_so.point) kept) s.others i
+  receives_sent seen turns time piece c kept s i m =
+      receives_each (Does seen turns) config time piece c kept (λ text why. closes seen turns c text why time kept s.others i.among)
+      (λ e. let made_so : Handed = hand (machine_of config c) time c.point piece in
+      says seen turns c (spoke made_so.text made_so.point c) made_so.text refl refl (λ f. absurd (never_false c.made m f))
+      (news_up (rises c.point made_so.point)) (comes_up (rises c.point made_so.point) kept) s.others i)
 
   line_sent : (seen : List ℕ) (turns : List Turn) (line : ℕ) (test : Connection → Bool) (act : Connection → Kept → Outcome) (kept : Kept)
       → Sends seen turns kept
       → ((c : Connection) → kept.connection ≡ Some c → test c ≡ true → Does seen turns (act c kept)) → Does seen turns (at_line line test act kept)
-  line_sent seen turns line test act kept s acts = by kept.connection refl
-    where
-      inner : (c : Connection) → kept.connection ≡ Some c → (b : Bool) → ((c.line == line) && test c) ≡ b
-          → Does seen turns (if b then act c kept else rests kept)
-      inner c e true f = acts c e (and_parts (c.line == line) (test c) f).1
-      inner c e false f = asks_none seen turns None kept s
-
-      comes : Option Connection → Outcome
-      comes o = elim o [ None ↦ rests kept | Some c ↦ if (c.line == line) && test c then act c kept else rests kept ]
-
-      by : (o : Option Connection) → kept.connection ≡ o → Does seen turns (comes o)
-      by None e = asks_none seen turns None kept s
-      by (Some c) e = inner c e ((c.line == line) && test c) refl
+  line_sent seen turns line test act kept s acts = line_each (Does seen turns) line test act kept (asks_none seen turns None kept s) acts
 
   begins_sent : (seen : List ℕ) (turns : List Turn) (time : ℕ) (c : Connection) (kept : Kept) → Sends seen turns kept → IsSent seen turns c → c.made ≡ false
       → Does seen turns (begins config time c kept)
@@ -304,36 +242,9 @@ module _ (config : Config) where
 
   dials_sent : (seen : List ℕ) (turns : List Turn) (line time : ℕ) (address : List ℕ) (kept : Kept) → Sends seen turns kept
       → Does seen turns (dials config line time address kept)
-  dials_sent seen turns line time address kept s = by kept.connection
-    where
-      due : (sending : Sending) (peer : Peer) (b : Bool) → Does seen turns (if b then begins_one line time address peer sending kept else rests kept)
-      due sending peer true = begins_new seen turns line time address peer sending kept s
-      due sending peer false = asks_none seen turns None kept s
-
-      for_peer : Sending → Option Peer → Outcome
-      for_peer sending found = elim found [
-        | None ↦ rests kept
-        | Some peer ↦ if is_due time kept then begins_one line time address peer sending kept
-            else rests kept
-      ]
-
-      of_peer : (sending : Sending) (found : Option Peer) → Does seen turns (for_peer sending found)
-      of_peer sending None = asks_none seen turns None kept s
-      of_peer sending (Some peer) = due sending peer (is_due time kept)
-
-      for_rules : Option Sending → Outcome
-      for_rules rules = elim rules [ None ↦ rests kept | Some sending ↦ for_peer sending (sender_of config.peers) ]
-
-      of_rules : (o : Option Sending) → Does seen turns (for_rules o)
-      of_rules None = asks_none seen turns None kept s
-      of_rules (Some sending) = of_peer sending (sender_of config.peers)
-
-      comes : Option Connection → Outcome
-      comes o = elim o [ Some c ↦ rests kept | None ↦ for_rules kept.rules ]
-
-      by : (o : Option Connection) → Does seen turns (comes o)
-      by (Some c) = asks_none seen turns None kept s
-      by None = of_rules kept.rules
+  dials_sent seen turns line time address kept s =
+      dials_each (Does seen turns) config line time address kept (asks_none seen turns None kept s)
+      (λ sending r peer e. begins_new seen turns line time address peer sending kept s)
 
   -- RULES ARE TOLD
   tells_sent : (seen : List ℕ) (turns : List Turn) (time : ℕ) (new : Sending) (c : Connection) (kept : Kept)
@@ -368,52 +279,14 @@ module _ (config : Config) where
 
   accepts_sent : (seen : List ℕ) (turns : List Turn) (time : ℕ) (new : Sending) (kept : Kept) → Sends seen turns kept
       → Does seen turns (accepts config time new kept)
-  accepts_sent seen turns time new kept s = by kept.connection refl
-    where
-      other : Kept
-      other = with_rules new kept
-
-      same : Sends seen turns other
-      same = record { others = s.others; own = s.own }
-
-      inner : (c : Connection) → kept.connection ≡ Some c → (b : Bool) → is_some c.told ≡ b
-          → Does seen turns (if b then tells config time new c other else rests other)
-      inner c e true f = tells_sent seen turns time new c other s.others (s.own c e) (made_told seen turns c (s.own c e) f)
-      inner c e false f = asks_none seen turns None other same
-
-      comes : Option Connection → Outcome
-      comes o = elim o [ None ↦ rests other | Some c ↦ if is_some c.told then tells config time new c other else rests other ]
-
-      by : (o : Option Connection) → kept.connection ≡ o → Does seen turns (comes o)
-      by None e = asks_none seen turns None other same
-      by (Some c) e = inner c e (is_some c.told) refl
+  accepts_sent seen turns time new kept s =
+      accepts_each (Does seen turns) config time new kept
+      (λ idle. asks_none seen turns None (with_rules new kept) (record { others = s.others; own = s.own }))
+      (λ c e f. tells_sent seen turns time new c (with_rules new kept) s.others (s.own c e) (made_told seen turns c (s.own c e) f))
 
   tells_all_sent : (seen : List ℕ) (turns : List Turn) (time : ℕ) (kept : Kept) → Sends seen turns kept → Does seen turns (tells_all config time kept)
-  tells_all_sent seen turns time kept s = by kept.connection refl
-    where
-      tells_by : Connection → Option Sending → Outcome
-      tells_by c rules = elim rules [
-        | None ↦ rests kept
-        | Some new ↦ if is_up c.point && not (is_some c.told) then tells config time new c kept
-            else rests kept
-      ]
-
-      inner : (c : Connection) → kept.connection ≡ Some c → (new : Sending) → (b : Bool) → (is_up c.point && not (is_some c.told)) ≡ b
-          → Does seen turns (if b then tells config time new c kept else rests kept)
-      inner c e new true f =
-          tells_sent seen turns time new c kept s.others (s.own c e) (made_up seen turns c (s.own c e) (and_parts (is_up c.point) (not (is_some c.told)) f).0)
-      inner c e new false f = asks_none seen turns None kept s
-
-      of_rules : (c : Connection) → kept.connection ≡ Some c → (o : Option Sending) → Does seen turns (tells_by c o)
-      of_rules c e None = asks_none seen turns None kept s
-      of_rules c e (Some new) = inner c e new (is_up c.point && not (is_some c.told)) refl
-
-      comes : Option Connection → Outcome
-      comes o = elim o [ None ↦ rests kept | Some c ↦ tells_by c kept.rules ]
-
-      by : (o : Option Connection) → kept.connection ≡ o → Does seen turns (comes o)
-      by None e = asks_none seen turns None kept s
-      by (Some c) e = of_rules c e kept.rules
+  tells_all_sent seen turns time kept s = tells_all_each (Does seen turns) config time kept (asks_none seen turns None kept s)
+      (λ c e new r f. tells_sent seen turns time new c kept s.others (s.own c e) (made_up seen turns c (s.own c e) f))
 
   -- ALL ACTS
   acted_sent : (seen : List ℕ) (turns : List Turn) (act : Act) (kept : Kept) → Sends seen turns kept → are_new seen (asked config kept act) ≡ true
