@@ -256,21 +256,21 @@ module _ (config : Config) (peer : Peer) (sending : Sending) (limit : ℕ) (firs
   over_limit over begun so_far hears same alive met =
       at_end AtLimit Over over begun so_far hears same (λ pieces said left none e some h. limit_end alive met pieces said left none some h)
 
-  pub limit_so : (over : Bool) (begun so_far : ℕ) → HearsOut MetIt s1 s2 over begun so_far 1 limit t1 t2 answers answers'
-      → end.appended ≡ spoke.announcer.appended
-      → over ≡ is_settled end.line → so_far ≡ now.count → TellsOver AtLimit config peer sending limit t0 t2 answers answers'
-  limit_so over begun so_far hears same o k =
-      at_end _ MetIt over begun so_far hears same
-      (λ pieces said left none e some h. limit_end (unsettled end.line (sym o ∙ e.0)).0 (subst (λ (n : ℕ). limit ≤ n) k e.1) pieces said left none some h)
+  over_is : is_over now.hears_on end.line ≡ is_settled end.line
+  over_is = ap (λ (o : Bool). is_over o end.line) off
 
-  pub ended_so : (over : Bool) (begun so_far : ℕ) → HearsOut All s1 s2 over begun so_far 1 limit t1 t2 answers answers'
-      → end.appended ≡ spoke.announcer.appended
-      → over ≡ is_settled end.line → so_far ≡ now.count → TellsOver Ended config peer sending limit t0 t2 answers answers'
-  ended_so over begun so_far hears same o k =
-      at_end _ All over begun so_far hears same (λ pieces said left none e some h.
-      let alive = unsettled end.line (sym o ∙ e.0) in (
-        ends_by (opens _ _ _ _ _ h.0 h.1 alive.0) _ _ (sym (state_open end.line alive.0)
-            ∙ alive.1) (subst (λ (n : ℕ). n < limit) k e.1.0) e.1.1,
+  pub limit_so : (begun : ℕ) → HearsOut MetIt s1 s2 (is_over now.hears_on end.line) begun now.count 1 limit t1 t2 answers answers'
+      → end.appended ≡ spoke.announcer.appended → TellsOver AtLimit config peer sending limit t0 t2 answers answers'
+  limit_so begun hears same =
+      at_end _ MetIt (is_over now.hears_on end.line) begun now.count hears same
+      (λ pieces said left none e some h. limit_end (unsettled end.line (sym over_is ∙ e.0)).0 e.1 pieces said left none some h)
+
+  pub ended_so : (begun : ℕ) → HearsOut All s1 s2 (is_over now.hears_on end.line) begun now.count 1 limit t1 t2 answers answers'
+      → end.appended ≡ spoke.announcer.appended → TellsOver Ended config peer sending limit t0 t2 answers answers'
+  ended_so begun hears same =
+      at_end _ All (is_over now.hears_on end.line) begun now.count hears same (λ pieces said left none e some h.
+      let alive = unsettled end.line (sym over_is ∙ e.0) in (
+        ends_by (opens _ _ _ _ _ h.0 h.1 alive.0) _ _ (sym (state_open end.line alive.0) ∙ alive.1) e.1.0 e.1.1,
         (said_none _ _ _ _ _ h.0 h.1 some none, h.0.alive alive.0),
       ))
 

@@ -1,5 +1,4 @@
-use Rattle.fs_peering.proofs.Words.{ap, sym, ◌∙◌, refl, rules, Bool, Teller}
-use Rattle.fs_peering.proofs.Announced.{done_so, ended_so, is_of, limit_so, over_limit, over_so}
+use Rattle.fs_peering.proofs.{Words.{ap, sym, ◌∙◌, rules, Bool, Teller}, Announced.{done_so, ended_so, is_of, limit_so, over_limit, over_so}}
 use Rattle.fs_peering.proofs.Sending.{says_start}
 use Rattle.fs_peering.specs.Teller.{is_over}
 use Rattle.fs_peering.proofs.tell.announce_over.Goals as goal
@@ -37,14 +36,10 @@ pub returns-in-AtLimit-clause-tells : goal.returns-in-AtLimit-clause-tells
 returns-in-AtLimit-clause-tells g c config peer sending e s =
     limit_so _ _ _ _ _ _ _ _ _ _ _ _ c.in_ok-say_all.ensures.own c.in_ok-hear_out.ensures.own c.requires.early e s
     c.requires.fresh c.in_ok-say_all.ensures.spoke (c.in_ok-say_all.ensures.over
-    ∙ c.requires.open) _ _ _ (rw c.in-AtLimit.is at c.in_ok-hear_out.ensures.heard) c.in_ok-hear_out.ensures.sent
-    (ap (λ (o : Bool). is_over o c.hear_out.new.speaker.announcer.line)
-    (ap (λ (t : Teller). t.hears_on) (c.in_ok-hear_out.ensures.own ∙ c.in_ok-say_all.ensures.own) ∙ c.requires.early)) refl
+    ∙ c.requires.open) _ (rw c.in-AtLimit.is at c.in_ok-hear_out.ensures.heard) c.in_ok-hear_out.ensures.sent
 
 pub returns-in-All-clause-tells : goal.returns-in-All-clause-tells
 returns-in-All-clause-tells g c config peer sending e s =
     ended_so _ _ _ _ _ _ _ _ _ _ _ _ c.in_ok-say_all.ensures.own c.in_ok-hear_out.ensures.own c.requires.early e s
     c.requires.fresh c.in_ok-say_all.ensures.spoke (c.in_ok-say_all.ensures.over
-    ∙ c.requires.open) _ _ _ (rw c.in-All.is at c.in_ok-hear_out.ensures.heard) c.in_ok-hear_out.ensures.sent
-    (ap (λ (o : Bool). is_over o c.hear_out.new.speaker.announcer.line)
-    (ap (λ (t : Teller). t.hears_on) (c.in_ok-hear_out.ensures.own ∙ c.in_ok-say_all.ensures.own) ∙ c.requires.early)) refl
+    ∙ c.requires.open) _ (rw c.in-All.is at c.in_ok-hear_out.ensures.heard) c.in_ok-hear_out.ensures.sent
