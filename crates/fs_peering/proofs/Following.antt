@@ -1,6 +1,7 @@
 -- What a keeper does, one part after the other.
 use Rattle.fs_peering.proofs.KeeperWords.{ℕ, ◌*◌, min, most_wait, not, List, [], ◌∷◌, ◌++◌, append-nil, ◌≡◌, ◌==◌, ◌&&◌, Bool, true, false, Option}
 use Rattle.fs_peering.proofs.KeeperWords.{Some, None, IfSome, refl, ap, sym, subst, ◌∙◌, if◌then◌else◌, option_or, Turn, What, ended, gave, made}
+use Rattle.fs_peering.proofs.KeeperWords.{OnErr, Result, on_err}
 use Rattle.fs_peering.proofs.KeeperWords.{nothing, taken, shut, Grew, Grew-refl, Grew-trans, Config, Peer, CanSend, has_started, is_established}
 use Rattle.fs_peering.proofs.KeeperWords.{machine_in, open_sent, sender_of, state_in, terms_of, StandsAt, Closed, Lined, Machine, Point, Sending}
 use Rattle.fs_peering.proofs.KeeperWords.{Connection, Kept, Outcome, Said, at_line, begins, checks, ends, follows, hears, is_up, machine_of, news_up}
@@ -34,6 +35,10 @@ owns_on config linked linked' own same peer = record {
   config_is = same ∙ own.config_is;
   sender = own.sender ∙ ap (λ (p : Peer). Some p) (sym peer);
 }
+
+-- where it broke off before it asked
+pub asked_none : {T E : Type 0} (result : Result T E) (turns : Option (List Turn)) → OnErr result (Grew turns turns [])
+asked_none result turns = on_err result (Grew-refl turns)
 
 -- what a keeper has fits together still
 pub fits_on : (config : Config) (rules : Option Sending) (link : Option Linked) (linked linked' : Linked) → link ≡ Some linked → Fits config rules link

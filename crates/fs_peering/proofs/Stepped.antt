@@ -11,7 +11,7 @@ use Rattle.fs_peering.proofs.Following.{received_open, received_shut}
 use Rattle.fs_peering.proofs.KeeperTells.{accept_rests, accept_tells, dial_early, dial_idle, dial_new, dial_there, tells_by, tells_idle, tells_none}
 use Rattle.fs_peering.proofs.KeeperTells.{tells_on, tells_shut}
 use Rattle.std.{proofs.{Common.{eqb-true, ◌<◌, ◌≤◌}, lemmas.Bool.Decides.{nat_tests}}}
-use Rattle.fs_base.proofs.NumberTests.{eq_itself}
+use Rattle.fs_base.proofs.{Bools.{and_parts, false_of_not}, NumberTests.{eq_itself}}
 
 -- whether it is this line's connection
 line_other : (a b : ℕ) (fit : Bool) → (a ≡ b → ⊥) → ((a == b) && fit) ≡ false
@@ -21,12 +21,9 @@ line_other a b fit differs = by (a == b) refl
     by true e = absurd (differs (eqb-true a b e))
     by false e = ap (λ x. x && fit) e
 
-fit_other : (a b : ℕ) (fit : Bool) → fit ≡ false → ((a == b) && fit) ≡ false
-fit_other a b fit off = ap (λ x. (a == b) && x) off ∙ last (a == b)
-  where
-    last : (x : Bool) → (x && false) ≡ false
-    last true = refl
-    last false = refl
+-- the line of a connection that is this one's
+pub line_of : (at line : ℕ) (fit : Bool) → ((at == line) && fit) ≡ true → line ≡ at
+line_of at line fit at_it = sym (eqb-true at line (and_parts (at == line) fit at_it).0)
 
 line_this : (a b : ℕ) (fit : Bool) → a ≡ b → fit ≡ true → ((a == b) && fit) ≡ true
 line_this a b fit same on = subst (λ n. ((a == n) && fit) ≡ true) same (ap (λ x. (a == a) && x) on ∙ ap (λ x. x && true) (eq_itself a))
@@ -56,33 +53,11 @@ module _ (k old : Keeping) (same : k ≡ old) (linked seen : Linked) (link_is : 
       subst (λ (n : Keeping). TookSo (checks time) None old n turns turns) (sym stays_same)
       (check_waits _ _ _ old_link _ (sym (ap (λ (l : Linked). l.made) seen_is) ∙ off))
 
-  pub begin_other : (line time : ℕ) (turns : Option (List Turn)) → (seen.line ≡ line → ⊥)
-      → TookSo (at_line line (λ connection. not connection.made) (begins old.config time)) None old unchanged turns turns
-  begin_other line time turns differs =
-      subst (λ (n : Keeping). TookSo (at_line line (λ connection. not connection.made) (begins old.config time)) None old n turns turns) (sym stays_same)
-      (at_other _ _ _ _ _ _ old_link (λ connection e. ap not (sym e))
-      (line_other _ _ _ (λ e. differs (ap (λ (l : Linked). l.line) seen_is ∙ e))) turns)
-
-  pub begin_made : (line time : ℕ) (turns : Option (List Turn)) → seen.made ≡ true
-      → TookSo (at_line line (λ connection. not connection.made) (begins old.config time)) None old unchanged turns turns
-  begin_made line time turns on =
-      subst (λ (n : Keeping). TookSo (at_line line (λ connection. not connection.made) (begins old.config time)) None old n turns turns) (sym stays_same)
-      (at_other _ _ _ _ _ _ old_link (λ connection e. ap not (sym e))
-      (fit_other _ _ _ (ap not (sym (ap (λ (l : Linked). l.made) seen_is) ∙ on))) turns)
-
-  pub receive_other : (line time : ℕ) (piece : List ℕ) (turns : Option (List Turn)) → (seen.line ≡ line → ⊥)
-      → TookSo (at_line line (λ connection. connection.made) (receives old.config time piece)) None old unchanged turns turns
-  receive_other line time piece turns differs =
-      subst (λ (n : Keeping). TookSo (at_line line (λ connection. connection.made) (receives old.config time piece)) None old n turns turns) (sym stays_same)
-      (at_other _ _ _ _ _ _ old_link (λ connection e. sym e)
-      (line_other _ _ _ (λ e. differs (ap (λ (l : Linked). l.line) seen_is ∙ e))) turns)
-
-  pub receive_unmade : (line time : ℕ) (piece : List ℕ) (turns : Option (List Turn)) → seen.made ≡ false
-      → TookSo (at_line line (λ connection. connection.made) (receives old.config time piece)) None old unchanged turns turns
-  receive_unmade line time piece turns off =
-      subst (λ (n : Keeping). TookSo (at_line line (λ connection. connection.made) (receives old.config time piece)) None old n turns turns) (sym stays_same)
-      (at_other _ _ _ _ _ _ old_link (λ connection e. sym e)
-      (fit_other _ _ _ (sym (ap (λ (l : Linked). l.made) seen_is) ∙ off)) turns)
+  pub line_rests : (line : ℕ) (fits : Connection → Bool) (act : Connection → Kept → Outcome) (fit : Bool) (turns : Option (List Turn))
+      → ((connection : Connection) → linked.made ≡ connection.made → fits connection ≡ fit) → ((linked.line == line) && fit) ≡ false
+      → TookSo (at_line line fits act) None old unchanged turns turns
+  line_rests line fits act fit turns fits_is other =
+      subst (λ (n : Keeping). TookSo (at_line line fits act) None old n turns turns) (sym stays_same) (at_other _ _ _ _ _ _ old_link fits_is other turns)
 
   pub end_other : (line time : ℕ) → (seen.line ≡ line → ⊥) → TookQuietly (at_line line (λ connection. true) (ends time)) None old old
   end_other line time differs =
@@ -121,24 +96,19 @@ module _ (k old : Keeping) (same : k ≡ old) (linked seen : Linked) (link_is : 
         (subst (λ b. LinkSays (woken time linked.since) (Some done) linked linked' b out) cleared says) asked_so refl
         (shut_as _ _ _ _ (ap (λ (l : Linked). l.line) seen_is) closed) (goes ∙ ap (let_go time) same)
 
-    pub begin_this : (line time : ℕ) → seen.line ≡ line → seen.made ≡ false
+    pub begin_this : (line time : ℕ) → ((linked.line == line) && not linked.made) ≡ true
         → (linked.end.started ≡ false
         → (linked' ≡ record linked { made = true; since = time; end = has_started linked.end })
         × (out ≡ before ++ open_sent linked.end.config linked.end.peer linked.end.sending))
         → TookSo (at_line line (λ connection. not connection.made) (begins old.config time)) None old (going false linked' k) turns turns1
-    begin_this line time this off begun =
-        at_this _ _ _ _ _ _ _ _ _ _ old_link (λ connection e. ap not (sym e))
-        (line_this _ _ _ (sym (ap (λ (l : Linked). l.line) seen_is)
-        ∙ this) (ap not (sym (ap (λ (l : Linked). l.made) seen_is) ∙ off)))
-        (begun_so _ _ _ _ _ _ _ _ (sym (ap (λ (l : Linked). l.made) seen_is) ∙ off)
+    begin_this line time at_it begun =
+        at_this _ _ _ _ _ _ _ _ _ _ old_link (λ connection e. ap not (sym e)) at_it
+        (begun_so _ _ _ _ _ _ _ _ (false_of_not linked.made (and_parts (linked.line == line) (not linked.made) at_it).1)
         (λ fresh. subst (λ b. (linked' ≡ record linked { made = true; since = time; end = has_started linked.end })
         × (out ≡ b ++ open_sent linked.end.config linked.end.peer linked.end.sending)) cleared (begun fresh))
         asked_so (on_old false))
 
-    module _ (line time : ℕ) (piece : List ℕ) (this : seen.line ≡ line) (on : seen.made ≡ true) where
-      at_it : ((linked.line == line) && linked.made) ≡ true
-      at_it = line_this _ _ _ (sym (ap (λ (l : Linked). l.line) seen_is) ∙ this) (sym (ap (λ (l : Linked). l.made) seen_is) ∙ on)
-
+    module _ (line time : ℕ) (piece : List ℕ) (at_it : ((linked.line == line) && linked.made) ≡ true) where
       pub receive_closes : (news : Option News) (new : Keeping) (turns2 : Option (List Turn))
           → LinkSays (received (machine_in linked.end) time piece) news linked linked' before out
           → is_some news ≡ true → Grew turns1 turns2 (shut seen.line ∷ []) → new ≡ let_go time k
@@ -162,15 +132,8 @@ module _ (k old : Keeping) (same : k ≡ old) (linked seen : Linked) (link_is : 
       receive_stays (Some done) up says off up_is = absurd (let never : true ≡ false = off in cc)
 
 -- whether it has come up
-pub was_on : (now was : Bool) → was ≡ true → false ≡ (now && not was)
-was_on true was on = ap not (sym on)
-was_on false was on = refl
-
-pub still_off : (now was : Bool) → now ≡ false → false ≡ (now && not was)
-still_off now was off = ap (λ n. n && not was) (sym off)
-
-pub rose : (now was : Bool) → now ≡ true → was ≡ false → true ≡ (now && not was)
-rose now was on off = ap not (sym off) ∙ ap (λ n. n && not was) (sym on)
+pub came_as : (up now was was' : Bool) → up ≡ (now && not was) → was ≡ was' → up ≡ (now && not was')
+came_as up now was was' e f = subst (λ w. up ≡ (now && not w)) f e
 
 -- no connection is there
 pub check_no : (k old : Keeping) (time : ℕ) (turns : Option (List Turn)) → k ≡ old → k.link ≡ None → TookSo (checks time) None old k turns turns

@@ -116,6 +116,7 @@ impl<'a> Keeper<'a> {
     /// # Errors
     ///
     /// `Memory` where the machine refused memory; nothing was dialled then.
+    #[tactic(auto, using(crate::proofs::Following::asked_none))]
     pub fn dial<G: Gate>(&mut self, time: u64, address: &str, gate: &mut G) -> Result<(), Memory>
         ensures still { G.faults gate.new ≡ G.faults gate.old }
         ensures took { OnOk result ((line : ℕ) × TookSo (dials self.old.config line time address.now) None
@@ -218,6 +219,7 @@ impl<'a> Keeper<'a> {
     }
 
     /// Tells the connection the rules, beyond the old ones.
+    #[tactic(auto, using(crate::proofs::Following::fits_on, crate::proofs::Following::asked_none))]
     fn tell<G: Gate>(
         &mut self,
         time: u64,
@@ -247,6 +249,7 @@ impl<'a> Keeper<'a> {
     }
 
     /// The clock, where a connection is made.
+    #[tactic(auto, using(crate::proofs::Following::fits_on, crate::proofs::Following::asked_none))]
     fn check<G: Gate>(&mut self, time: u64, gate: &mut G) -> Result<Option<News>, Memory>
         ensures still { G.faults gate.new ≡ G.faults gate.old }
         ensures took { IfOk result (λ news. TookSo (checks time) news
@@ -270,6 +273,7 @@ impl<'a> Keeper<'a> {
     }
 
     /// Says the OPEN through a connection that is made.
+    #[tactic(auto, using(crate::proofs::Following::fits_on, crate::proofs::Following::asked_none))]
     fn begin<G: Gate>(&mut self, line: u64, time: u64, gate: &mut G) -> Result<Option<News>, Memory>
         ensures still { G.faults gate.new ≡ G.faults gate.old }
         ensures took { IfOk result (λ news. TookSo (at_line line (λ connection. not connection.made) (begins self.old.config time)) news
@@ -279,7 +283,7 @@ impl<'a> Keeper<'a> {
         let Some(link) = &mut self.link else {
             return Ok(None);
         };
-        if link.line != line || link.made {
+        if !link.is_due_at(line) {
             return Ok(None);
         }
         self.out.clear();
@@ -289,6 +293,7 @@ impl<'a> Keeper<'a> {
     }
 
     /// Octets of the connection.
+    #[tactic(auto, using(crate::proofs::Following::fits_on, crate::proofs::Following::asked_none))]
     fn receive<G: Gate>(
         &mut self,
         line: u64,
@@ -305,7 +310,7 @@ impl<'a> Keeper<'a> {
         let Some(link) = &mut self.link else {
             return Ok(None);
         };
-        if link.line != line || !link.made {
+        if !link.is_made_at(line) {
             return Ok(None);
         }
         let was_up = link.is_up();
@@ -316,7 +321,7 @@ impl<'a> Keeper<'a> {
             self.shut(line, time, gate);
             return Ok(closed);
         }
-        if was_up || !link.is_up() {
+        if !link.came_up(was_up) {
             return Ok(None);
         }
         self.delay = FIRST_WAIT;

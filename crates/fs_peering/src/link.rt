@@ -1,6 +1,6 @@
 //! A connection of a session that is kept.
 
-ghost use Rattle.std.specs.{Prelude.{◌≡◌, ◌≢◌, ◌++◌, ◌-◌, ◌&&◌, Some, false, true, not, nat_lt, IfOk, IfSome, OnOk}, Option.{option_copied}};
+ghost use Rattle.std.specs.{Prelude.{◌≡◌, ◌≢◌, ◌++◌, ◌-◌, ◌==◌, ◌&&◌, Some, false, true, not, nat_lt, IfOk, IfSome, OnOk}, Option.{option_copied}};
 ghost use Rattle.fs_speaker.specs.Announcer.{CanSend, announcing, has_started, is_established, machine_in, open_sent};
 ghost use Rattle.fs_speaker.specs.{Line.{fresh, state_in}, Sending.{sender_of}, Side.{notice_text}};
 ghost use Rattle.fs_peering.specs.Keeper.{exceeds, news_of, open_time, parting, received, woken};
@@ -95,11 +95,32 @@ impl<'a> Link<'a> {
         Ok(())
     }
 
+    /// Whether it is this line's, and isn't made yet.
+    pub fn is_due_at(&self, line: u64) -> bool
+        ensures { result ≡ ((self.now.line == line) && not self.now.made) }
+    {
+        self.line == line && !self.made
+    }
+
+    /// Whether it is this line's, and is made.
+    pub fn is_made_at(&self, line: u64) -> bool
+        ensures { result ≡ ((self.now.line == line) && self.now.made) }
+    {
+        self.line == line && self.made
+    }
+
     /// Whether its session is established.
     pub fn is_up(&self) -> bool
         ensures { result ≡ is_established (state_in self.now.end.line) }
     {
         is_established(self.announcer.state())
+    }
+
+    /// Whether its session is established, and wasn't.
+    pub fn came_up(&self, was_up: bool) -> bool
+        ensures { result ≡ (is_established (state_in self.now.end.line) && not was_up) }
+    {
+        self.is_up() && !was_up
     }
 
     /// The clock, in milliseconds: appends what it says, and answers how the session closes then, if it does.

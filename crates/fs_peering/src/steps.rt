@@ -12,6 +12,7 @@ use fs_speaker::{Announcer, Closed, State};
 /// # Errors
 ///
 /// `Memory` where the machine refused memory, or the end has closed.
+#[tactic(auto, using(crate::proofs::Linking::starts_own, crate::proofs::Ahead::starts_ahead))]
 pub fn start(announcer: &mut Announcer<'_>, out: &mut Vec<u8>) -> Result<(), Memory>
     ensures open { OnOk result (announcer.old.line.closed ≡ None) }
     ensures starts { OnOk result

@@ -87,6 +87,7 @@ fn begin(announcer: &mut Announcer<'_>, started: bool, out: &mut Vec<u8>) -> Res
 }
 
 /// The clock, at a moment.
+#[tactic(auto, using(crate::proofs::Settled::woke_settled, crate::proofs::Counting::woke_hand))]
 pub(crate) fn wake(
     announcer: &mut Announcer<'_>,
     moment: u64,

@@ -1,4 +1,4 @@
-use Rattle.fs_peering.proofs.KeeperWords.{sym, subst, ◌∙◌, Option, IfSome, CanSend, Sending, sender_of, on_err, Grew-refl}
+use Rattle.fs_peering.proofs.KeeperWords.{sym, subst, ◌∙◌, Option, IfSome, CanSend, Sending, sender_of}
 use Rattle.fs_peering.proofs.Stepped.{dial_fits, dial_none, dial_soon, dial_still, dial_took}
 use Rattle.fs_peering.proofs.keeper.Keeper.dial.Goals.{then-is_some-via-then-is_some, then-is_some-via-else-is_some+then-saturating_sub-self}
 use Rattle.fs_peering.proofs.keeper.Keeper.dial.Goals as goal
@@ -27,10 +27,6 @@ invariant_of-self g c =
     dial_fits _ _ _ _ _ _ _ _ c.self.invariant
     (subst (λ (r : Option Sending). IfSome r (CanSend c.self.inside.config.now (sender_of c.self.inside.config.now.peers)))
     c.in-Some.is c.self.invariant.sendable) c.in_ok-link.ensures.made c.link.view_is
-
-pub returns-in_err-link-clause-breaks : goal.returns-in_err-link-clause-breaks
-returns-in_err-link-clause-breaks g c =
-    on_err c.from_residual.result (Grew-refl (g.G.Gate.turns c.args.gate.now))
 
 pub returns-clause-took : goal.returns-clause-took
 returns-clause-took g c = (

@@ -1,6 +1,5 @@
-use Rattle.fs_peering.proofs.KeeperWords.{sym, subst, Option, IfSome, CanSend, Fits, Grew-refl, IsOwn, Keeping, Linked, Sending, on_err}
-use Rattle.fs_peering.proofs.KeeperWords.{option_copied, sender_of}
-use Rattle.fs_peering.proofs.{Following.{all_said, fits_on, may_be_said}, Stepped.{tell_closes, tell_idle, tell_no, tell_stays}}
+use Rattle.fs_peering.proofs.KeeperWords.{sym, subst, Option, IfSome, CanSend, Fits, IsOwn, Keeping, Linked, Sending, option_copied, sender_of}
+use Rattle.fs_peering.proofs.{Following.{all_said, may_be_said}, Stepped.{tell_closes, tell_idle, tell_no, tell_stays}}
 use Rattle.fs_peering.proofs.keeper.Keeper.tell.Goals as goal
 
 pub returns-in_default-clause-tells : goal.returns-in_default-clause-tells
@@ -25,22 +24,6 @@ tell-requires-clause-new g c =
     may_be_said _ _ _ (subst (λ (l : Option Linked). IfSome l (IsOwn c.self.inside.config.now)) c.in-Some.is c.self.invariant.own)
     (subst (λ (r : Option Sending). IfSome r (CanSend c.self.inside.config.now (sender_of c.self.inside.config.now.peers))) c.in-Some-rules.is
     c.self.invariant.sendable)
-
-pub invariant_of-self-in_err-news : goal.invariant_of-self-in_err-news
-invariant_of-self-in_err-news g c =
-    fits_on _ _ _ _ _ c.in-Some.is c.self.invariant c.tell.ensures.own
-
-pub invariant_of-self-then-closes : goal.invariant_of-self-then-closes
-invariant_of-self-then-closes g c =
-    fits_on _ _ _ _ _ c.in-Some.is c.self.invariant c.tell.ensures.own
-
-pub invariant_of-self-else-closes : goal.invariant_of-self-else-closes
-invariant_of-self-else-closes g c =
-    fits_on _ _ _ _ _ c.in-Some.is c.self.invariant c.tell.ensures.own
-
-pub returns-in_err-news-clause-breaks : goal.returns-in_err-news-clause-breaks
-returns-in_err-news-clause-breaks g c =
-    on_err c.from_residual.result (Grew-refl (g.G.Gate.turns c.args.gate.now))
 
 pub returns-then-closes-clause-tells : goal.returns-then-closes-clause-tells
 returns-then-closes-clause-tells g c =
