@@ -67,6 +67,11 @@ woke_settled old new moment out out' result same stays shut ticks_so = (same, λ
 pub settled_then : (a b c : Announcing) → KeepsSettled a b → KeepsSettled b c → KeepsSettled a c
 settled_then a b c f l = (l.0 ∙ ap (λ (n : Announcing). with_line n c.line) f.0, λ h. l.1 (f.1 h))
 
+pub settled_fed : (a b c : Announcing) (moment : ℕ) (piece out out' : List ℕ) (result : Result ℕ Closed) → KeepsSettled a b → c ≡ with_line b c.line
+    → StaysEnded b c result out out' → c.line.closed ≡ closed_after result → FeedsEnd moment b c piece out out' result → KeepsSettled a c
+settled_fed a b c moment piece out out' result first same stays shut feeds =
+    settled_then a b c first (fed_settled b c moment piece out out' result same stays shut feeds)
+
 pub settled_same : (a : Announcing) → KeepsSettled a a
 settled_same a = (refl, λ h. h)
 

@@ -51,6 +51,7 @@ pub(crate) fn append_change(
 }
 
 /// Appends the UPDATEs of all rules.
+#[tactic(auto, using(crate::proofs::ChangeParts::all_texts))]
 fn append_all(terms: &Terms, new: &Sending, out: &mut Vec<u8>) -> Result<News, Memory>
     requires { MayBeSaid terms.now new.now }
     ensures text { OnOk result (out.new.items ≡ out.old.items ++ change_text terms.now None new.now) }
@@ -349,6 +350,7 @@ fn said_of(
 }
 
 /// Adds a message.
+#[tactic(auto, using(crate::proofs::ChangeParts::added_text))]
 fn add(said: &mut BTreeSet<Vec<u8>>, text: Vec<u8>) -> Result<(), Memory>
     ensures { OnOk result (Adds said.old said.new text.items) }
 {

@@ -31,6 +31,7 @@ impl<'a> Teller<'a> {
     /// # Errors
     ///
     /// `Memory` where the machine refused memory.
+    #[tactic(auto, using(crate::proofs::Hearing::starts_open))]
     pub fn new(
         alloc: Global,
         config: &'a Config,
@@ -114,6 +115,7 @@ fn stops(announcer: &Announcer<'_>, hears_on: bool) -> bool
 /// Takes the piece message by message, up to what closes the end, and where it doesn't hear on up to and with the one that
 /// establishes it. Answers how many octets come up to and with the message that establishes it: where none does, all of
 /// them, or those before the message that closes it.
+#[tactic(auto, using(crate::proofs::Settled::settled_fed))]
 pub(crate) fn take(
     announcer: &mut Announcer<'_>,
     hears_on: bool,

@@ -2,7 +2,7 @@ use Rattle.fs_peering.proofs.Words.{machine_in, ◌≡◌, ℕ, List, subst, rul
 use Rattle.fs_peering.proofs.Words.{going_start, rest_none, CountsOn}
 use Rattle.fs_peering.proofs.Counting.{counts_cut, counts_fed, counts_shut, counts_start, shuts_fed, shuts_open, still_open}
 use Rattle.fs_peering.proofs.{Feeding.{ends_all, ends_shut, goes_more}, Hearing.{says_handed, says_up}}
-use Rattle.fs_peering.proofs.Settled.{counts_bound, fed_settled, goes_early, settled_same, settled_then, state_open, stops_up}
+use Rattle.fs_peering.proofs.Settled.{counts_bound, fed_settled, goes_early, settled_fed, settled_same, state_open, stops_up}
 use Rattle.fs_peering.proofs.teller.take.Goals.{then-not-was_settled, else-not-was_settled}
 use Rattle.fs_peering.proofs.teller.take.Goals as goal
 
@@ -21,9 +21,8 @@ messages-init c = record {
 
 pub messages-preserved : goal.messages-preserved
 messages-preserved c = record {
-  same = settled_then c.args.announcer.now c.messages.announcer c.feed_at.new.self c.messages.invariant.same
-      (fed_settled c.messages.announcer c.feed_at.new.self c.args.moment c.messages.rest.now c.messages.out.items c.feed_at.new.out.items
-      c.feed_at.result c.feed_at.ensures.same c.feed_at.ensures.again c.feed_at.ensures.closed c.feed_at.ensures.exact);
+  same = settled_fed c.args.announcer.now c.messages.announcer c.feed_at.new.self _ _ _ _ _ c.messages.invariant.same
+      c.feed_at.ensures.same c.feed_at.ensures.again c.feed_at.ensures.closed c.feed_at.ensures.exact;
   alive = λ e. still_open c.feed_at.new.self.line c.feed_at.result c.in-Ok.count (search rules) c.feed_at.ensures.closed;
   early = λ off down. goes_early c.args.hears_on c.feed_at.new.self.line
       (still_open c.feed_at.new.self.line c.feed_at.result c.in-Ok.count (search rules) c.feed_at.ensures.closed) (search rules) off;
@@ -52,11 +51,6 @@ returns-in-Err-clause-says c =
     says_handed _ _ _ _ _ _ _ _ (ends_shut _ _ _ _ _ _ _ _ _ _ c.messages.invariant.same.0 c.messages.invariant.going
     c.feed_at.ensures.again c.feed_at.ensures.exact c.feed_at.ensures.closed _ (search rules) c.in_ok-closes-in-Err.ensures)
 
-pub returns-in-Err-clause-same : goal.returns-in-Err-clause-same
-returns-in-Err-clause-same c =
-    settled_then c.args.announcer.now _ _ c.messages.invariant.same (fed_settled _ _ _ _ _ _
-    _ c.feed_at.ensures.same c.feed_at.ensures.again c.feed_at.ensures.closed c.feed_at.ensures.exact)
-
 pub returns-in-Err-clause-counts : goal.returns-in-Err-clause-counts
 returns-in-Err-clause-counts c =
     counts_shut c.args.hears_on (machine_in c.args.announcer.now) c.args.announcer.now.line c.feed_at.new.self.line
@@ -76,8 +70,8 @@ returns-then-is_empty-clause-says c =
 
 pub returns-then-is_empty-clause-same : goal.returns-then-is_empty-clause-same
 returns-then-is_empty-clause-same c =
-    settled_then c.args.announcer.now _ _ c.messages.invariant.same (fed_settled _ _ _ _ _ _
-    _ c.feed_at.ensures.same c.feed_at.ensures.again c.feed_at.ensures.closed c.feed_at.ensures.exact)
+    settled_fed c.args.announcer.now c.messages.announcer c.feed_at.new.self _ _ _ _ _ c.messages.invariant.same
+    c.feed_at.ensures.same c.feed_at.ensures.again c.feed_at.ensures.closed c.feed_at.ensures.exact
 
 pub returns-then-is_empty-clause-counts : goal.returns-then-is_empty-clause-counts
 returns-then-is_empty-clause-counts c =
@@ -101,11 +95,6 @@ returns-then-stops-clause-says c =
     says_up _ c.args.announcer.now c.args.moment _ _ c.args.piece.now _ _ _
     (goes_more _ _ _ _ _ _ _ _ _ _ c.messages.invariant.same.0 c.messages.invariant.going c.feed_at.ensures.again
     c.feed_at.ensures.exact c.feed_at.ensures.closed c.in-Ok.count (search rules)) (search rules)
-
-pub returns-then-stops-clause-same : goal.returns-then-stops-clause-same
-returns-then-stops-clause-same c =
-    settled_then c.args.announcer.now _ _ c.messages.invariant.same (fed_settled _ _ _ _ _ _
-    _ c.feed_at.ensures.same c.feed_at.ensures.again c.feed_at.ensures.closed c.feed_at.ensures.exact)
 
 pub returns-then-stops-clause-counts : goal.returns-then-stops-clause-counts
 returns-then-stops-clause-counts c =
