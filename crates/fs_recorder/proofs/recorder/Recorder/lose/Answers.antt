@@ -1,13 +1,9 @@
-use Rattle.fs_recorder.proofs.Words.{◌≡◌, ap, subst, KeepsOthers, Plays, Booked, ◌∙◌, Recording, Tells, TellsPart, was_lost, without}
-use Rattle.fs_recorder.proofs.{Doing.{err_to, ok_both, ok_to}, Seating.{known_left}}
-use Rattle.std.specs.Result.{IsErrOf}
-use Rattle.fs_recorder.specs.declared.stop.Stop.TheVariants.{Limit}
+use Rattle.fs_recorder.proofs.{Words.{◌≡◌, ap, subst, KeepsOthers, Plays, Booked, ◌∙◌, Recording, was_lost, without}, Doing.{ok_both, ok_to}}
+use Rattle.fs_recorder.proofs.Seating.{known_left}
 use Rattle.fs_recorder.proofs.recorder.Recorder.lose.Goals as goal
 
 pub returns-clause-told : goal.returns-clause-told
-returns-clause-told g c = ok_to c.lost.result c.lost.ensures.told
-    (λ told. subst (λ books. Tells (was_lost c.args.seat.peer) books c.lost.new.self (g.S.Sink.written c.args.sink.now)
-    (g.S.Sink.written c.lost.new.sink)) (ap (λ (r : Recording). r.books) c.self.view_is) told)
+returns-clause-told g c = rw (← c.self.view_is) c.lost.ensures.told
 
 pub returns-clause-stay : goal.returns-clause-stay
 returns-clause-stay g c = ok_to c.lost.result c.lost.ensures.told
@@ -17,9 +13,7 @@ returns-clause-stay g c = ok_to c.lost.result c.lost.ensures.told
     (c.remove.ensures ∙ ap (λ (r : Recording). without c.args.seat.line r.seats) c.self.view_is) known)
 
 pub returns-clause-err : goal.returns-clause-err
-returns-clause-err g c = err_to c.lost.result c.lost.ensures.err
-    (λ part. subst (λ books. TellsPart (IsErrOf c.lost.result Limit) (was_lost c.args.seat.peer) books (g.S.Sink.written c.args.sink.now)
-    (g.S.Sink.written c.lost.new.sink)) (ap (λ (r : Recording). r.books) c.self.view_is) part)
+returns-clause-err g c = rw (← c.self.view_is) c.lost.ensures.err
 
 pub returns-clause-left : goal.returns-clause-left
 returns-clause-left g c =

@@ -1,18 +1,14 @@
-use Rattle.fs_recorder.proofs.Words.{Limit, Memory, TellsPart, came_up, ◌≡◌, ap, subst, sym, ◌∙◌, ◌++◌, ◌∷◌, [], refl, part_whole, IsKnown, Recording}
-use Rattle.fs_recorder.proofs.{Words.{RanSeat, Err, done}, Seating.{known_added}, Connecting.{did_seat, broke_seat}, Telling.{part_where}}
+use Rattle.fs_recorder.proofs.{Words.{ap, subst, sym, ◌∙◌, ◌++◌, ◌∷◌, [], refl, part_whole, IsKnown, Recording, Err}, Seating.{known_added}}
+use Rattle.fs_recorder.proofs.{Connecting.{did_seat, broke_seat}, Telling.{part_where}}
 use Rattle.fs_recorder.proofs.recorder.Recorder.seat.Goals as goal
 
 pub returns-in_err-up-clause-ran : goal.returns-in_err-up-clause-ran
-returns-in_err-up-clause-ran g c =
-    broke_seat c.from_residual.result c.from_residual.ensures.1 c.args.seat c.args.self.now _ _ _
-    (subst (λ (r : Recording). TellsPart (c.in_err-up.field-0.0 ≡ Limit) (came_up c.args.seat.peer) r.books (g.S.Sink.written c.args.sink.now)
-    (g.S.Sink.written c.up.new.sink)) c.self.view_is (part_where (ap Err) c.in_err-up.ensures.err))
+returns-in_err-up-clause-ran g c = rw (← c.self.view_is)
+    (broke_seat c.from_residual.result c.from_residual.ensures.1 c.args.seat _ _ _ _ (part_where (ap Err) c.in_err-up.ensures.err))
 
 pub returns-in_err-add-clause-ran : goal.returns-in_err-add-clause-ran
-returns-in_err-add-clause-ran g c =
-    broke_seat c.from_residual-in_err-add.result c.from_residual-in_err-add.ensures.1 c.args.seat c.args.self.now _ _ _
-    (subst (λ (r : Recording). TellsPart (Memory ≡ Limit) (came_up c.args.seat.peer) r.books (g.S.Sink.written c.args.sink.now)
-    (g.S.Sink.written c.up.new.sink)) c.self.view_is
+returns-in_err-add-clause-ran g c = rw (← c.self.view_is)
+    (broke_seat c.from_residual-in_err-add.result c.from_residual-in_err-add.ensures.1 c.args.seat _ _ _ _
     (record {
       writable = c.in_ok-up.ensures.told.writable;
       part = part_whole _ _ _ c.in_ok-up.ensures.told.grew;
@@ -20,11 +16,7 @@ returns-in_err-add-clause-ran g c =
     }))
 
 pub returns-clause-ran : goal.returns-clause-ran
-returns-clause-ran g c =
-    subst (λ (r : Recording). RanSeat done c.args.seat r
-    (record { books = c.up.new.self; seats = c.add.new.seats.items; door = c.self.inside.door; replies = c.self.inside.replies.items })
-    (g.S.Sink.written c.args.sink.now) (g.S.Sink.written c.up.new.sink))
-    c.self.view_is
+returns-clause-ran g c = rw (← c.self.view_is)
     (did_seat c.args.seat _ _ _ _ c.in_ok-up.ensures.told c.in_ok-up.ensures.begun c.in_ok-up.ensures.others
     (subst (λ (r : Recording). IsKnown r.books.desk.config c.args.seat) (sym c.self.view_is) c.requires) c.in_ok-add.ensures refl)
 
