@@ -1,16 +1,13 @@
-use Rattle.fs_peering.specs.Change.{fits_alone}
-use Rattle.fs_peering.proofs.{Words.{List, Sent, list_all, true, ◌≡◌, subst, sym}, ChangeParts.{all_fit, both_counted, both_withdrawn}}
+use Rattle.fs_peering.proofs.ChangeParts.{all_fit, both_counted, both_withdrawn}
 use Rattle.fs_peering.proofs.change.append_gone.Goals as goal
 
 pub append_unkept-requires : goal.append_unkept-requires
 append_unkept-requires c =
-    subst (λ (l : List Sent). list_all (λ (sent : Sent). fits_alone sent.rule) l ≡ true) (sym c.as_slice-rules.ensures)
-    (all_fit _ _ _ c.requires.fits)
+    rw c.as_slice-rules.ensures (all_fit _ _ _ c.requires.fits)
 
 pub append_unkept-requires-2 : goal.append_unkept-requires-2
 append_unkept-requires-2 c =
-    subst (λ (l : List Sent). list_all (λ (sent : Sent). fits_alone sent.rule) l ≡ true) (sym c.as_slice-rules.ensures)
-    (all_fit _ _ _ c.requires.fits)
+    rw c.as_slice-rules.ensures (all_fit _ _ _ c.requires.fits)
 
 pub returns-clause-text : goal.returns-clause-text
 returns-clause-text c =

@@ -1,5 +1,4 @@
-use Rattle.fs_peering.proofs.KeeperWords.{sym, subst, ◌∙◌, Option, IfSome, CanSend, Sending, sender_of}
-use Rattle.fs_peering.proofs.Stepped.{dial_fits, dial_none, dial_soon, dial_still, dial_took}
+use Rattle.fs_peering.proofs.{KeeperWords.{sym, ◌∙◌}, Stepped.{dial_fits, dial_none, dial_soon, dial_still, dial_took}}
 use Rattle.fs_peering.proofs.keeper.Keeper.dial.Goals.{then-is_some-via-then-is_some, then-is_some-via-else-is_some+then-saturating_sub-self}
 use Rattle.fs_peering.proofs.keeper.Keeper.dial.Goals as goal
 
@@ -19,21 +18,18 @@ returns-in_default-clause-took g c =
 
 pub new-requires : goal.new-requires
 new-requires g c =
-    (subst (λ (r : Option Sending). IfSome r (CanSend c.self.inside.config.now (sender_of c.self.inside.config.now.peers))) c.in-Some.is
-    c.self.invariant.sendable)
+    (rw c.in-Some.is at c.self.invariant.sendable)
 
 pub invariant_of-self : goal.invariant_of-self
 invariant_of-self g c =
     dial_fits _ _ _ _ _ _ _ _ c.self.invariant
-    (subst (λ (r : Option Sending). IfSome r (CanSend c.self.inside.config.now (sender_of c.self.inside.config.now.peers)))
-    c.in-Some.is c.self.invariant.sendable) c.in_ok-link.ensures.made c.link.view_is
+    (rw c.in-Some.is at c.self.invariant.sendable) c.in_ok-link.ensures.made c.link.view_is
 
 pub returns-clause-took : goal.returns-clause-took
 returns-clause-took g c = (
   c.dial.result,
   dial_took _ _ _ _ _ _ _ _ _ _ _ c.self.view_is
-      (subst (λ (r : Option Sending). IfSome r (CanSend c.self.inside.config.now (sender_of c.self.inside.config.now.peers))) c.in-Some.is
-      c.self.invariant.sendable) (sym
+      (rw c.in-Some.is at c.self.invariant.sendable) (sym
       c.is_some.ensures ∙ c.if-is_some.false) c.in-Some.is c.saturating_sub.ensures c.if-saturating_sub-self.false c.dial.ensures.dialled
       c.in_ok-link.ensures.made c.link.view_is,
 )

@@ -1,5 +1,5 @@
-use Rattle.fs_peering.proofs.KeeperWords.{sym, subst, Option, IfSome, CanSend, Fits, IsOwn, Keeping, Linked, Sending, option_copied, sender_of}
-use Rattle.fs_peering.proofs.{Following.{all_said, may_be_said}, Stepped.{tell_closes, tell_idle, tell_no, tell_stays}}
+use Rattle.fs_peering.proofs.{KeeperWords.{sym, subst, IfSome, CanSend, Fits, Keeping, option_copied, sender_of}, Following.{all_said, may_be_said}}
+use Rattle.fs_peering.proofs.Stepped.{tell_closes, tell_idle, tell_no, tell_stays}
 use Rattle.fs_peering.proofs.keeper.Keeper.tell.Goals as goal
 
 pub returns-in_default-clause-tells : goal.returns-in_default-clause-tells
@@ -16,14 +16,13 @@ returns-in_default-rules-clause-tells g c =
 
 pub tell-requires-clause-old : goal.tell-requires-clause-old
 tell-requires-clause-old g c =
-    all_said _ _ _ (subst (λ (l : Option Linked). IfSome l (IsOwn c.self.inside.config.now)) c.in-Some.is c.self.invariant.own)
+    all_said _ _ _ (rw c.in-Some.is at c.self.invariant.own)
     (subst (λ (k : Keeping). IfSome (option_copied c.args.old) (CanSend k.config (sender_of k.config.peers))) (sym c.self.view_is) c.requires)
 
 pub tell-requires-clause-new : goal.tell-requires-clause-new
 tell-requires-clause-new g c =
-    may_be_said _ _ _ (subst (λ (l : Option Linked). IfSome l (IsOwn c.self.inside.config.now)) c.in-Some.is c.self.invariant.own)
-    (subst (λ (r : Option Sending). IfSome r (CanSend c.self.inside.config.now (sender_of c.self.inside.config.now.peers))) c.in-Some-rules.is
-    c.self.invariant.sendable)
+    may_be_said _ _ _ (rw c.in-Some.is at c.self.invariant.own)
+    (rw c.in-Some-rules.is at c.self.invariant.sendable)
 
 pub returns-then-closes-clause-tells : goal.returns-then-closes-clause-tells
 returns-then-closes-clause-tells g c =
