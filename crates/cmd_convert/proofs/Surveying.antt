@@ -1,5 +1,5 @@
 -- How what is counted record by record is what is said of them all, and what is said of a dump.
-use Rattle.std.specs.{Prelude.{MatchResult, filter, nat_lt, not, slice_index_or, slice_set}, List.{AllByRecursion, position_or_len}}
+use Rattle.std.specs.{Prelude.{filter, nat_lt, not, slice_index_or, slice_set}, List.{AllByRecursion, position_or_len}}
 use Rattle.std.proofs.lemmas.Bool.Decides.{nat_tests}
 use Rattle.fs_base.specs.declared.config.Address.{Address, TheVariants.{V4, V6}}
 use Rattle.fs_input.specs.{Records.{limited, bad}, declared.fault.Fault.{Fault, TheVariants.{Read, Limit, Bad}}}
@@ -9,11 +9,11 @@ use Rattle.cmd_convert.proofs.Words.{◌≡◌, ◌≤◌, ◌<◌, ◌++◌, �
 use Rattle.cmd_convert.proofs.Words.{Result, Ok, Err, inl, inr, length, refl, ap, sym, subst, arith, append-nil, append_assoc, End, done, DumpReason}
 use Rattle.cmd_convert.proofs.Words.{Config, Refusal, Outside}
 use Rattle.std.specs.Prelude.{◌&&◌, suc}
-use Rattle.cmd_stages.specs.{Load.{Names, config_stage}, Refusal.{Found, Verdict, or_stop, verdict_with}}
-use Rattle.cmd_convert.specs.Survey.{Counts, IsUnsaid, SaysEnd, accepted_verdict, all_noted, content_verdict, count_of, counts_of, counts_text}
+use Rattle.cmd_stages.specs.{Load.{Names, config_stage}, Refusal.{Found, Verdict, or_stop, verdict_with}, Said.{Says}, declared.said.Said.{Said}}
+use Rattle.cmd_convert.specs.Survey.{Counts, SaysEnd, accepted_verdict, all_noted, content_verdict, count_of, counts_of, counts_text}
 use Rattle.cmd_convert.specs.Survey.{dump_fault_line, dump_verdict, ended_verdict, has_note, is_other, note_count, note_place, notes_verdict}
-use Rattle.cmd_convert.specs.Survey.{one_more, said_shown, weight, with_note}
-use Rattle.cmd_convert.specs.declared.{counts.NoteCount.{NoteCount}, survey.DumpSaid.{DumpSaid}}
+use Rattle.cmd_convert.specs.Survey.{one_more, weight, with_note}
+use Rattle.cmd_convert.specs.declared.counts.NoteCount.{NoteCount}
 
 -- records of one peer, or of one type
 
@@ -260,21 +260,21 @@ from_start config dump limit limit' slot back left d l b s =
 
 -- what is said of it is due
 pub say_said : (found : List Note × End DumpReason) (counts : List NoteCount) (ended : Result Unit (Fault DumpReason))
-    (result : Result DumpSaid Refusal) (due : Verdict) (failed wider : Type 0)
+    (result : Result Said Refusal) (due : Verdict) (failed wider : Type 0)
     → Counts [] counts found failed ended → SaysEnd counts ended result → notes_verdict found ≡ due → (failed → wider)
-    → MatchResult result (λ said. said_shown said ≡ due) (IsUnsaid due wider)
+    → Says (λ verdict. verdict ≡ due) wider result
 say_said found counts (Ok done_so) (Ok said) due failed wider h says is f = says ∙ verdict_done found counts h.0 h.1 ∙ is
 say_said found counts (Ok done_so) (Err refusal) due failed wider h says is f = inr (inl says)
 say_said found counts (Err Read) result due failed wider h says is f =
-    subst (λ (r : Result DumpSaid Refusal). MatchResult r (λ said. said_shown said ≡ due) (IsUnsaid due wider)) (sym says) (inr (inr (refl, f h)))
+    subst (Says (λ verdict. verdict ≡ due) wider) (sym says) (inr (inr (refl, f h)))
 say_said found counts (Err Limit) result due failed wider h says is f =
-    subst (λ (r : Result DumpSaid Refusal). MatchResult r (λ said. said_shown said ≡ due) (IsUnsaid due wider)) (sym says) (inl (verdict_limited found h ∙ is))
+    subst (Says (λ verdict. verdict ≡ due) wider) (sym says) (inl (verdict_limited found h ∙ is))
 say_said found counts (Err (Bad reason place)) (Ok said) due failed wider h says is f = says ∙ verdict_bad found counts reason place h.0 h.1 ∙ is
 say_said found counts (Err (Bad reason place)) (Err refusal) due failed wider h says is f = inr (inl says)
 
 -- what is due under another name
-pub due_as : (result : Result DumpSaid Refusal) (due other : Verdict) (failed wider : Type 0) → due ≡ other → (failed → wider)
-    → MatchResult result (λ said. said_shown said ≡ due) (IsUnsaid due failed) → MatchResult result (λ said. said_shown said ≡ other) (IsUnsaid other wider)
+pub due_as : (result : Result Said Refusal) (due other : Verdict) (failed wider : Type 0) → due ≡ other → (failed → wider)
+    → Says (λ verdict. verdict ≡ due) failed result → Says (λ verdict. verdict ≡ other) wider result
 due_as (Ok said) due other failed wider e f h = h ∙ e
 due_as (Err refusal) due other failed wider e f (inl h) = inl (h ∙ e)
 due_as (Err refusal) due other failed wider e f (inr (inl h)) = inr (inl h)

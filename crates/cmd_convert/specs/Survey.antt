@@ -1,15 +1,15 @@
 -- What `check` says of a dump: who speaks in it, and of which types its records are that `convert` passes over; and its fault.
-use Rattle.std.specs.Prelude.{ℕ, List, [], ◌∷◌, ◌++◌, Option, Some, None, Bool, not, Result, Ok, Err, ◌≡◌, ◌⊎◌, ◌+◌, MatchResult, codes, decimal}
-use Rattle.std.specs.Prelude.{filter, flat_map, if◌then◌else◌, position, string_bytes}
+use Rattle.std.specs.Prelude.{ℕ, List, [], ◌∷◌, ◌++◌, Option, Some, None, Bool, not, Result, Ok, Err, ◌≡◌, ◌+◌, MatchResult, codes, decimal}
+use Rattle.std.specs.Prelude.{filter, flat_map, if◌then◌else◌, position}
 use Rattle.std.specs.{Int.{to_be_bytes, w32, w128}, Net.{Addr.{segments_of}, Text.{ipv4_text, ipv6_text}}}
 use Rattle.fs_base.specs.declared.config.{Address.{Address, TheVariants.{V4, V6}}, Config.{Config}}
 use Rattle.fs_input.specs.{Records.{End, done, limited, bad}, declared.fault.Fault.{Fault, TheVariants.{Read, Limit, Bad}}}
 use Rattle.fs_mrt.specs.{Fault.{reason_name}, Notes.{notes_of, same_note}}
 use Rattle.fs_mrt.specs.declared.{fault.DumpReason.{DumpReason}, notes.Note.{Note, TheVariants.{Skipped, Spoke}}}
-use Rattle.cmd_stages.specs.Load.{Names, config_stage}
+use Rattle.cmd_stages.specs.{Load.{Names, config_stage}, Said.{said_shown}}
 use Rattle.cmd_stages.specs.Refusal.{Stage, Found, Stopped, Verdict, or_stop, status_of, verdict_with}
-use Rattle.cmd_stages.specs.declared.refusal.Refusal.{Refusal, TheVariants.{Outside, Memory, Limit as LimitReached}}
-use Rattle.cmd_convert.specs.declared.{counts.NoteCount.{NoteCount}, survey.DumpSaid.{DumpSaid}}
+use Rattle.cmd_stages.specs.declared.{refusal.Refusal.{Refusal, TheVariants.{Outside, Memory, Limit as LimitReached}}, said.Said.{Said}}
+use Rattle.cmd_convert.specs.declared.counts.NoteCount.{NoteCount}
 
 abbrev pub note_count : Note → ℕ → NoteCount
 note_count note count = record { note = note; count = count }
@@ -122,16 +122,8 @@ Counts now now' coming failed (Err Read) = failed
 Counts now now' coming failed (Err Limit) = coming.1 ≡ limited
 Counts now now' coming failed (Err (Bad reason place)) = (coming.1 ≡ bad reason place) × (now' ≡ all_noted now coming.0)
 
-abbrev pub said_shown : DumpSaid → Verdict
-said_shown said = verdict_with said.status (string_bytes said.text)
-
--- why nothing is said: the files call for that, memory was wanting, or a call on the outside failed
-abbrev pub IsUnsaid : Verdict → Type 0 → Refusal → Type 0
-IsUnsaid due failed refusal =
-    (verdict_with (status_of refusal) [] ≡ due) ⊎ (refusal ≡ Memory) ⊎ ((refusal ≡ Outside) × failed)
-
 -- what is said of a dump that ends so, after these counts
-abbrev pub SaysEnd : List NoteCount → Result Unit (Fault DumpReason) → Result DumpSaid Refusal → Type 0
+abbrev pub SaysEnd : List NoteCount → Result Unit (Fault DumpReason) → Result Said Refusal → Type 0
 SaysEnd counts (Ok _) result = MatchResult result (λ said. said_shown said ≡ verdict_with 0 (counts_text counts)) (λ refusal. refusal ≡ Memory)
 SaysEnd counts (Err Read) result = result ≡ Err Outside
 SaysEnd counts (Err Limit) result = result ≡ Err LimitReached

@@ -14,4 +14,4 @@ mod survey_text;
 
 pub use command::{DumpNames, convert};
 pub use laws::{keeps_lives, reads_back_converted};
-pub use survey::{DumpSaid, survey_dump};
+pub use survey::survey_dump;

@@ -1,27 +1,21 @@
 //! What `check` says of a dump.
 
-ghost use Rattle.std.specs.{Prelude.{◌≡◌, ◌≢◌, ◌≤◌, ◌<◌, ◌^◌, ◌⊎◌, None, IsTrue, IfOk, MatchResult, length}, List.{AllByRecursion}};
+ghost use Rattle.std.specs.{Prelude.{◌≡◌, ◌≢◌, ◌≤◌, ◌<◌, ◌^◌, ◌⊎◌, None, IsTrue, IfOk, length}, List.{AllByRecursion}};
 ghost use Rattle.fs_base.specs.{Files.{one_opening}, Outside.{Rose}, Sink.{Grew}};
 ghost use Rattle.fs_mrt.specs.Notes.{notes_coming};
-ghost use Rattle.cmd_stages.specs.{Load.{OpensFront, config_then}, Refusal.{answered, or_stop}, declared.refusal.Refusal.TheVariants.{Outside}};
+ghost use Rattle.cmd_stages.specs.{Load.{OpensFront, config_then}, Refusal.{answered, or_stop}, Said.{Says}};
+ghost use Rattle.cmd_stages.specs.declared.refusal.Refusal.TheVariants.{Outside};
 ghost use Rattle.cmd_convert.specs.Command.{IsOfDump};
-ghost use Rattle.cmd_convert.specs.Survey.{Counts as AreCounted, IsUnsaid, SaysEnd, content_verdict, dump_verdict, said_shown};
+ghost use Rattle.cmd_convert.specs.Survey.{Counts as AreCounted, SaysEnd, content_verdict, dump_verdict};
 ghost use Rattle.cmd_convert.specs.declared.counts.NoteCount.{NoteCount};
 
 use crate::command::LONGEST_MESSAGE;
 use crate::counts::{NoteCount, add_note};
 use crate::survey_text::{counts_text, push_fault};
-use cmd_stages::{Refusal, TAPE_SLOT, load_config, open, status};
+use cmd_stages::{Refusal, Said, TAPE_SLOT, load_config, open, status};
 use fs_base::{Config, Counted, Files, Memory};
 use fs_mrt::{DumpFault, NotedDump};
 use std::alloc::Global;
-
-/// What is said of a dump, and the status: 0, or 10.
-#[derive(Drop)]
-pub struct DumpSaid {
-    pub status: u8,
-    pub text: String,
-}
 
 /// Reads a dump, and says who speaks in it, and of which types its records are that aren't read; and, after that, what
 /// is wrong with it, and at which octet. A record is judged as `convert` judges it.
@@ -36,15 +30,13 @@ pub fn survey_dump<F: Files>(
     config: &str,
     dump: &str,
     limit: u64,
-) -> Result<DumpSaid, Refusal>
+) -> Result<Said, Refusal>
     ensures later { F.faults files.old ≤ F.faults files.new }
     ensures possible { IsOfDump (answered result) × (answered result ≢ 10) }
     ensures accepted { IfOk result (λ said. (said.status ≡ 0) ⊎ (said.status ≡ 10)) }
     ensures said { IsTrue F.tells
-        → MatchResult result
-        (λ said. said_shown said ≡ dump_verdict limit (F.holds files.old) config.now dump.now)
-        (IsUnsaid (dump_verdict limit (F.holds files.old) config.now dump.now)
-        (Rose (F.faults files.old) (F.faults files.new))) }
+        → Says (λ verdict. verdict ≡ dump_verdict limit (F.holds files.old) config.now dump.now)
+        (Rose (F.faults files.old) (F.faults files.new)) result }
     ensures opens { OpensFront (config_then 1 config.now dump.now)
         (F.opened files.old) (F.opened files.new) (answered result) }
 {
@@ -59,15 +51,13 @@ fn survey_file<F: Files>(
     config: &Config,
     dump: &str,
     limit: u64,
-) -> Result<DumpSaid, Refusal>
+) -> Result<Said, Refusal>
     ensures later { F.faults files.old ≤ F.faults files.new }
     ensures possible { IsOfDump (answered result) × (answered result ≢ 10) × (answered result ≢ 3) }
     ensures accepted { IfOk result (λ said. (said.status ≡ 0) ⊎ (said.status ≡ 10)) }
     ensures said { IsTrue F.tells
-        → MatchResult result
-        (λ said. said_shown said ≡ content_verdict config.now limit (or_stop Outside (F.holds files.old dump.now)))
-        (IsUnsaid (content_verdict config.now limit (or_stop Outside (F.holds files.old dump.now)))
-        (Rose (F.faults files.old) (F.faults files.new))) }
+        → Says (λ verdict. verdict ≡ content_verdict config.now limit (or_stop Outside (F.holds files.old dump.now)))
+        (Rose (F.faults files.old) (F.faults files.new)) result }
     ensures opens { Grew (F.opened files.old) (F.opened files.new) (one_opening 1 dump.now) }
 {
     open(files, TAPE_SLOT, dump)?;
@@ -83,13 +73,13 @@ fn say_end(
     alloc: Global,
     counts: &[NoteCount],
     ended: Result<(), DumpFault>,
-) -> Result<DumpSaid, Refusal>
+) -> Result<Said, Refusal>
     ensures possible { IsOfDump (answered result) × (answered result ≢ 10) × (answered result ≢ 3) }
     ensures accepted { IfOk result (λ said. (said.status ≡ 0) ⊎ (said.status ≡ 10)) }
     ensures said { SaysEnd counts.now ended result }
 {
     match ended {
-        Ok(()) => Ok(DumpSaid {
+        Ok(()) => Ok(Said {
             status: status::DONE,
             text: counts_text(alloc, counts)?,
         }),
@@ -98,7 +88,7 @@ fn say_end(
         Err(DumpFault::Bad { reason, place }) => {
             let mut text = counts_text(alloc, counts)?;
             push_fault(alloc, reason, place, &mut text)?;
-            Ok(DumpSaid {
+            Ok(Said {
                 status: status::DUMP,
                 text,
             })

@@ -1,10 +1,10 @@
 -- What counting the packets of a capture answers, and what is said of it.
-use Rattle.std.specs.Prelude.{[], List, Result, Ok, Err, ◌≡◌, ◌⊎◌, MatchResult, string_bytes}
+use Rattle.std.specs.Prelude.{List, Result, Ok, Err, ◌≡◌, MatchResult}
 use Rattle.fs_input.specs.{Records.{End, done, limited, bad}, declared.fault.Fault.{Fault, TheVariants.{Read, Limit, Bad}}}
 use Rattle.cmd_enforce.specs.{Capture.{Captured}, Survey.{Surveyed, Tallied, all_noted, capture_fault_line, nothing_noted}}
-use Rattle.cmd_enforce.specs.declared.{fault.CaptureReason.{CaptureReason}, survey.{CaptureSaid.{CaptureSaid}, Survey.{Survey}}}
-use Rattle.cmd_stages.specs.Refusal.{Verdict, status_of, verdict_with}
-use Rattle.cmd_stages.specs.declared.refusal.Refusal.{Refusal, TheVariants.{Outside, Memory, Limit as LimitReached}}
+use Rattle.cmd_enforce.specs.declared.{fault.CaptureReason.{CaptureReason}, survey.Survey.{Survey}}
+use Rattle.cmd_stages.specs.{Refusal.{verdict_with}, Said.{said_shown}}
+use Rattle.cmd_stages.specs.declared.{refusal.Refusal.{Refusal, TheVariants.{Outside, Memory, Limit as LimitReached}}, said.Said.{Said}}
 
 -- All packets were counted, up to the capture's end; or the capture has a fault, or a call on the outside failed.
 abbrev pub Counts : (now now' : Tallied) → List Captured × End CaptureReason → Type 0 → Result Unit (Fault CaptureReason) → Type 0
@@ -20,16 +20,8 @@ Surveys all failed (Err Read) = failed
 Surveys all failed (Err Limit) = all.end ≡ limited
 Surveys all failed (Err (Bad reason place)) = all.end ≡ bad reason place
 
-abbrev pub said_shown : CaptureSaid → Verdict
-said_shown said = verdict_with said.status (string_bytes said.text)
-
--- why nothing is said: the capture calls for that, memory was wanting, or a call on the outside failed
-abbrev pub IsUnsaid : Verdict → Type 0 → Refusal → Type 0
-IsUnsaid due failed refusal =
-    (verdict_with (status_of refusal) [] ≡ due) ⊎ (refusal ≡ Memory) ⊎ ((refusal ≡ Outside) × failed)
-
 -- what is said of a capture with this fault
-abbrev pub SaysFault : Fault CaptureReason → Result CaptureSaid Refusal → Type 0
+abbrev pub SaysFault : Fault CaptureReason → Result Said Refusal → Type 0
 SaysFault Read result = result ≡ Err Outside
 SaysFault Limit result = result ≡ Err LimitReached
 SaysFault (Bad reason place) result =

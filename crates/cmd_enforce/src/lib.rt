@@ -23,5 +23,5 @@ pub use caught::Caught;
 pub use command::{InputNames, enforce};
 pub use fault::{CaptureFault, CaptureReason};
 pub use laws::same_lines;
-pub use survey::{CaptureSaid, survey_capture};
+pub use survey::survey_capture;
 pub use walk::drops;

@@ -1,28 +1,21 @@
 //! What `check` says of a capture.
 
-ghost use Rattle.std.specs.{Prelude.{◌≡◌, ◌≢◌, ◌≤◌, ◌<◌, ◌^◌, ◌⊎◌, None, IsTrue, IfOk, MatchResult, length}, List.{AllByRecursion}};
+ghost use Rattle.std.specs.{Prelude.{◌≡◌, ◌≢◌, ◌≤◌, ◌<◌, ◌^◌, ◌⊎◌, None, IsTrue, IfOk, length}, List.{AllByRecursion}};
 ghost use Rattle.fs_base.specs.{Files.{one_opening}, Outside.{Rose}, Sink.{Grew}};
 ghost use Rattle.fs_pcap.specs.Head.{longest_record};
 ghost use Rattle.cmd_enforce.specs.Judge.{IsOfCapture};
 ghost use Rattle.cmd_enforce.specs.{Capture.{coming, own_link}, declared.tally.LinkCount.{LinkCount}};
-ghost use Rattle.cmd_enforce.specs.{Counting.{Counts, IsUnsaid, SaysFault, Surveys, said_shown}, Survey.{capture_verdict, survey_in}};
-ghost use Rattle.cmd_stages.specs.Refusal.{answered};
+ghost use Rattle.cmd_enforce.specs.{Counting.{Counts, SaysFault, Surveys}, Survey.{capture_verdict, survey_in}};
+ghost use Rattle.cmd_stages.specs.{Refusal.{answered}, Said.{Says}};
 
 use crate::capture::Capture;
 use crate::fault::{Answer, CaptureFault};
 use crate::survey_text::{fault_text, survey_text};
 use crate::tally::Tally;
-use cmd_stages::{CAPTURE_SLOT, Refusal, open, status};
+use cmd_stages::{CAPTURE_SLOT, Refusal, Said, open, status};
 use fs_base::{Counted, Files, Link, Memory};
 use fs_pcap::LONGEST_RECORD;
 use std::alloc::Global;
-
-/// What is said of a capture, and the status: 0, or 5.
-#[derive(Drop)]
-pub struct CaptureSaid {
-    pub status: u8,
-    pub text: String,
-}
 
 /// Reads a capture, and says how many packets it has, when they were captured, and behind which link types; or what is
 /// wrong with it, and at which octet.
@@ -36,20 +29,18 @@ pub fn survey_capture<F: Files>(
     files: &mut F,
     name: &str,
     limit: u64,
-) -> Result<CaptureSaid, Refusal>
+) -> Result<Said, Refusal>
     ensures later { F.faults files.old ≤ F.faults files.new }
     ensures possible { IsOfCapture (answered result) × (answered result ≢ 5) }
     ensures accepted { IfOk result (λ said. (said.status ≡ 0) ⊎ (said.status ≡ 5)) }
     ensures said { IsTrue F.tells
-        → MatchResult result
-        (λ said. said_shown said ≡ capture_verdict limit (F.holds files.old) name.now)
-        (IsUnsaid (capture_verdict limit (F.holds files.old) name.now)
-        (Rose (F.faults files.old) (F.faults files.new))) }
+        → Says (λ verdict. verdict ≡ capture_verdict limit (F.holds files.old) name.now)
+        (Rose (F.faults files.old) (F.faults files.new)) result }
     ensures opens { Grew (F.opened files.old) (F.opened files.new) (one_opening 2 name.now) }
 {
     open(files, CAPTURE_SLOT, name)?;
     match survey_open(alloc, files, limit)? {
-        Ok(survey) => Ok(CaptureSaid {
+        Ok(survey) => Ok(Said {
             status: status::DONE,
             text: survey_text(alloc, survey.link, &survey.tally)?,
         }),
@@ -58,7 +49,7 @@ pub fn survey_capture<F: Files>(
 }
 
 /// What is said of a capture with a fault.
-fn said_of_fault(alloc: Global, fault: CaptureFault) -> Result<CaptureSaid, Refusal>
+fn said_of_fault(alloc: Global, fault: CaptureFault) -> Result<Said, Refusal>
     ensures possible { IsOfCapture (answered result) × (answered result ≢ 5) }
     ensures accepted { IfOk result (λ said. said.status ≡ 5) }
     ensures said { SaysFault fault result }
@@ -66,7 +57,7 @@ fn said_of_fault(alloc: Global, fault: CaptureFault) -> Result<CaptureSaid, Refu
     match fault {
         CaptureFault::Read => Err(Refusal::Outside),
         CaptureFault::Limit => Err(Refusal::Limit),
-        CaptureFault::Bad { reason, place } => Ok(CaptureSaid {
+        CaptureFault::Bad { reason, place } => Ok(Said {
             status: status::CAPTURE,
             text: fault_text(alloc, reason, place)?,
         }),

@@ -4,3 +4,4 @@ pub mod Play
 pub mod Player
 pub mod Items
 pub mod Writing
+pub mod Said

@@ -7,6 +7,7 @@ mod load;
 mod play;
 mod player;
 mod refusal;
+mod said;
 pub mod status;
 mod writing;
 
@@ -17,4 +18,5 @@ pub use load::{
 pub use play::{next_item, open_tape, play_whole};
 pub use player::Player;
 pub use refusal::Refusal;
+pub use said::Said;
 pub use writing::{write_made, write_text};

@@ -5,12 +5,11 @@ use Rattle.fs_cli.proofs.Words.{Grew-refl, Names, Answers, verdict_with, status_
 use Rattle.cmd_stages.proofs.Stages.{answers_for}
 use Rattle.std.specs.Prelude.{IfOk, MatchResult}
 use Rattle.fs_base.specs.Files.{one_opening}
-use Rattle.cmd_stages.specs.Refusal.{IsOfFile}
-use Rattle.cmd_convert.specs.{Command.{IsOfDump}, Survey.{dump_verdict, IsUnsaid as IsDumpUnsaid}, declared.survey.DumpSaid.{DumpSaid}}
-use Rattle.cmd_enforce.specs.{Counting.{IsUnsaid}, Judge.{IsOfCapture}, Survey.{capture_verdict}, declared.survey.CaptureSaid.{CaptureSaid}}
+use Rattle.cmd_stages.specs.{Refusal.{IsOfFile}, Said.{Unsaid}, declared.said.Said.{Said}}
+use Rattle.cmd_convert.specs.Command.{IsOfDump}
+use Rattle.cmd_enforce.specs.Judge.{IsOfCapture}
 use Rattle.fs_cli.specs.Survey.{IsOfSurvey}
-use Rattle.fs_cli.specs.FileCheck.{ChecksFileSo, FileForm, IsDue, OfCapture, OfConfig, OfDump, OfRules, OfTape, Unsaid, file_openings, file_statuses}
-use Rattle.fs_cli.specs.declared.file_check.Said.{Said}
+use Rattle.fs_cli.specs.FileCheck.{ChecksFileSo, FileForm, IsDue, OfCapture, OfConfig, OfDump, OfRules, OfTape, file_openings, file_statuses}
 
 -- nothing was said
 pub file_unsaid : (limit : ℕ) (holds : Names) (form : FileForm) (failed other : Type 0) (a : Option (List ℕ)) (refusal : Refusal)
@@ -28,75 +27,43 @@ file_said limit holds form failed other before now verdict answer due answers f 
 
 -- the statuses that a form of `check` of a file may answer
 
+known : (refusal : Refusal) → IsOneOf (1 ∷ 3 ∷ 4 ∷ 5 ∷ 6 ∷ 7 ∷ 8 ∷ 10 ∷ []) (status_of refusal)
+known Outside = search rules
+known Rejected = search rules
+known (Tape reason place) = search rules
+known Capture = search rules
+known Dump = search rules
+known Memory = search rules
+known Limit = search rules
+known Session = search rules
+
+abbrev IsFrom : List ℕ → Result Said Refusal → Type 0
+IsFrom statuses result = MatchResult result (λ said. IsOneOf statuses said.status) (λ refusal. IsOneOf statuses (status_of refusal))
+
 pub config_possible : (result : Result Said Refusal) → IsOfFile (answered result) × (answered result ≢ 3)
-    → IfOk result (λ said. (said.status ≡ 0) ⊎ (said.status ≡ 9))
-    → MatchResult result (λ said. IsOneOf (0 ∷ 1 ∷ 6 ∷ 7 ∷ 9 ∷ []) said.status) (λ refusal. IsOneOf (0 ∷ 1 ∷ 6 ∷ 7 ∷ 9 ∷ []) (status_of refusal))
-config_possible (Ok said) p (inl h) = inl h
-config_possible (Ok said) p (inr h) = inr (inr (inr (inr (inl h))))
-config_possible (Err Outside) p a = inr (inl refl)
-config_possible (Err Rejected) p a = absurd (p.1 refl)
-config_possible (Err (Tape reason place)) p a = absurd (p.0.0 refl)
-config_possible (Err Capture) p a = absurd (p.0.1 refl)
-config_possible (Err Dump) p a = absurd (p.0.3 refl)
-config_possible (Err Memory) p a = inr (inr (inl refl))
-config_possible (Err Limit) p a = inr (inr (inr (inl refl)))
-config_possible (Err Session) p a = absurd (p.0.2 refl)
+    → IfOk result (λ said. (said.status ≡ 0) ⊎ (said.status ≡ 9)) → IsFrom (0 ∷ 1 ∷ 6 ∷ 7 ∷ 9 ∷ []) result
+config_possible (Ok said) p a = search (rules, a)
+config_possible (Err refusal) p a = search (rules, known refusal, p)
 
 pub rules_possible : (result : Result Said Refusal) → IsOfFile (answered result)
-    → IfOk result (λ said. (said.status ≡ 0) ⊎ (said.status ≡ 9))
-    → MatchResult result (λ said. IsOneOf (0 ∷ 1 ∷ 3 ∷ 6 ∷ 7 ∷ 9 ∷ []) said.status) (λ refusal. IsOneOf (0 ∷ 1 ∷ 3 ∷ 6 ∷ 7 ∷ 9 ∷ []) (status_of refusal))
-rules_possible (Ok said) p (inl h) = inl h
-rules_possible (Ok said) p (inr h) = inr (inr (inr (inr (inr (inl h)))))
-rules_possible (Err Outside) p a = inr (inl refl)
-rules_possible (Err Rejected) p a = inr (inr (inl refl))
-rules_possible (Err (Tape reason place)) p a = absurd (p.0 refl)
-rules_possible (Err Capture) p a = absurd (p.1 refl)
-rules_possible (Err Dump) p a = absurd (p.3 refl)
-rules_possible (Err Memory) p a = inr (inr (inr (inl refl)))
-rules_possible (Err Limit) p a = inr (inr (inr (inr (inl refl))))
-rules_possible (Err Session) p a = absurd (p.2 refl)
+    → IfOk result (λ said. (said.status ≡ 0) ⊎ (said.status ≡ 9)) → IsFrom (0 ∷ 1 ∷ 3 ∷ 6 ∷ 7 ∷ 9 ∷ []) result
+rules_possible (Ok said) p a = search (rules, a)
+rules_possible (Err refusal) p a = search (rules, known refusal, p)
 
 pub tape_possible : (result : Result Said Refusal) → IsOfSurvey (answered result) × (answered result ≢ 4)
-    → IfOk result (λ said. (said.status ≡ 0) ⊎ (said.status ≡ 4))
-    → MatchResult result (λ said. IsOneOf (0 ∷ 1 ∷ 3 ∷ 4 ∷ 6 ∷ 7 ∷ []) said.status) (λ refusal. IsOneOf (0 ∷ 1 ∷ 3 ∷ 4 ∷ 6 ∷ 7 ∷ []) (status_of refusal))
-tape_possible (Ok said) p (inl h) = inl h
-tape_possible (Ok said) p (inr h) = inr (inr (inr (inl h)))
-tape_possible (Err Outside) p a = inr (inl refl)
-tape_possible (Err Rejected) p a = inr (inr (inl refl))
-tape_possible (Err (Tape reason place)) p a = absurd (p.1 refl)
-tape_possible (Err Capture) p a = absurd (p.0.0 refl)
-tape_possible (Err Dump) p a = absurd (p.0.2 refl)
-tape_possible (Err Memory) p a = inr (inr (inr (inr (inl refl))))
-tape_possible (Err Limit) p a = inr (inr (inr (inr (inr (inl refl)))))
-tape_possible (Err Session) p a = absurd (p.0.1 refl)
+    → IfOk result (λ said. (said.status ≡ 0) ⊎ (said.status ≡ 4)) → IsFrom (0 ∷ 1 ∷ 3 ∷ 4 ∷ 6 ∷ 7 ∷ []) result
+tape_possible (Ok said) p a = search (rules, a)
+tape_possible (Err refusal) p a = search (rules, known refusal, p)
 
-pub capture_possible : (result : Result CaptureSaid Refusal) → IsOfCapture (answered result) × (answered result ≢ 5)
-    → IfOk result (λ said. (said.status ≡ 0) ⊎ (said.status ≡ 5))
-    → MatchResult result (λ said. IsOneOf (0 ∷ 1 ∷ 5 ∷ 6 ∷ 7 ∷ []) said.status) (λ refusal. IsOneOf (0 ∷ 1 ∷ 5 ∷ 6 ∷ 7 ∷ []) (status_of refusal))
-capture_possible (Ok said) p (inl h) = inl h
-capture_possible (Ok said) p (inr h) = inr (inr (inl h))
-capture_possible (Err Outside) p a = inr (inl refl)
-capture_possible (Err Rejected) p a = absurd (p.0.0 refl)
-capture_possible (Err (Tape reason place)) p a = absurd (p.0.1 refl)
-capture_possible (Err Capture) p a = absurd (p.1 refl)
-capture_possible (Err Dump) p a = absurd (p.0.3 refl)
-capture_possible (Err Memory) p a = inr (inr (inr (inl refl)))
-capture_possible (Err Limit) p a = inr (inr (inr (inr (inl refl))))
-capture_possible (Err Session) p a = absurd (p.0.2 refl)
+pub capture_possible : (result : Result Said Refusal) → IsOfCapture (answered result) × (answered result ≢ 5)
+    → IfOk result (λ said. (said.status ≡ 0) ⊎ (said.status ≡ 5)) → IsFrom (0 ∷ 1 ∷ 5 ∷ 6 ∷ 7 ∷ []) result
+capture_possible (Ok said) p a = search (rules, a)
+capture_possible (Err refusal) p a = search (rules, known refusal, p)
 
-pub dump_possible : (result : Result DumpSaid Refusal) → IsOfDump (answered result) × (answered result ≢ 10)
-    → IfOk result (λ said. (said.status ≡ 0) ⊎ (said.status ≡ 10))
-    → MatchResult result (λ said. IsOneOf (0 ∷ 1 ∷ 3 ∷ 6 ∷ 7 ∷ 10 ∷ []) said.status) (λ refusal. IsOneOf (0 ∷ 1 ∷ 3 ∷ 6 ∷ 7 ∷ 10 ∷ []) (status_of refusal))
-dump_possible (Ok said) p (inl h) = inl h
-dump_possible (Ok said) p (inr h) = inr (inr (inr (inr (inr (inl h)))))
-dump_possible (Err Outside) p a = inr (inl refl)
-dump_possible (Err Rejected) p a = inr (inr (inl refl))
-dump_possible (Err (Tape reason place)) p a = absurd (p.0.0 refl)
-dump_possible (Err Capture) p a = absurd (p.0.1 refl)
-dump_possible (Err Dump) p a = absurd (p.1 refl)
-dump_possible (Err Memory) p a = inr (inr (inr (inl refl)))
-dump_possible (Err Limit) p a = inr (inr (inr (inr (inl refl))))
-dump_possible (Err Session) p a = absurd (p.0.2 refl)
+pub dump_possible : (result : Result Said Refusal) → IsOfDump (answered result) × (answered result ≢ 10)
+    → IfOk result (λ said. (said.status ≡ 0) ⊎ (said.status ≡ 10)) → IsFrom (0 ∷ 1 ∷ 3 ∷ 6 ∷ 7 ∷ 10 ∷ []) result
+dump_possible (Ok said) p a = search (rules, a)
+dump_possible (Err refusal) p a = search (rules, known refusal, p)
 
 -- a call on the outside may fail in each
 outside_possible : (form : FileForm) (answer : ℕ) → answer ≡ 1 → IsOneOf (file_statuses form) answer
@@ -147,23 +114,9 @@ pub capture_opens : (capture : List ℕ) (before now : Option (List Opened)) (an
 capture_opens capture before now answer grew =
     record { count = 1; front = grew; some = omega arith; few = λ three. omega arith; all = λ zero. omega arith }
 
--- nothing is said of a capture
-pub capture_unsaid : (limit : ℕ) (holds : Names) (capture : List ℕ) (failed : Type 0) (refusal : Refusal)
-    → IsUnsaid (capture_verdict limit holds capture) failed refusal → Unsaid (IsDue limit holds (OfCapture capture)) failed refusal
-capture_unsaid limit holds capture failed refusal (inl h) = inl h
-capture_unsaid limit holds capture failed refusal (inr (inl h)) = inr (inl h)
-capture_unsaid limit holds capture failed refusal (inr (inr h)) = inr (inr h)
-
 -- what is said has no status at which nothing is written
 pub never_quiet : {A : Type 0} (status answer : ℕ) → (status ≢ 3) × (status ≢ 6) → (answer ≡ status) ⊎ (answer ≡ 1) → (answer ≡ 3) ⊎ (answer ≡ 6) → A
 never_quiet status answer other (inl h) (inl three) = absurd (other.0 (sym h ∙ three))
 never_quiet status answer other (inl h) (inr six) = absurd (other.1 (sym h ∙ six))
 never_quiet status answer other (inr h) (inl three) = let wrong : 1 ≡ 3 = sym h ∙ three in absurd cc
 never_quiet status answer other (inr h) (inr six) = let wrong : 1 ≡ 6 = sym h ∙ six in absurd cc
-
--- nothing is said of a dump
-pub dump_unsaid : (limit : ℕ) (holds : Names) (config dump : List ℕ) (failed : Type 0) (refusal : Refusal)
-    → IsDumpUnsaid (dump_verdict limit holds config dump) failed refusal → Unsaid (IsDue limit holds (OfDump config dump)) failed refusal
-dump_unsaid limit holds config dump failed refusal (inl h) = inl h
-dump_unsaid limit holds config dump failed refusal (inr (inl h)) = inr (inl h)
-dump_unsaid limit holds config dump failed refusal (inr (inr h)) = inr (inr h)

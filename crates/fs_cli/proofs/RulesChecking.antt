@@ -1,19 +1,8 @@
 -- How what is said of a rules file follows from its stages.
 use Rattle.fs_cli.proofs.Words.{◌≡◌, inl, inr, ℕ, List, [], refl, sym, subst, Config, Names, HasReason, Stage, Found, config_stage, fetch}
 use Rattle.fs_cli.proofs.Words.{verdict_with, status_of, Refusal, Verdict}
-use Rattle.fs_cli.specs.{FileCheck.{Due, IsDue, OfRules, Unsaid}, RulesCheck.{JudgesRules}}
-
--- the configuration ended it
-pub config_unsaid : (limit : ℕ) (holds : Names) (config rules : List ℕ) (failed other : Type 0) (cause refusal : Refusal) → refusal ≡ cause
-    → HasReason (config_stage limit holds config) failed cause → (failed → other) → Unsaid (IsDue limit holds (OfRules config rules)) other refusal
-config_unsaid limit holds config rules failed other cause refusal same h f =
-    subst (λ (r : Refusal). Unsaid (IsDue limit holds (OfRules config rules)) other r) (sym same) (by h)
-  where
-    by : HasReason (config_stage limit holds config) failed cause → Unsaid (IsDue limit holds (OfRules config rules)) other cause
-    by (inl e) = inl (subst (λ (s : Stage Config). Due (λ given. Due (JudgesRules given) (fetch limit holds rules)) s
-        (verdict_with (status_of cause) [])) (sym e) refl)
-    by (inr (inl e)) = inr (inl e)
-    by (inr (inr e)) = inr (inr (e.0, f e.1))
+use Rattle.cmd_stages.specs.Said.{Unsaid}
+use Rattle.fs_cli.specs.{FileCheck.{Due, IsDue, OfRules}, RulesCheck.{JudgesRules}}
 
 -- the rules file ended it
 pub rules_unsaid : (limit : ℕ) (holds holds' : Names) (config rules : List ℕ) (accepted : Config) (failed other : Type 0) (cause refusal : Refusal)

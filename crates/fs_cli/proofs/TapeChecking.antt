@@ -1,7 +1,7 @@
 -- How what is said of a tape follows from what is counted of it.
 use Rattle.fs_cli.proofs.Words.{◌≡◌, inl, inr, ℕ, ◌==◌, Bool, true, false, if◌then◌else◌, List, [], ◌∷◌, ◌++◌, Option, refl, ap, sym, subst, ◌∙◌}
-use Rattle.fs_cli.proofs.Words.{append-nil, length, arith, Config, Timed, Names, HasReason, Stage, Found, config_stage, tape_stage, untimed}
-use Rattle.fs_cli.proofs.Words.{verdict_with, status_of, Refusal, Verdict}
+use Rattle.fs_cli.proofs.Words.{append-nil, length, arith, Config, Timed, Names, Stage, Found, config_stage, tape_stage, untimed}
+use Rattle.fs_cli.proofs.Words.{verdict_with, Verdict}
 use Rattle.std.specs.Prelude.{None}
 use Rattle.std.proofs.Common.{◌+◌, append_assoc, get_or, replicate}
 use Rattle.std.proofs.lemmas.{Bool.{cases_lt, Decides.{nat_tests}}, List.{get_or-replicate, get_or_past, length-append, length-replicate}}
@@ -9,7 +9,7 @@ use Rattle.fs_base.specs.Parts.{with_part}
 use Rattle.fs_input.specs.Records.{End, done}
 use Rattle.fs_tape.specs.{Tape.{Item, TapeState, coming, timed}, Magic.{version_number}, declared.{fault.TapeReason.{TapeReason}}}
 use Rattle.cmd_stages.{specs.Play.{IsOpened}, proofs.Playing.{done_found, untimed_more}}
-use Rattle.fs_cli.specs.FileCheck.{Due, IsDue, OfTape, Unsaid}
+use Rattle.fs_cli.specs.FileCheck.{Due, IsDue, OfTape}
 use Rattle.fs_cli.specs.TapeCheck.{CountsOf, CountsOn, CountsState, IsWithin, JudgesTape, TapeCounted, counted_text, no_tally, peer_of_item}
 use Rattle.fs_cli.specs.TapeCheck.{span_behind, span_of, span_with, tally_at, tally_behind, tally_lines, tally_of, tally_with, tape_line, tape_text}
 use Rattle.fs_cli.specs.declared.tallies.Tally.{Tally}
@@ -135,16 +135,6 @@ due_by : (limit : ℕ) (holds : Names) (config tape : List ℕ) (accepted : Conf
 due_by limit holds config tape accepted stage verdict e found judges =
     subst (λ (s : Stage Config). DueOf limit holds tape s verdict) (sym e)
     (subst (λ (s : Stage (List Timed)). JudgesTape limit holds tape accepted s verdict) (sym found) judges)
-
-pub config_untold : (limit : ℕ) (holds : Names) (config tape : List ℕ) (failed other : Type 0) (cause refusal : Refusal) → refusal ≡ cause
-    → HasReason (config_stage limit holds config) failed cause → (failed → other) → Unsaid (IsDue limit holds (OfTape config tape)) other refusal
-config_untold limit holds config tape failed other cause refusal same h f =
-    subst (λ (r : Refusal). Unsaid (IsDue limit holds (OfTape config tape)) other r) (sym same) (by h)
-  where
-    by : HasReason (config_stage limit holds config) failed cause → Unsaid (IsDue limit holds (OfTape config tape)) other cause
-    by (inl e) = inl (subst (λ (s : Stage Config). DueOf limit holds tape s (verdict_with (status_of cause) [])) (sym e) refl)
-    by (inr (inl e)) = inr (inl e)
-    by (inr (inr e)) = inr (inr (e.0, f e.1))
 
 pub tape_told : (limit : ℕ) (holds holds' : Names) (config tape : List ℕ) (accepted : Config) (version : ℕ) (counts : CountsState) (verdict : Verdict)
     → config_stage limit holds config ≡ Found accepted → holds' ≡ holds → TapeCounted accepted limit holds' tape version counts

@@ -1,5 +1,5 @@
 -- What `check` answers and writes of a file.
-use Rattle.std.specs.Prelude.{◌≡◌, ◌≢◌, ◌⊎◌, ℕ, List, [], ◌∷◌, ◌++◌, length, codes, decimal, Option, Some, None, string_bytes}
+use Rattle.std.specs.Prelude.{◌≡◌, ◌≢◌, ◌⊎◌, ℕ, List, [], ◌∷◌, ◌++◌, length, codes, decimal, Option, Some, None}
 use Rattle.fs_base.specs.{Happened.{Happened, FilesFailed, SinkFailed, Wrote}, Sink.{Grew}, Files.{one_opening}, declared.config.Config.{Config}}
 use Rattle.fs_conf.specs.{Config.{config_of}, Fault.{IsFirstFault, fault_text}, declared.fault.ConfigFault.{ConfigFault, TheVariants.{Memory as NoMemory}}}
 use Rattle.cmd_convert.specs.Survey.{dump_verdict}
@@ -7,12 +7,10 @@ use Rattle.cmd_enforce.specs.Survey.{capture_verdict}
 use Rattle.fs_cli.specs.declared.file_check.CheckedFile.{CheckedFile}
 use Rattle.fs_cli.specs.declared.file_check.CheckedFile.TheVariants.{Config as ConfigFile, Rules as RulesFile, Tape as TapeFile}
 use Rattle.fs_cli.specs.declared.file_check.CheckedFile.TheVariants.{Capture as CaptureFile, Dump as DumpFile}
-use Rattle.fs_cli.specs.declared.file_check.Said.{Said}
 use Rattle.fs_cli.specs.{RulesCheck.{JudgesRules}, TapeCheck.{JudgesTape}}
 use Rattle.cmd_stages.specs.Load.{Names, Openings, config_alone, config_stage, config_then, fetch}
 use Rattle.cmd_stages.specs.Play.{tape_stage}
 use Rattle.cmd_stages.specs.Refusal.{Answers, Verdict, verdict_with, Stage, Found, Stopped, status_of}
-use Rattle.cmd_stages.specs.declared.refusal.Refusal.{Refusal, TheVariants.{Memory, Outside}}
 
 -- a file that is checked
 pub data FileForm : Type 0 where
@@ -63,14 +61,6 @@ IsDue limit holds (OfTape config tape) verdict =
     Due (λ accepted. JudgesTape limit holds tape accepted (tape_stage accepted limit holds tape)) (config_stage limit holds config) verdict
 IsDue limit holds (OfCapture capture) verdict = verdict ≡ capture_verdict limit holds capture
 IsDue limit holds (OfDump config dump) verdict = verdict ≡ dump_verdict limit holds config dump
-
--- why nothing is said of a file: it calls for that, memory was wanting, or a call on the outside failed
-abbrev pub Unsaid : (Verdict → Type 0) → Type 0 → Refusal → Type 0
-Unsaid due failed refusal =
-    due (verdict_with (status_of refusal) []) ⊎ (refusal ≡ Memory) ⊎ ((refusal ≡ Outside) × failed)
-
-abbrev pub said_shown : Said → Verdict
-said_shown said = verdict_with said.status (string_bytes said.text)
 
 -- They were answered and written; or memory was wanting or a call on the outside failed before anything was written.
 abbrev pub ChecksFileSo : ℕ → Names → FileForm → Type 0 → (before now : Option (List ℕ)) → ℕ → Type 0

@@ -2,15 +2,15 @@
 
 ghost use Rattle.std.specs.Prelude.{◌≡◌, ◌≢◌, ◌≤◌, ◌⊎◌, IfOk, IsTrue, MatchResult};
 ghost use Rattle.fs_base.specs.{Happened.{happened}, Outside.{Rose}};
-ghost use Rattle.cmd_stages.specs.{Load.{OpensFront}, Refusal.{Answers, IsOfFile, answered, status_of}};
-ghost use Rattle.fs_cli.specs.FileCheck.{ChecksFile, IsDue, JudgesConfig, OfConfig, Unsaid, file_openings, file_shown, file_statuses, said_shown};
+ghost use Rattle.cmd_stages.specs.{Load.{OpensFront}, Refusal.{Answers, IsOfFile, answered, status_of}, Said.{Says, said_shown}};
+ghost use Rattle.fs_cli.specs.FileCheck.{ChecksFile, IsDue, JudgesConfig, OfConfig, file_openings, file_shown, file_statuses};
 ghost use Rattle.fs_cli.specs.Program.{IsOneOf};
 
-use crate::capture_check::say_of_capture;
-use crate::dump_check::say_of_dump;
 use crate::rules_check::say_of_rules;
 use crate::tape_check::say_of_tape;
-use cmd_stages::{CONFIG_SLOT, Refusal, load_file, status};
+use cmd_convert::survey_dump;
+use cmd_enforce::survey_capture;
+use cmd_stages::{CONFIG_SLOT, Refusal, Said, load_file, status};
 use fs_base::{Failed, Files, Memory, Sink, write_all};
 use fs_conf::{ConfigFault, judge_config, names_the_fault};
 use std::alloc::Global;
@@ -28,13 +28,6 @@ pub(crate) enum CheckedFile<'w> {
     Capture(&'w str),
     /// A dump, beside a configuration.
     Dump { config: &'w str, dump: &'w str },
-}
-
-/// What is said of a file, and the status: 0, or that of a fault.
-#[derive(Drop)]
-pub(crate) struct Said {
-    pub(crate) status: u8,
-    pub(crate) text: String,
 }
 
 /// Says whether the file is accepted, or where its first fault is, and answers the status.
@@ -87,10 +80,8 @@ fn say_of_file<F: Files>(
     ensures accepted { IfOk result (λ said. (said.status ≢ 3) × (said.status ≢ 6)) }
 
     ensures said { IsTrue F.tells
-        → MatchResult result
-        (λ said. IsDue limit (F.holds files.old) (file_shown checked.entry) (said_shown said))
-        (Unsaid (IsDue limit (F.holds files.old) (file_shown checked.entry))
-        (Rose (F.faults files.old) (F.faults files.new))) }
+        → Says (IsDue limit (F.holds files.old) (file_shown checked.entry))
+        (Rose (F.faults files.old) (F.faults files.new)) result }
     ensures opens { OpensFront (file_openings (file_shown checked.entry))
         (F.opened files.old) (F.opened files.new) (answered result) }
 {
@@ -98,8 +89,8 @@ fn say_of_file<F: Files>(
         CheckedFile::Config(config) => say_of_config(alloc, files, config, limit),
         CheckedFile::Rules { config, rules } => say_of_rules(alloc, files, config, rules, limit),
         CheckedFile::Tape { config, tape } => say_of_tape(alloc, files, config, tape, limit),
-        CheckedFile::Capture(capture) => say_of_capture(alloc, files, capture, limit),
-        CheckedFile::Dump { config, dump } => say_of_dump(alloc, files, config, dump, limit),
+        CheckedFile::Capture(capture) => survey_capture(alloc, files, capture, limit),
+        CheckedFile::Dump { config, dump } => survey_dump(alloc, files, config, dump, limit),
     }
 }
 
@@ -115,10 +106,8 @@ fn say_of_config<F: Files>(
     ensures accepted { IfOk result (λ said. (said.status ≡ 0) ⊎ (said.status ≡ 9)) }
 
     ensures said { IsTrue F.tells
-        → MatchResult result
-        (λ said. IsDue limit (F.holds files.old) (OfConfig config.now) (said_shown said))
-        (Unsaid (IsDue limit (F.holds files.old) (OfConfig config.now))
-        (Rose (F.faults files.old) (F.faults files.new))) }
+        → Says (IsDue limit (F.holds files.old) (OfConfig config.now))
+        (Rose (F.faults files.old) (F.faults files.new)) result }
     ensures opens { OpensFront (file_openings (OfConfig config.now))
         (F.opened files.old) (F.opened files.new) (answered result) }
 {

@@ -1,10 +1,8 @@
 //! The commands of the program.
 #![tactic(auto)]
 
-mod capture_check;
 mod changes;
 mod command;
-mod dump_check;
 mod file_check;
 mod laws;
 mod live;

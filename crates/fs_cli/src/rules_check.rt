@@ -1,12 +1,11 @@
 //! Says of a rules file whether it is accepted, and where its first fault is.
 
-ghost use Rattle.std.specs.Prelude.{◌≡◌, ◌≤◌, ◌⊎◌, IfOk, IsTrue, MatchResult};
+ghost use Rattle.std.specs.Prelude.{◌≡◌, ◌≤◌, ◌⊎◌, IfOk, IsTrue};
 ghost use Rattle.fs_base.specs.Outside.{Rose};
-ghost use Rattle.cmd_stages.specs.{Load.{OpensFront}, Refusal.{IsOfFile, answered}};
-ghost use Rattle.fs_cli.specs.{FileCheck.{IsDue, OfRules, Unsaid, file_openings, said_shown}, RulesCheck.{JudgesRules}};
+ghost use Rattle.cmd_stages.specs.{Load.{OpensFront}, Refusal.{IsOfFile, answered}, Said.{Says, said_shown}};
+ghost use Rattle.fs_cli.specs.{FileCheck.{IsDue, OfRules, file_openings}, RulesCheck.{JudgesRules}};
 
-use crate::file_check::Said;
-use cmd_stages::{RULES_SLOT, Refusal, load_config, load_file, status};
+use cmd_stages::{RULES_SLOT, Refusal, Said, load_config, load_file, status};
 use fs_base::{Config, Files, Memory};
 use fs_conf::{RulesFault, judge_rules, names_the_rules_fault};
 use std::alloc::Global;
@@ -24,10 +23,8 @@ pub(crate) fn say_of_rules<F: Files>(
     ensures accepted { IfOk result (λ said. (said.status ≡ 0) ⊎ (said.status ≡ 9)) }
 
     ensures said { IsTrue F.tells
-        → MatchResult result
-        (λ said. IsDue limit (F.holds files.old) (OfRules config.now rules.now) (said_shown said))
-        (Unsaid (IsDue limit (F.holds files.old) (OfRules config.now rules.now))
-        (Rose (F.faults files.old) (F.faults files.new))) }
+        → Says (IsDue limit (F.holds files.old) (OfRules config.now rules.now))
+        (Rose (F.faults files.old) (F.faults files.new)) result }
     ensures opens { OpensFront (file_openings (OfRules config.now rules.now))
         (F.opened files.old) (F.opened files.new) (answered result) }
 {

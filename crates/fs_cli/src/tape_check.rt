@@ -4,16 +4,15 @@ ghost use Rattle.std.specs.Prelude.{◌≡◌, ◌≢◌, ◌≤◌, ◌++◌, �
 ghost use Rattle.fs_base.specs.{Files.{one_opening}, Outside.{Rose}, Sink.{Grew}};
 ghost use Rattle.fs_tape.specs.{Header.{longest_payload}, Tape.{coming}};
 ghost use Rattle.fs_reports.specs.TapeFault.{tape_fault_line};
-ghost use Rattle.cmd_stages.specs.{Load.{OpensFront}, Play.{played_to, tape_stage}};
+ghost use Rattle.cmd_stages.specs.{Load.{OpensFront}, Play.{played_to, tape_stage}, Said.{Says, said_shown}};
 ghost use Rattle.cmd_stages.specs.Refusal.{HasReason, IsOfTape, answered, status_of, verdict_with};
 ghost use Rattle.cmd_stages.specs.declared.refusal.Refusal.TheVariants.{Tape as TapeRefusal};
-ghost use Rattle.fs_cli.specs.FileCheck.{IsDue, OfTape, Unsaid, file_openings, said_shown};
+ghost use Rattle.fs_cli.specs.FileCheck.{IsDue, OfTape, file_openings};
 ghost use Rattle.fs_cli.specs.Survey.{IsOfSurvey};
 ghost use Rattle.fs_cli.specs.TapeCheck.{CountsOn, TapeCounted, counted_text, span_text, tally_at, tally_line, tally_lines, tape_line, up_text};
 
-use crate::file_check::Said;
 use crate::tallies::{Counts, Tally};
-use cmd_stages::{Refusal, load_config, next_item, open_tape, status};
+use cmd_stages::{Refusal, Said, load_config, next_item, open_tape, status};
 use fs_base::{Config, Files, Memory};
 use fs_reports::{peer_numbers, tape_reason_name};
 use fs_tape::{LONGEST_PAYLOAD, Tape, TapeReason};
@@ -39,10 +38,8 @@ pub(crate) fn say_of_tape<F: Files>(
     ensures accepted { IfOk result (λ said. (said.status ≡ 0) ⊎ (said.status ≡ 4)) }
 
     ensures said { IsTrue F.tells
-        → MatchResult result
-        (λ said. IsDue limit (F.holds files.old) (OfTape config.now tape.now) (said_shown said))
-        (Unsaid (IsDue limit (F.holds files.old) (OfTape config.now tape.now))
-        (Rose (F.faults files.old) (F.faults files.new))) }
+        → Says (IsDue limit (F.holds files.old) (OfTape config.now tape.now))
+        (Rose (F.faults files.old) (F.faults files.new)) result }
     ensures opens { OpensFront (file_openings (OfTape config.now tape.now))
         (F.opened files.old) (F.opened files.new) (answered result) }
 {

@@ -1,6 +1,7 @@
 use Rattle.fs_cli.proofs.Words.{◌⊎◌, ℕ, inl, inr, subst, sym, IsOneOf, Rose}
 use Rattle.fs_cli.proofs.Checking.{file_said, file_unsaid, never_two, never_quiet, opens_said, said_possible}
-use Rattle.fs_cli.specs.FileCheck.{ChecksFileSo, file_openings, file_shown, file_statuses, said_shown}
+use Rattle.cmd_stages.specs.Said.{said_shown}
+use Rattle.fs_cli.specs.FileCheck.{ChecksFileSo, file_openings, file_shown, file_statuses}
 use Rattle.fs_cli.proofs.file_check.check_file.Goals as goal
 
 pub returns-in-Ok-clause-checks : goal.returns-in-Ok-clause-checks

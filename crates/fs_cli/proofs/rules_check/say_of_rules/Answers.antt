@@ -1,8 +1,8 @@
 use Rattle.fs_cli.proofs.Words.{ℕ, List, subst, refl, arith, Rose, Memory, Grew-trans, rose_earlier, answered_err, config_then, opened_due}
 use Rattle.fs_cli.proofs.Words.{refused_at}
-use Rattle.fs_cli.proofs.RulesChecking.{config_unsaid, rules_said, rules_unsaid}
-use Rattle.cmd_stages.{specs.Refusal.{IsOfFile}, proofs.Stages.{match_err}}
-use Rattle.fs_cli.specs.{FileCheck.{said_shown}, RulesCheck.{JudgesRules}}
+use Rattle.fs_cli.proofs.RulesChecking.{rules_said, rules_unsaid}
+use Rattle.cmd_stages.{specs.{Refusal.{IsOfFile}, Said.{said_shown}}, proofs.Stages.{match_err}}
+use Rattle.fs_cli.specs.RulesCheck.{JudgesRules}
 use Rattle.fs_cli.proofs.rules_check.say_of_rules.Goals as goal
 
 pub returns-in_err-accepted-clause-possible : goal.returns-in_err-accepted-clause-possible
@@ -13,12 +13,6 @@ pub returns-in_err-octets-clause-possible : goal.returns-in_err-octets-clause-po
 returns-in_err-octets-clause-possible g c =
     answered_err IsOfFile c.from_residual-in_err-octets.result c.in_err-octets.field-0.0 c.from_residual-in_err-octets.ensures.1
     c.in_err-octets.ensures.possible
-
-pub returns-in_err-accepted-clause-said : goal.returns-in_err-accepted-clause-said
-returns-in_err-accepted-clause-said g c = λ told.
-    match_err _ _ c.from_residual.result c.from_residual.ensures.1 (λ refusal same.
-    config_unsaid c.args.limit (g.F.Files.holds c.args.files.now) c.args.config.now c.args.rules.now _ _ c.in_err-accepted.field-0.0 refusal same
-    (c.in_err-accepted.ensures.reaches told) (λ r. r))
 
 pub returns-in_err-octets-clause-said : goal.returns-in_err-octets-clause-said
 returns-in_err-octets-clause-said g c = λ told.

@@ -1,5 +1,5 @@
 use Rattle.fs_cli.proofs.{Words.{refl, arith, Memory, Grew-trans, config_then, opened_due, refused_at}, TapeChecking.{tape_told}}
-use Rattle.fs_cli.specs.FileCheck.{said_shown}
+use Rattle.cmd_stages.specs.Said.{said_shown}
 use Rattle.fs_cli.proofs.tape_check.say_of_tape.Goals as goal
 
 pub returns-in-Ok-clause-said : goal.returns-in-Ok-clause-said
