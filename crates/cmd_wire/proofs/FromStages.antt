@@ -6,6 +6,8 @@ use Rattle.cmd_wire.proofs.Words.{octets_in, rules_stage, sender_of, sending_sta
 use Rattle.cmd_wire.proofs.Words.{length, nat_le, Bool, true, false, if◌then◌else◌, Option, Some, None, IfSome, Result, append-nil, arith, refl, ap}
 use Rattle.cmd_wire.proofs.Words.{sym, subst, Config, le_false, le_true, Closed, fresh, announcer, told_and, opened_by, ClosesSo, IsErrAnd}
 use Rattle.cmd_wire.proofs.Words.{answered_err, ends_early, reason_then, Connected, IsBrokenOff, IsDue, Speaks, Conversation, dialling, IsOfWire}
+use Rattle.cmd_wire.proofs.Words.{Grew, OpensFront, config_alone, config_then, opened_due}
+use Rattle.fs_base.specs.Files.{Opened}
 use Rattle.cmd_wire.specs.Announcing.{ending_by, ending_of}
 use Rattle.std.specs.Result.{MatchResult}
 use Rattle.fs_peering.specs.declared.tell.Ending.TheVariants.{Closed as HasClosed}
@@ -163,3 +165,15 @@ sending_found limit holds holds' config rules accepted sending e same r =
     let here : rules_stage accepted limit holds rules ≡ Found sending =
     subst (λ (names : Names). rules_stage accepted limit names rules ≡ Found sending) same r in
     ap (λ (s : Stage Config). and_then s (then_rules limit holds rules)) e ∙ ap (λ (s : Stage Sending). and_then s (λ sending. Found (accepted, sending))) here
+
+-- the configuration was opened, and then no other file
+pub config_opened : (config : List ℕ) (before now : Option (List Opened)) (answer : ℕ) → Grew before now (config_alone config).files
+    → OpensFront (config_alone config) before now answer
+config_opened config before now answer grew =
+    opened_due (config_alone config) 1 (omega (arith)) before now now answer grew refl (omega (arith)) (λ three. omega (arith))
+
+-- and the rules file too
+pub both_opened : (config rules : List ℕ) (before now : Option (List Opened)) (answer : ℕ) → Grew before now (config_then 2 config rules).files
+    → OpensFront (config_then 2 config rules) before now answer
+both_opened config rules before now answer grew =
+    opened_due (config_then 2 config rules) 2 (omega (arith)) before now now answer grew refl (omega (arith)) (λ three. omega (arith))

@@ -1,18 +1,15 @@
--- How `keep` begins, why it ends, and what it did until then.
+-- How `keep` begins, and why it ends.
 use Rattle.cmd_wire.proofs.Words.{◌≡◌, ◌≤◌, ◌⊎◌, ◌∙◌, ℕ, suc, true, false, List, [], ◌∷◌, Option, Some, None, Ok, Err, refl, sym, ap, subst, inl, inr}
-use Rattle.cmd_wire.proofs.Words.{Grew, Grew-trans, Rose, rose_earlier, Happened, Config, Names, Found, HasReason, config_stage, status_of, Result}
-use Rattle.cmd_wire.proofs.Words.{IsErrAnd, answered, answered_err, Refusal, Capture, Dump, Limit, Memory, Outside, Rejected, Session, Tape}
-use Rattle.cmd_wire.proofs.{Statuses.{same_found}, Kept.{rereads_took}}
+use Rattle.cmd_wire.proofs.Words.{Grew, Grew-trans, Rose, rose_earlier, Result, IsErrAnd}
+use Rattle.cmd_wire.proofs.Kept.{rereads_took}
 use Rattle.std.specs.{Prelude.{take}, Result.{IsErrOf}}
 use Rattle.fs_base.specs.Gate.{Content, Turn, absent, content_from, read, too_long, unread, whole}
-use Rattle.fs_base.specs.Happened.{FilesFailed}
 use Rattle.fs_base.specs.declared.Found.{Found as HasFound, TheVariants.{Whole, Absent, Failed as Unread, TooLong as Long}}
 use Rattle.fs_base.proofs.Grew.{Grew-refl}
-use Rattle.fs_recorder.specs.declared.stop.Stop.{Stop, TheVariants.{Failed, Memory as NoMemory, Limit as TooLong}}
-use Rattle.cmd_stages.specs.Refusal.{IsOfFile}
-use Rattle.cmd_wire.specs.{Recording.{AtGate, SomeFailed, refusal_by}, Shelf.{Shelf}}
-use Rattle.cmd_wire.specs.Keeping.{Begins, Breaks, BreaksShelving, EndsKeeping, Fills, IsMissing, IsOfKeeping, IsThere, IsUnbegun, KeepsAll, KeepsSo}
-use Rattle.cmd_wire.specs.Keeping.{Order, Reread, Shelves, StandsAt, Stationed, Step, Took, at_first, is_done, is_missing, order_by, reread_of}
+use Rattle.fs_recorder.specs.declared.stop.Stop.{Stop, TheVariants.{Failed}}
+use Rattle.cmd_wire.specs.Shelf.{Shelf}
+use Rattle.cmd_wire.specs.Keeping.{Begins, Breaks, BreaksShelving, IsMissing, IsThere, IsUnbegun}
+use Rattle.cmd_wire.specs.Keeping.{Order, Reread, Shelves, StandsAt, Stationed, Step, Took, at_first, is_done, is_missing, reread_of}
 use Rattle.cmd_wire.specs.Keeping.{rereads, shelves, starts, starts_by}
 
 -- The first reading.
@@ -95,52 +92,6 @@ module _ (moment time : ℕ) (content : Content) (old : Stationed) (t t1 t2 : Op
 pub begun_so : (order order' : Order) (t t' : Option (List Turn)) (w w' : Option (List ℕ)) → order ≡ order' → IsUnbegun order t t' w w'
     → IsUnbegun order' t t' w w'
 begun_so order order' t t' w w' same u = subst (λ (o : Order). IsUnbegun o t t' w w') same u
-
--- the statuses
-
-pub config_status : (refusal : Refusal) → IsOfFile (status_of refusal) → IsOfKeeping (status_of refusal)
-config_status Outside h = inl refl
-config_status Rejected h = inr (inl refl)
-config_status (Tape reason place) h = absurd (h.0 refl)
-config_status Capture h = absurd (h.1 refl)
-config_status Dump h = absurd (h.3 refl)
-config_status Memory h = inr (inr (inl refl))
-config_status Limit h = inr (inr (inr refl))
-config_status Session h = absurd (h.2 refl)
-
-pub stop_status : (stop : Stop) → IsOfKeeping (status_of (refusal_by stop))
-stop_status Failed = inl refl
-stop_status NoMemory = inr (inr (inl refl))
-stop_status TooLong = inr (inr (inr refl))
-
--- why it ended
-
-module _ (limit : ℕ) (holds : Names) (config rules address : List ℕ) (call : Happened) (gate : AtGate) where
-  ends_config : (refusal : Refusal) → HasReason (config_stage limit holds config) (FilesFailed call) refusal
-      → EndsKeeping limit holds config rules address call gate (status_of refusal)
-  ends_config refusal (inl h) = inl (refusal, h, refl)
-  ends_config refusal (inr (inl h)) = inr (inl (ap status_of h))
-  ends_config refusal (inr (inr h)) = inr (inr (inl (ap status_of h.0, inl (inl h.1))))
-
-  pub ends_unread : {T : Type 0} (r : Result T Refusal) (refusal : Refusal) → IsErrAnd r (λ e. e ≡ refusal)
-      → HasReason (config_stage limit holds config) (FilesFailed call) refusal → EndsKeeping limit holds config rules address call gate (answered r)
-  ends_unread r refusal same reason = answered_err (EndsKeeping limit holds config rules address call gate) r refusal same (ends_config refusal reason)
-
-  pub ends_stop : (accepted : Config) (stop : Stop) → config_stage limit holds config ≡ Found accepted
-      → (stop ≡ Failed → SomeFailed call gate ⊎ IsMissing rules gate.turns gate.turns_now)
-      → (stop ≡ TooLong → Fills (order_by rules address limit accepted) gate.turns gate.turns_now)
-      → EndsKeeping limit holds config rules address call gate (status_of (refusal_by stop))
-  ends_stop accepted Failed found f full = inr (inr (inl (refl, f refl)))
-  ends_stop accepted NoMemory found f full = inr (inl refl)
-  ends_stop accepted TooLong found f full = inr (inr (inr (accepted, found, refl, full refl)))
-
-  -- what it did, of the configuration that was accepted
-  pub keeps_so : (accepted : Config) → config_stage limit holds config ≡ Found accepted
-      → KeepsAll (order_by rules address limit accepted) gate.turns gate.turns_now call.before.written call.now.written
-      → KeepsSo limit holds config rules address call gate
-  keeps_so accepted found all other same =
-      subst (λ (c : Config). KeepsAll (order_by rules address limit c) gate.turns gate.turns_now call.before.written call.now.written)
-      (same_found (sym found ∙ same)) all
 
 -- a fault of the sink or the gate is one of the outside
 pub some_failed : {F S G M : Type 0} → (S ⊎ G) ⊎ M → (F ⊎ (S ⊎ G)) ⊎ M

@@ -1,13 +1,13 @@
 -- Why `record` ends, and what it did until then.
 use Rattle.cmd_wire.proofs.Words.{◌≡◌, ◌≢◌, ◌⊎◌, ◌≤◌, ◌∙◌, ℕ, List, [], Option, refl, sym, ap, subst, inl, inr, Grew, Grew-trans, Rose, rose_earlier}
-use Rattle.cmd_wire.proofs.Words.{Happened, Config, Names, Found, HasReason, config_stage, status_of, Result, IsErrAnd, answered, answered_err}
+use Rattle.cmd_wire.proofs.Words.{Config, Found, HasReason, Stage, status_of, Result, IsErrAnd, answered, answered_err}
 use Rattle.cmd_wire.proofs.Words.{Refusal, Capture, Dump, Limit, Memory, Outside, Rejected, Session, Tape}
 use Rattle.cmd_wire.proofs.Statuses.{same_found}
-use Rattle.fs_base.{specs.{Gate.{Turn}, Happened.{FilesFailed}, Sink.{GrewPart}}, proofs.Grew.{Grew-refl, part_none}}
+use Rattle.fs_base.{specs.{Gate.{Turn}, Sink.{GrewPart}}, proofs.Grew.{Grew-refl, part_none}}
 use Rattle.fs_tape.specs.{Magic.{magic_of}, declared.magic.Version.TheVariants.{Two}}
 use Rattle.fs_recorder.specs.declared.stop.Stop.{Stop, TheVariants.{Failed, Memory as NoMemory, Limit as TooLong}}
 use Rattle.cmd_stages.specs.Refusal.{IsOfFile}
-use Rattle.cmd_wire.specs.Recording.{AtGate, EndsRecording, Fills, IsOfRecording, RecordsAll, RecordsSo, SomeFailed, refusal_by}
+use Rattle.cmd_wire.specs.Recording.{EndsBy, Fills, IsOfRecording, RecordsAll, refusal_by}
 
 -- the statuses
 
@@ -33,18 +33,27 @@ never_three TooLong e = absurd cc
 
 -- why it ended
 
-pub ends_config : (limit : ℕ) (holds : Names) (config : List ℕ) (call : Happened) (gate : AtGate) (failed : Type 0) (refusal : Refusal)
-    → HasReason (config_stage limit holds config) failed refusal → (failed → FilesFailed call) → EndsRecording limit holds config call gate (status_of refusal)
-ends_config limit holds config call gate failed refusal (inl h) f = inl (refusal, h, refl)
-ends_config limit holds config call gate failed refusal (inr (inl h)) f = inr (inl (ap status_of h))
-ends_config limit holds config call gate failed refusal (inr (inr h)) f = inr (inr (inl (ap status_of h.0, inl (f h.1))))
+module _ {stage : Stage Config} {failed : Type 0} {full : Config → Type 0} where
+  ends_config : {fails : Type 0} (refusal : Refusal) → HasReason stage fails refusal → (fails → failed) → EndsBy stage failed full (status_of refusal)
+  ends_config refusal (inl h) f = inl (refusal, h, refl)
+  ends_config refusal (inr (inl h)) f = inr (inl (ap status_of h))
+  ends_config refusal (inr (inr h)) f = inr (inr (inl (ap status_of h.0, f h.1)))
 
-pub ends_stop : (limit : ℕ) (holds : Names) (config : List ℕ) (call : Happened) (gate : AtGate) (accepted : Config) (stop : Stop)
-    → config_stage limit holds config ≡ Found accepted → (stop ≡ Failed → SomeFailed call gate)
-    → (stop ≡ TooLong → Fills limit accepted gate.turns gate.turns_now) → EndsRecording limit holds config call gate (status_of (refusal_by stop))
-ends_stop limit holds config call gate accepted Failed found f full = inr (inr (inl (refl, f refl)))
-ends_stop limit holds config call gate accepted NoMemory found f full = inr (inl refl)
-ends_stop limit holds config call gate accepted TooLong found f full = inr (inr (inr (accepted, found, refl, full refl)))
+  -- for what a `?` hands on
+  pub ends_unread : {T fails : Type 0} (r : Result T Refusal) (refusal : Refusal) → IsErrAnd r (λ e. e ≡ refusal) → HasReason stage fails refusal
+      → (fails → failed) → EndsBy stage failed full (answered r)
+  ends_unread r refusal same reason f = answered_err (EndsBy stage failed full) r refusal same (ends_config refusal reason f)
+
+  pub ends_stop : (accepted : Config) (stop : Stop) → stage ≡ Found accepted → (stop ≡ Failed → failed) → (stop ≡ TooLong → full accepted)
+      → EndsBy stage failed full (status_of (refusal_by stop))
+  ends_stop accepted Failed found f filled = inr (inr (inl (refl, f refl)))
+  ends_stop accepted NoMemory found f filled = inr (inl refl)
+  ends_stop accepted TooLong found f filled = inr (inr (inr (accepted, found, refl, filled refl)))
+
+-- of the configuration that was accepted
+pub accepted_so : {stage : Stage Config} (P : Config → Type 0) (accepted : Config) → stage ≡ Found accepted → P accepted
+    → (other : Config) → stage ≡ Found other → P other
+accepted_so P accepted found all other same = subst P (same_found (sym found ∙ same)) all
 
 -- a gate that was opened in between
 pub some_failed : (s s' g g1 g2 : ℕ) (files : Type 0) → g ≤ g1 → Rose s s' ⊎ Rose g1 g2 → files ⊎ (Rose s s' ⊎ Rose g g2)
@@ -81,24 +90,3 @@ opened_full limit config t t1 t2 opened f = record {
   gate = Grew-trans t t1 t2 [] _ opened f.gate;
   full = f.full;
 }
-
--- of the configuration that was accepted
-pub records_so : (limit : ℕ) (holds : Names) (config : List ℕ) (accepted : Config) (call : Happened) (gate : AtGate)
-    → config_stage limit holds config ≡ Found accepted
-    → RecordsAll accepted gate.turns gate.turns_now call.before.written call.now.written → RecordsSo limit holds config call gate
-records_so limit holds config accepted call gate found all other same =
-    subst (λ (c : Config). RecordsAll c gate.turns gate.turns_now call.before.written call.now.written) (same_found (sym found ∙ same)) all
-
--- what is said of a refusal that a `?` hands on
-
-pub ends_unread : {T : Type 0} (limit : ℕ) (holds : Names) (config : List ℕ) (call : Happened) (gate : AtGate) (r : Result T Refusal) (refusal : Refusal)
-    → IsErrAnd r (λ e. e ≡ refusal) → HasReason (config_stage limit holds config) (FilesFailed call) refusal
-    → EndsRecording limit holds config call gate (answered r)
-ends_unread limit holds config call gate r refusal same reason =
-    answered_err (EndsRecording limit holds config call gate) r refusal same
-    (ends_config limit holds config call gate (FilesFailed call) refusal reason (λ f. f))
-
-pub ends_unopened : {T : Type 0} (limit : ℕ) (holds : Names) (config : List ℕ) (call : Happened) (gate : AtGate) (r : Result T Refusal)
-    → IsErrAnd r (λ e. e ≡ Outside) → Rose gate.faults gate.faults_now → EndsRecording limit holds config call gate (answered r)
-ends_unopened limit holds config call gate r same rose =
-    answered_err (EndsRecording limit holds config call gate) r Outside same (inr (inr (inl (refl, inr (inr rose)))))

@@ -11,8 +11,8 @@ use Rattle.fs_conf.specs.{Config.{config_of}, Rules.{rules_of}}
 use Rattle.fs_speaker.specs.{Sending.{sender_of}, declared.Sending.{Sending}}
 use Rattle.fs_peering.specs.Keeper.{Connection, Kept, Outcome, accepts, at_first as keeper_at_first, dials, hears, tells_all}
 use Rattle.fs_peering.specs.{KeeperLaws.{LeavesExactly}, Keeping.{Keeping, Stands}, declared.keeper.News.{News, TheVariants.{Up}}}
-use Rattle.cmd_stages.specs.{Load.{Names, config_stage}, Refusal.{Found, Stopped, status_of}, declared.refusal.Refusal.{Refusal}}
-use Rattle.cmd_wire.specs.{Judged.{IsJudged, Judged, accepted, refused}, News.{kept_text, line_of}, Recording.{AtGate, SomeFailed}}
+use Rattle.cmd_stages.specs.{Load.{Names, config_stage}, Refusal.{Found}}
+use Rattle.cmd_wire.specs.{Judged.{IsJudged, Judged, accepted, refused}, News.{kept_text, line_of}, Recording.{AtGate, EndsBy, IsOfRecording, SomeFailed}}
 use Rattle.cmd_wire.specs.Shelf.{Shelf, empty_shelf, is_due, settles, shelved}
 
 -- What is kept where: by this configuration the rules of the file of this name, at this address; the file and the other end
@@ -389,18 +389,16 @@ pub record Fills (order : Order) (turns turns' : Option (List Turn)) : Type 0 wh
       ++ begun_turns order (stands_from order (begun order first) earlier) last 0))
   pub full : IsFull order (begun order first) earlier last
 
--- Why it ended: the configuration isn't accepted, memory was wanting, a call on the outside failed, the rules file wasn't
--- there at first, or the other end gave as many octets as the limit (or more came than can be counted).
+-- Why it ended: as a command at a gate does, where a call on the outside failed or the rules file wasn't there at first, or
+-- where the other end gave as many octets as the limit (or more came than can be counted).
 abbrev pub EndsKeeping : (limit : ℕ) (holds : Names) → (config rules address : List ℕ) → Happened → AtGate → ℕ → Type 0
 EndsKeeping limit holds config rules address call gate answer =
-    ((refusal : Refusal) × (config_stage limit holds config ≡ Stopped refusal) × (answer ≡ status_of refusal))
-    ⊎ (answer ≡ 6) ⊎ ((answer ≡ 1) × (SomeFailed call gate ⊎ IsMissing rules gate.turns gate.turns_now))
-    ⊎ ((accepted : Config) × (config_stage limit holds config ≡ Found accepted) × (answer ≡ 7)
-    × Fills (order_by rules address limit accepted) gate.turns gate.turns_now)
+    EndsBy (config_stage limit holds config) (SomeFailed call gate ⊎ IsMissing rules gate.turns gate.turns_now)
+    (λ accepted. Fills (order_by rules address limit accepted) gate.turns gate.turns_now) answer
 
 -- a status that it may end with
 abbrev pub IsOfKeeping : ℕ → Type 0
-IsOfKeeping answer = (answer ≡ 1) ⊎ (answer ≡ 3) ⊎ (answer ≡ 6) ⊎ (answer ≡ 7)
+IsOfKeeping = IsOfRecording
 
 -- What a station has.
 pub record Stationed : Type 0 where

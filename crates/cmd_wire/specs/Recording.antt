@@ -10,7 +10,7 @@ use Rattle.fs_recorder.specs.Deeds.{AreKnown, Recording, asked_in, items_of, tex
 use Rattle.fs_recorder.specs.Steps.{Between, Happening, at_first, behind, recorded, stands_from, step_at, turns_from}
 use Rattle.fs_recorder.specs.{Tapes.{Scribed}, Works.{Stands}}
 use Rattle.fs_recorder.specs.declared.stop.Stop.{Stop, TheVariants.{Failed, Memory as NoMemory, Limit as TooLong}}
-use Rattle.cmd_stages.specs.{Load.{Names, config_stage}, Refusal.{Found, Stopped, status_of}}
+use Rattle.cmd_stages.specs.{Load.{Names, config_stage}, Refusal.{Found, Stage, Stopped, status_of}}
 use Rattle.cmd_stages.specs.declared.refusal.Refusal.{Refusal, TheVariants.{Outside, Memory, Limit}}
 
 -- What a gate tells before a call and behind it. Clauses take it as one argument.
@@ -95,14 +95,18 @@ RecordsSo limit holds config call gate =
     (accepted : Config) → config_stage limit holds config ≡ Found accepted
     → RecordsAll accepted gate.turns gate.turns_now call.before.written call.now.written
 
--- Why it ended: the configuration isn't accepted, memory was wanting, a call on the outside failed, or the records of what
--- came make the tape as long as the limit (or more came than can be counted).
+-- Why a command at a gate ended: the configuration isn't accepted, memory was wanting, it failed, or the limit was reached.
+abbrev pub EndsBy : Stage Config → (failed : Type 0) → (full : Config → Type 0) → ℕ → Type 0
+EndsBy stage failed full answer =
+    ((refusal : Refusal) × (stage ≡ Stopped refusal) × (answer ≡ status_of refusal))
+    ⊎ (answer ≡ 6) ⊎ ((answer ≡ 1) × failed)
+    ⊎ ((accepted : Config) × (stage ≡ Found accepted) × (answer ≡ 7) × full accepted)
+
+-- A call on the outside failed, or the records of what came make the tape as long as the limit (or more came than can be
+-- counted).
 abbrev pub EndsRecording : (limit : ℕ) (holds : Names) → (config : List ℕ) → Happened → AtGate → ℕ → Type 0
 EndsRecording limit holds config call gate answer =
-    ((refusal : Refusal) × (config_stage limit holds config ≡ Stopped refusal) × (answer ≡ status_of refusal))
-    ⊎ (answer ≡ 6) ⊎ ((answer ≡ 1) × SomeFailed call gate)
-    ⊎ ((accepted : Config) × (config_stage limit holds config ≡ Found accepted) × (answer ≡ 7)
-    × Fills limit accepted gate.turns gate.turns_now)
+    EndsBy (config_stage limit holds config) (SomeFailed call gate) (λ accepted. Fills limit accepted gate.turns gate.turns_now) answer
 
 -- a status that it may end with
 abbrev pub IsOfRecording : ℕ → Type 0

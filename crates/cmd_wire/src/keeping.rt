@@ -45,6 +45,7 @@ pub struct Upkeep<'w> {
 /// The first of these, in this order of work: the configuration's; `Outside` where the rules file isn't there or can't be
 /// read at first; and then `Outside` where the gate or the sink failed, `Memory` where the machine refused memory, `Limit`
 /// where the other end gave as many octets as the limit, or behind 2^64 - 1 events.
+#[tactic(auto, using(crate::proofs::FromStages::config_opened))]
 pub fn keep_rules<F: Files, S: Sink, G: Gate>(
     alloc: Global,
     files: &mut F,

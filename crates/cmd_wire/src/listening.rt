@@ -32,6 +32,7 @@ pub struct Reception<'w> {
 /// # Errors
 ///
 /// The first of these, in this order of work: the configuration's, the wire's, the session's, the sink's.
+#[tactic(auto, using(crate::proofs::FromStages::config_opened))]
 pub fn listen<F: Files, S: Sink, W: Wire, C: Clock>(
     alloc: Global,
     files: &mut F,

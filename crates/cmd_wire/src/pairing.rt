@@ -34,6 +34,7 @@ pub struct Pairing<'w> {
 ///
 /// The first of these, in this order of work: the configuration's, the rules file's, the wire's, the session's, the
 /// sink's.
+#[tactic(auto, using(crate::proofs::FromStages::both_opened))]
 pub fn pair<F: Files, S: Sink, W: Wire, C: Clock>(
     alloc: Global,
     files: &mut F,

@@ -30,6 +30,7 @@ pub struct Recording<'w> {
 /// The first of these, in this order of work: the configuration's; `Outside` where the address can't be listened at; and
 /// of each event `Outside` where the gate or the sink failed, `Memory` where the machine refused memory, `Limit` where the
 /// next record would make the tape as long as the limit, or behind 2^64 - 1 events.
+#[tactic(auto, using(crate::proofs::FromStages::config_opened))]
 pub fn record_sessions<F: Files, S: Sink, G: Gate>(
     alloc: Global,
     files: &mut F,

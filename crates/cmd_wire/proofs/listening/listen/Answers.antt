@@ -1,4 +1,4 @@
-use Rattle.cmd_wire.proofs.Words.{inl, inr, happened, with_wire, reason_then, with_peer, arith, config_alone, opened_due, refl}
+use Rattle.cmd_wire.proofs.Words.{inl, inr, happened, with_wire, reason_then, with_peer}
 use Rattle.cmd_wire.proofs.{FromStages.{broken_session, ends_handed, next_reason}, Concluding.{told_desk}, Hearing.{heard_as, hearing_found}}
 use Rattle.cmd_wire.proofs.Statuses.{not_stopped}
 use Rattle.cmd_wire.proofs.listening.listen.Goals as goal
@@ -43,19 +43,3 @@ returns-clause-stopped g c = λ told refusal stop.
     (hearing_found c.args.order.now.limit (g.F.Files.holds c.args.files.now) c.args.order.now.config.now _ _
     (c.in_ok-config.ensures.reaches told) c.in_ok-hearer.ensures.begins.peer_is)
     stop
-
-pub returns-in_err-config-clause-opens : goal.returns-in_err-config-clause-opens
-returns-in_err-config-clause-opens g c =
-    opened_due (config_alone c.args.order.now.config.now) 1 (omega (arith)) _ _ _ _ c.in_err-config.ensures.opens refl (omega (arith)) (λ three. omega (arith))
-
-pub returns-in_err-hearer-clause-opens : goal.returns-in_err-hearer-clause-opens
-returns-in_err-hearer-clause-opens g c =
-    opened_due (config_alone c.args.order.now.config.now) 1 (omega (arith)) _ _ _ _ c.in_ok-config.ensures.opens refl (omega (arith)) (λ three. omega (arith))
-
-pub returns-in_err-ending-clause-opens : goal.returns-in_err-ending-clause-opens
-returns-in_err-ending-clause-opens g c =
-    opened_due (config_alone c.args.order.now.config.now) 1 (omega (arith)) _ _ _ _ c.in_ok-config.ensures.opens refl (omega (arith)) (λ three. omega (arith))
-
-pub returns-clause-opens : goal.returns-clause-opens
-returns-clause-opens g c =
-    opened_due (config_alone c.args.order.now.config.now) 1 (omega (arith)) _ _ _ _ c.in_ok-config.ensures.opens refl (omega (arith)) (λ three. omega (arith))

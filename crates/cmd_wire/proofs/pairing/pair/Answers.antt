@@ -1,4 +1,4 @@
-use Rattle.cmd_wire.proofs.Words.{inl, inr, happened, with_wire, OpensFront, answered_err, arith, config_then, opened_due, refl}
+use Rattle.cmd_wire.proofs.Words.{inl, inr, happened, with_wire, OpensFront, answered_err, config_then}
 use Rattle.cmd_wire.proofs.{Concluding.{told_desk}, FromPairing.{carries}, FromStages.{broken_session, ends_handed}, Statuses.{not_stopped}}
 use Rattle.cmd_wire.proofs.pairing.pair.Goals as goal
 
@@ -56,18 +56,3 @@ pub returns-in_err-config-clause-opens : goal.returns-in_err-config-clause-opens
 returns-in_err-config-clause-opens g c =
     answered_err (OpensFront (config_then 2 c.args.order.now.config.now c.args.order.now.rules.now) _ _) c.from_residual.result
     c.in_err-config.field-0.0 c.from_residual.ensures.1 c.in_err-config.ensures.opens
-
-pub returns-in_err-ends-clause-opens : goal.returns-in_err-ends-clause-opens
-returns-in_err-ends-clause-opens g c =
-    opened_due (config_then 2 c.args.order.now.config.now c.args.order.now.rules.now) 2 (omega (arith)) _ _ _ _ c.in_ok-config.ensures.both refl
-    (omega (arith)) (λ three. omega (arith))
-
-pub returns-in_err-ending-clause-opens : goal.returns-in_err-ending-clause-opens
-returns-in_err-ending-clause-opens g c =
-    opened_due (config_then 2 c.args.order.now.config.now c.args.order.now.rules.now) 2 (omega (arith)) _ _ _ _ c.in_ok-config.ensures.both refl
-    (omega (arith)) (λ three. omega (arith))
-
-pub returns-clause-opens : goal.returns-clause-opens
-returns-clause-opens g c =
-    opened_due (config_then 2 c.args.order.now.config.now c.args.order.now.rules.now) 2 (omega (arith)) _ _ _ _ c.in_ok-config.ensures.both refl
-    (omega (arith)) (λ three. omega (arith))
