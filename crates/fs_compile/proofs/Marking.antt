@@ -1,11 +1,9 @@
 -- Bits that are set where no other is cleared, for more and more of a run's rules.
 use Rattle.fs_compile.proofs.Words.{◌≡◌, ℕ, ◌+◌, ◌-◌, ◌*◌, ◌/◌, ◌%◌, ◌^◌, ◌<◌, ◌≤◌, ◌⊎◌, inl, inr, max, refl, sym, subst, ◌∙◌, Bool, true, false}
 use Rattle.fs_compile.proofs.Words.{true≢false, ◌||◌, bit_or, set, take, List, get_or, length, w64, arith, bit_at, cases_lt, cases_order, get_or-map}
-use Rattle.fs_compile.proofs.Words.{get_or-set_other, get_or-set_same, length-set, bit_at-lt, bit_at_or, bit_at_set_same, Fast, AreMarked}
-use Rattle.fs_compile.proofs.Words.{ArePortsMarked, Grown, IsClass, bit_in, Facts, key_of, facts_hold, hits, contains, is_in}
+use Rattle.fs_compile.proofs.Words.{get_or-set_other, get_or-set_same, length-set, bit_at-lt, bit_at_or, bit_at_set_same, Fast, IsMarked}
+use Rattle.fs_compile.proofs.Words.{AreRowsOf, Grown, bit_in, Facts, facts_hold, hits, contains, is_in}
 use Rattle.std.proofs.lemmas.List.Folds.{list_any_more}
-use Rattle.fs_ranges.specs.declared.Field.{Field, TheVariants.{DestinationPort, SourcePort}}
-use Rattle.fs_ranges.specs.{declared.Limit.{Limit}, Limits.{allows, allows_port}, Facts.{number_of}}
 
 abbrev pub with_bit : ℕ → ℕ → ℕ
 with_bit n bit = bit_or n (1 * 2 ^ bit % 18446744073709551616)
@@ -44,68 +42,41 @@ grown_on a b c first second = record {
   kept = λ word bit h. second.kept word bit (first.kept word bit h);
 }
 
+pub shaped_on : (bounds rows new : List ℕ) (words : ℕ) → AreRowsOf bounds rows words → Grown rows new → AreRowsOf bounds new words
+shaped_on bounds rows new words shaped grown = record { rising = shaped.rising; size = grown.size ∙ shaped.size }
+
 -- Of a rule's ranges one more is marked.
-pub range_more : (rows new : List ℕ) (words class rule number i : ℕ) (ranges : List (ℕ × ℕ)) (range : ℕ × ℕ) → i < length ranges → Grown rows new
-    → (contains (take i ranges) number ≡ true → bit_in rows words class rule ≡ 1)
-    → (is_in number (get_or ranges i range) ≡ true → bit_in new words class rule ≡ 1)
-    → contains (take (i + 1) ranges) number ≡ true → bit_in new words class rule ≡ 1
-range_more rows new words class rule number i ranges range inside grown before here h =
+pub range_more : (bounds rows new : List ℕ) (words rule i : ℕ) (ranges : List (ℕ × ℕ)) (range : ℕ × ℕ) → i < length ranges → Grown rows new
+    → IsMarked bounds rows words rule (contains (take i ranges)) → IsMarked bounds new words rule (λ n. is_in n (get_or ranges i range))
+    → IsMarked bounds new words rule (contains (take (i + 1) ranges))
+range_more bounds rows new words rule i ranges range inside grown before here number class h classed =
     by (contains (take i ranges) number) (is_in number (get_or ranges i range)) refl refl (sym (list_any_more (is_in number) ranges i range inside) ∙ h) where
       by : (a b : Bool) → contains (take i ranges) number ≡ a → is_in number (get_or ranges i range) ≡ b → (a || b) ≡ true → bit_in new words class rule ≡ 1
-      by true b e f t = grown.kept (class * words + rule / 64) (rule % 64) (before e)
-      by false true e f t = here f
+      by true b e f t = grown.kept (class * words + rule / 64) (rule % 64) (before number class e classed)
+      by false true e f t = here number class f classed
       by false false e f t = absurd (true≢false (sym t))
 
--- Of a run's rules one more is marked.
-pub rule_more : (rules : List Fast) (first number words : ℕ) (field : Field) (bounds rows new : List ℕ) (fast : Fast) (limit : Limit) → number < length rules
-    → fast ≡ get_or rules number fast → Grown rows new
-    → AreMarked rules first number field bounds rows words
-    → ((facts : Facts) → facts_hold facts fast ≡ true → allows limit (key_of facts field) ≡ true)
-    → ((n class : ℕ) → allows limit n ≡ true → IsClass bounds n class → bit_in new words class (number - first) ≡ 1)
-    → AreMarked rules first (number + 1) field bounds new words
-rule_more rules first number words field bounds rows new fast limit inside same grown before within marked facts k class from to hit classed =
-    by (cases_lt k number) where
-      by : (k < number) ⊎ (number ≤ k) → bit_in new words class (k - first) ≡ 1
-      by (inl earlier) = grown.kept (class * words + (k - first) / 64) ((k - first) % 64) (before facts k class from earlier hit classed)
-      by (inr later) =
-          let here : number ≡ k = omega (arith, later, to) in
-          let holds : facts_hold facts fast ≡ true = subst (λ (f : Fast). facts_hold facts f ≡ true) (sym same)
-          (sym (get_or-map (facts_hold facts) rules number fast false inside) ∙ subst (λ (n : ℕ). get_or (hits facts rules) n false ≡ true) (sym here) hit) in
-          subst (λ (n : ℕ). bit_in new words class (n - first) ≡ 1) here (marked (key_of facts field) class (within facts holds) classed)
+-- What holds before a number and at it holds before the next.
+pub one_more : (P : ℕ → Type 0) (number k : ℕ) → k < number + 1 → (k < number → P k) → P number → P k
+one_more P number k below before here = by (cases_lt k number) where
+  by : (k < number) ⊎ (number ≤ k) → P k
+  by (inl earlier) = before earlier
+  by (inr later) = subst P (let e : number ≡ k = omega (arith, later, below) in e) here
+
+-- A rule holds whose test is passed.
+pub rule_holds : (rules : List Fast) (number : ℕ) (fast : Fast) (facts : Facts) → number < length rules
+    → get_or (hits facts rules) number false ≡ true → facts_hold facts (get_or rules number fast) ≡ true
+rule_holds rules number fast facts inside hit = sym (get_or-map (facts_hold facts) rules number fast false inside) ∙ hit
 
 -- one of two is set, and stays so
-either_on : (a b c d : ℕ) → c < 2 → d < 2 → (a ≡ 1 → c ≡ 1) → (b ≡ 1 → d ≡ 1) → max a b ≡ 1 → max c d ≡ 1
+pub either_on : (a b c d : ℕ) → c < 2 → d < 2 → (a ≡ 1 → c ≡ 1) → (b ≡ 1 → d ≡ 1) → max a b ≡ 1 → max c d ≡ 1
 either_on a b c d small less f g h = by (cases_lt b a) where
   by : (b < a) ⊎ (a ≤ b) → max c d ≡ 1
   by (inl first) = let e : c ≡ 1 = f (omega (arith, first, h)) in omega (arith, e, less)
   by (inr second) = let e : d ≡ 1 = g (omega (arith, second, h)) in omega (arith, e, small)
 
--- Of a run's rules one more is marked by its ports.
-pub ports_more : (rules : List Fast) (first number words : ℕ) (destination source to from to_new from_new : List ℕ) (fast : Fast) (limit : Limit)
-    → number < length rules → fast ≡ get_or rules number fast → Grown to to_new → Grown from from_new
-    → ArePortsMarked rules first number destination source to from words
-    → ((facts : Facts) → facts_hold facts fast ≡ true → allows_port limit facts ≡ true)
-    → ((n class : ℕ) → allows limit n ≡ true → IsClass destination n class → bit_in to_new words class (number - first) ≡ 1)
-    → ((n class : ℕ) → allows limit n ≡ true → IsClass source n class → bit_in from_new words class (number - first) ≡ 1)
-    → ArePortsMarked rules first (number + 1) destination source to_new from_new words
-ports_more rules first number words destination source to from to_new from_new fast limit inside same grown more before within marked again facts k
-    class other low high hit classed others =
-    by (cases_lt k number) where
-      by : (k < number) ⊎ (number ≤ k) → max (bit_in to_new words class (k - first)) (bit_in from_new words other (k - first)) ≡ 1
-      by (inl earlier) =
-          either_on _ _ (bit_in to_new words class (k - first)) (bit_in from_new words other (k - first)) (bit_at-lt _ _) (bit_at-lt _ _)
-          (grown.kept (class * words + (k - first) / 64) ((k - first) % 64)) (more.kept (other * words + (k - first) / 64) ((k - first) % 64))
-          (before facts k class other low earlier hit classed others)
-      by (inr later) =
-          let here : number ≡ k = omega (arith, later, high) in
-          let holds : facts_hold facts fast ≡ true = subst (λ (f : Fast). facts_hold facts f ≡ true) (sym same)
-          (sym (get_or-map (facts_hold facts) rules number fast false inside) ∙ subst (λ (n : ℕ). get_or (hits facts rules) n false ≡ true) (sym here) hit) in
-          subst (λ (n : ℕ). max (bit_in to_new words class (n - first)) (bit_in from_new words other (n - first)) ≡ 1) here
-          (set (allows limit (number_of facts SourcePort)) (allows limit (number_of facts DestinationPort)) refl refl (within facts holds)) where
-            set : (a b : Bool) → allows limit (number_of facts SourcePort) ≡ a → allows limit (number_of facts DestinationPort) ≡ b → (a || b) ≡ true
-                → max (bit_in to_new words class (number - first)) (bit_in from_new words other (number - first)) ≡ 1
-            set true b e f t = let s : bit_in from_new words other (number - first) ≡ 1 = again (number_of facts SourcePort) other e others in
-                let l : bit_in to_new words class (number - first) < 2 = bit_at-lt _ _ in omega (arith, s, l)
-            set false true e f t = let s : bit_in to_new words class (number - first) ≡ 1 = marked (number_of facts DestinationPort) class f classed in
-                let l : bit_in from_new words other (number - first) < 2 = bit_at-lt _ _ in omega (arith, s, l)
-            set false false e f t = absurd (true≢false (sym t))
+-- one of two is set where either stands for it
+pub either_here : (x y : Bool) (a b : ℕ) → a < 2 → b < 2 → (x ≡ true → b ≡ 1) → (y ≡ true → a ≡ 1) → (x || y) ≡ true → max a b ≡ 1
+either_here true y a b small less f g h = let e : b ≡ 1 = f refl in omega (arith, e, small)
+either_here false true a b small less f g h = let e : a ≡ 1 = g refl in omega (arith, e, less)
+either_here false false a b small less f g h = absurd (true≢false (sym h))

@@ -1,10 +1,9 @@
 -- The rules that a packet may match, by the bits of words.
-use Rattle.fs_compile.proofs.Words.{◌≡◌, ℕ, ◌+◌, ◌-◌, ◌*◌, ◌/◌, ◌%◌, ◌^◌, ◌<◌, ◌≤◌, ◌⊎◌, inl, inr, max, min, sym, subst, ap, ◌∙◌, Bool, true, false}
+use Rattle.fs_compile.proofs.Words.{◌≡◌, ℕ, ◌+◌, ◌-◌, ◌/◌, ◌%◌, ◌^◌, ◌<◌, ◌≤◌, ◌⊎◌, inl, inr, min, sym, subst, ap, ◌∙◌, Bool, true, false}
 use Rattle.fs_compile.proofs.Words.{bit_and, map, List, get_or, length, w64, arith, bit_at, trailing_zeros, cases_lt, get_or-map}
-use Rattle.fs_compile.proofs.Words.{bit_at-trailing_zeros, bit_at-zero, bit_at_and, bit_at_or, false_from, Rows, PortRows, Fast, ArePortRows, IsClass}
-use Rattle.fs_compile.proofs.Words.{IsRow, bit_in, words_for, Facts, AreRows, first_at, front_of, word_of, Missed, hits}
+use Rattle.fs_compile.proofs.Words.{bit_at-trailing_zeros, bit_at-zero, bit_at_and, bit_at_or, false_from, Rows}
+use Rattle.fs_compile.proofs.Words.{AreRows, first_at, front_of, word_of, Missed}
 use Rattle.std.proofs.{Math.Nat.{div-div-eq-div-mul, div-le_self}, lemmas.Nat.{pow-add}}
-use Rattle.fs_ranges.specs.{declared.Field.TheVariants.{DestinationPort, SourcePort}, Facts.{number_of}}
 
 -- the bits of a number without its lowest ones
 shifted : (n a i : ℕ) → bit_at (n / 2 ^ a) i ≡ bit_at n (a + i)
@@ -48,7 +47,7 @@ set_in_all tests rows to place k are from within before hit =
     (are.source_port.marked k low before hit))
     (are.protocol.marked k low before hit))
     (are.length.marked k low before hit))
-    (bit_at_or _ _ ((k - rows.first) % 64) ∙ are.ports k low before hit))) where
+    (bit_at_or _ _ ((k - rows.first) % 64) ∙ are.ports.marked k low before hit))) where
       low : rows.first ≤ k
       low = omega (arith, from)
 
@@ -94,40 +93,6 @@ pub missed_all : (tests : List Bool) (rest from end number : ℕ) → rest ≡ 0
     → Missed tests from end
 missed_all tests rest from end number none left missed k above below =
     missed_on tests rest from end number end left (λ j _. ap (λ (n : ℕ). bit_at n j) none ∙ bit_at-zero j) missed k above (omega (arith, below))
-
-fewer : (tests : List Bool) (first end to : ℕ) (row : List ℕ) → to ≤ end → IsRow tests first end row → IsRow tests first to row
-fewer tests first end to row least is = record {
-  room = let a : end ≤ first + length row * 64 = is.room in omega (arith, a, least);
-  marked = λ number from before hit. is.marked number from (omega (arith, before, least)) hit;
-}
-
--- rows of a run are rows of its front
-pub fewer_rows : (tests : List Bool) (end to : ℕ) (rows : Rows) → to ≤ end → AreRows tests end rows → AreRows tests to rows
-fewer_rows tests end to rows least are = record {
-  source = fewer tests rows.first end to rows.source.now least are.source;
-  protocol = fewer tests rows.first end to rows.protocol.now least are.protocol;
-  destination_port = fewer tests rows.first end to rows.destination_port.now least are.destination_port;
-  source_port = fewer tests rows.first end to rows.source_port.now least are.source_port;
-  length = fewer tests rows.first end to rows.length.now least are.length;
-  to_port = let a = are.to_port in omega (arith, a, least);
-  from_port = let a = are.from_port in omega (arith, a, least);
-  ports = λ number from before hit. are.ports number from (omega (arith, before, least)) hit;
-}
-
--- where a rule matches, its bit is set in the row of one port or the other
-pub port_set : (rules : List Fast) (facts : Facts) (first end words class other : ℕ) (destination source to from : List ℕ) (rows : PortRows)
-    → words ≡ words_for (end - first) → ArePortRows rules first end destination source rows
-    → IsClass destination (number_of facts DestinationPort) class → IsClass source (number_of facts SourcePort) other
-    → ((k : ℕ) → k < words → get_or to k 0 ≡ get_or rows.to.items (class * words + k) 0)
-    → ((k : ℕ) → k < words → get_or from k 0 ≡ get_or rows.from.items (other * words + k) 0)
-    → (number : ℕ) → first ≤ number → number < end → get_or (hits facts rules) number false ≡ true
-    → max (bit_at (get_or to ((number - first) / 64) 0) ((number - first) % 64)) (bit_at (get_or from ((number - first) / 64) 0) ((number - first) % 64)) ≡ 1
-port_set rules facts first end words class other destination source to from rows size are classed others tos froms number low below hit =
-    (λ i. max (bit_at (tos ((number - first) / 64) inside i) ((number - first) % 64)) (bit_at (froms ((number - first) / 64) inside i) ((number - first) % 64)))
-    ∙ subst (λ (w : ℕ). max (bit_in rows.to.items w class (number - first)) (bit_in rows.from.items w other (number - first)) ≡ 1) (sym size)
-    (are.marked facts number class other low below hit classed others) where
-      inside : (number - first) / 64 < words
-      inside = omega (arith, size, low, below)
 
 -- a test that is passed is a rule that matches
 pub test_passes : {X : Type 0} (test : X → Bool) (xs : List X) (i : ℕ) (d : X) (r : Bool) → i < length xs → r ≡ test (get_or xs i d) → r ≡ true

@@ -16,6 +16,10 @@ words_for count = (count + 63) / 64
 abbrev pub bit_in : (rows : List ℕ) → (words class rule : ℕ) → ℕ
 bit_in rows words class rule = bit_at (get_or rows (class * words + rule / 64) 0) (rule % 64)
 
+-- the bit of a rule in a row
+abbrev pub bit_of : (row : List ℕ) → (rule : ℕ) → ℕ
+bit_of row rule = bit_at (get_or row (rule / 64) 0) (rule % 64)
+
 -- as many words, and no bit was cleared
 pub record Grown (old new : List ℕ) : Type 0 where
   pub size : length new ≡ length old
@@ -25,6 +29,11 @@ pub record Grown (old new : List ℕ) : Type 0 where
 pub record AreRowsOf (bounds rows : List ℕ) (words : ℕ) : Type 0 where
   pub rising : AreRising bounds
   pub size : length rows ≡ (length bounds + 1) * words
+
+-- the rule's bit is set in the rows of all classes that have such a number
+abbrev pub IsMarked : (bounds rows : List ℕ) → (words rule : ℕ) → (allowed : ℕ → Bool) → Type 0
+IsMarked bounds rows words rule allowed =
+    (number class : ℕ) → allowed number ≡ true → IsClass bounds number class → bit_in rows words class rule ≡ 1
 
 -- where a packet matches a rule of the run, the rule's bit is set in the row of the packet's class
 abbrev pub AreMarked : (rules : List Fast) → (first end : ℕ) → Field → (bounds rows : List ℕ) → (words : ℕ) → Type 0
@@ -59,5 +68,10 @@ pub record ArePortRows (rules : List Fast) (first end : ℕ) (destination source
 -- a row: where a rule of the run is matched its bit is set
 pub record IsRow (tests : List Bool) (first end : ℕ) (row : List ℕ) : Type 0 where
   pub room : end ≤ first + length row * 64
+  pub marked : (number : ℕ) → first ≤ number → number < end → get_or tests number false ≡ true → bit_of row (number - first) ≡ 1
+
+-- two rows: where a rule of the run is matched its bit is set in one of them
+pub record IsEither (tests : List Bool) (first end : ℕ) (row other : List ℕ) : Type 0 where
+  pub room : (end ≤ first + length row * 64) × (end ≤ first + length other * 64)
   pub marked : (number : ℕ) → first ≤ number → number < end → get_or tests number false ≡ true
-      → bit_at (get_or row ((number - first) / 64) 0) ((number - first) % 64) ≡ 1
+      → max (bit_of row (number - first)) (bit_of other (number - first)) ≡ 1

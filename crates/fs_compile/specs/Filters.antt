@@ -1,8 +1,8 @@
 -- Which rules of a long run a packet may match.
-use Rattle.std.specs.Prelude.{◌≡◌, ℕ, ◌+◌, ◌-◌, ◌*◌, ◌/◌, ◌%◌, ◌<◌, ◌≤◌, max, Bool, true, false, List, get_or, length}
-use Rattle.std.specs.{Int.{bit_at, RustNames.{bit_and, bit_or}}, List.{All}}
+use Rattle.std.specs.Prelude.{◌≡◌, ℕ, ◌+◌, ◌*◌, ◌<◌, ◌≤◌, Bool, List, get_or, length}
+use Rattle.std.specs.{Int.{RustNames.{bit_and, bit_or}}, List.{All}}
 use Rattle.fs_ranges.specs.declared.{Fast.{Fast}, Field.TheVariants.{DestinationPort, Length, Protocol, SourcePort}}
-use Rattle.fs_compile.specs.{declared.filters.{Filter.{Filter}, Filters.{Filters}, Rows.{Rows}}, Columns.{ArePortRows, IsColumn, IsRow}}
+use Rattle.fs_compile.specs.{declared.filters.{Filter.{Filter}, Filters.{Filters}, Rows.{Rows}}, Columns.{ArePortRows, IsColumn, IsEither, IsRow}}
 
 -- it is of a run of these rules
 pub record IsFilter (rules : List Fast) (filter : Filter) : Type 0 where
@@ -27,11 +27,7 @@ pub record AreRows (tests : List Bool) (end : ℕ) (rows : Rows) : Type 0 where
   pub protocol : IsRow tests rows.first end rows.protocol.now
   pub destination_port : IsRow tests rows.first end rows.destination_port.now
   pub source_port : IsRow tests rows.first end rows.source_port.now
-  pub to_port : end ≤ rows.first + length rows.to_port.now * 64
-  pub from_port : end ≤ rows.first + length rows.from_port.now * 64
-  pub ports : (number : ℕ) → rows.first ≤ number → number < end → get_or tests number false ≡ true
-      → max (bit_at (get_or rows.to_port.now ((number - rows.first) / 64) 0) ((number - rows.first) % 64))
-      (bit_at (get_or rows.from_port.now ((number - rows.first) / 64) 0) ((number - rows.first) % 64)) ≡ 1
+  pub ports : IsEither tests rows.first end rows.to_port.now rows.from_port.now
   pub length : IsRow tests rows.first end rows.length.now
 
 -- the number of the first of the 64 rules of a place

@@ -1,5 +1,5 @@
 -- What is searched, and where.
-use Rattle.std.specs.Prelude.{ℕ, ◌<◌, ◌≤◌, ◌^◌, Bool, List, get_or, length}
+use Rattle.std.specs.Prelude.{ℕ, ◌<◌, ◌≤◌, ◌^◌, Bool, IfSome, List, get_or, length}
 use Rattle.fs_buckets.specs.{Addresses.{numbers_in}, Housed.{AreSound}}
 use Rattle.fs_compile.specs.{declared.«search».{Cursor.{Cursor}, Search.{Search}}, Filters.{AreFilters}, Search.{IsNear}}
 
@@ -11,7 +11,7 @@ count_of s = length s.tested.rules.now
 pub record IsWhole (s : Search) : Type 0 where
   pub sound : AreSound s.buckets.now (count_of s)
   pub few : count_of s < 2 ^ 32
-  pub filters : AreFilters s.tested.rules.now s.filters.now
+  pub filters : IfSome s.filters (λ filters. AreFilters s.tested.rules.now filters.now)
 
 -- the place is at a bucket that doesn't end below the address
 pub record IsAt (s : Search) (place : Cursor) : Type 0 where

@@ -1,10 +1,11 @@
 //! The numbers of a field in classes, and which rules of a run a packet may match whose number is of a class.
 
-ghost use Rattle.std.specs.{Prelude.{◌≡◌, ℕ, ◌+◌, ◌-◌, ◌*◌, ◌/◌, ◌^◌, ◌<◌, ◌≤◌, true, IfOk, List, get_or, length}, Int.{bit_at}};
+ghost use Rattle.std.specs.{Prelude.{◌≡◌, ℕ, ◌+◌, ◌-◌, ◌*◌, ◌/◌, ◌^◌, ◌<◌, ◌≤◌, IfOk, List, get_or, length}, Int.{bit_at}};
 ghost use Rattle.fs_buckets.specs.Buckets.{AreRising};
-ghost use Rattle.fs_compile.specs.Columns.{AreMarked, ArePortRows, ArePortsMarked, AreRowsOf, Grown, IsClass, IsColumn, IsRow, bit_in, words_for};
+ghost use Rattle.fs_compile.specs.Columns.{ArePortRows, AreRowsOf, Grown, IsClass, IsColumn, IsEither, IsMarked, IsRow, bit_in, bit_of, words_for};
 ghost use Rattle.fs_compile.specs.Search.{hits};
-ghost use Rattle.fs_ranges.specs.{Limits.{allows}, Facts.{Facts, key_of}, Spans.{contains, is_in}};
+ghost use Rattle.fs_ranges.specs.{Limits.{allows}, Facts.{Facts, key_of, number_of}, Spans.{is_in}};
+ghost use Rattle.fs_ranges.specs.declared.Field.TheVariants.{DestinationPort, SourcePort};
 
 use fs_base::Memory;
 use fs_ranges::{Fast, Field, Limit};
@@ -45,9 +46,16 @@ impl Column {
         ensures field { IfOk result (λ column. column.field ≡ field) }
     {
         let bounds = bounds_of(alloc, run, field)?;
-        let words = words_of(run.end - run.first);
-        let mut rows = empty_rows(alloc, bounds.len() + 1, words)?;
-        mark_rules(&mut rows, words, &bounds, run, field);
+        let shape = Shape {
+            bounds: &bounds,
+            words: words_of(run.end - run.first),
+        };
+        let mut rows = shape.empty(alloc)?;
+        let marks = rows.as_mut_slice();
+        for number in run.first..run.end {
+            let limit = run.rules[number].limit(field);
+            shape.mark(marks, number - run.first, limit);
+        }
         Ok(Column {
             field,
             bounds,
@@ -75,7 +83,7 @@ impl Column {
             → IsColumn rules first end self.now
             → IsRow (hits facts rules) first end result.now }
     {
-        row_of(&self.rows, words, self.bounds.len(), class)
+        row_of(&self.rows, words, class)
     }
 }
 
@@ -103,35 +111,98 @@ impl PortRows {
         ensures { IfOk result (ArePortRows run.entry.rules.now run.entry.first run.entry.end destination.now source.now) }
     {
         let words = words_of(run.end - run.first);
-        let mut to = empty_rows(alloc, destination.len() + 1, words)?;
-        let mut from = empty_rows(alloc, source.len() + 1, words)?;
-        mark_ports(&mut to, &mut from, words, destination, source, run);
+        let into = Shape {
+            bounds: destination,
+            words,
+        };
+        let out_of = Shape {
+            bounds: source,
+            words,
+        };
+        let mut to = into.empty(alloc)?;
+        let mut from = out_of.empty(alloc)?;
+        let (to_marks, from_marks) = (to.as_mut_slice(), from.as_mut_slice());
+        for number in run.first..run.end {
+            let limit = run.rules[number].ports_limit();
+            into.mark(to_marks, number - run.first, limit);
+            out_of.mark(from_marks, number - run.first, limit);
+        }
         Ok(PortRows { to, from })
+    }
+
+    /// The rows of the classes of a packet's ports, where rows have so many words.
+    #[inline(always)]
+    pub(crate) fn rows(&self, to: usize, from: usize, words: usize) -> (&[u64], &[u64])
+        requires to { (to + 1) * words ≤ length self.now.to.items }
+        requires from { (from + 1) * words ≤ length self.now.from.items }
+        ensures { (facts : Facts) (rules : List Fast) (first end : ℕ) (destination source : List ℕ)
+            → words ≡ words_for (end - first)
+            → IsClass destination (number_of facts DestinationPort) to
+            → IsClass source (number_of facts SourcePort) from
+            → ArePortRows rules first end destination source self.now
+            → IsEither (hits facts rules) first end result.0.now result.1.now }
+    {
+        let to_row = row_of(&self.to, words, to);
+        (to_row, row_of(&self.from, words, from))
     }
 }
 
-/// Sets the bits of all rules of the run, in the rows of both ports.
-fn mark_ports(
-    to: &mut [u64],
-    from: &mut [u64],
+/// The shape of rows that stand one behind the other: one of so many words for each class.
+#[derive(Clone, Copy, Drop)]
+struct Shape<'a> {
+    /// The last number of each class but the last.
+    bounds: &'a [u64],
     words: usize,
-    destination: &[u64],
-    source: &[u64],
-    run: Run<'_>,
-)
-    requires within { run.end ≤ length run.rules.now }
-    requires to { AreRowsOf destination.now to.old words }
-    requires from { AreRowsOf source.now from.old words }
-    requires words { words ≡ words_for (run.end - run.first) }
-    ensures to { length to.new ≡ length to.old }
-    ensures from { length from.new ≡ length from.old }
-    ensures marked { ArePortsMarked run.entry.rules.now run.entry.first run.entry.end destination.now source.now to.new from.new words }
-{
-    let rules = run.rules;
-    for number in run.first..run.end {
-        let limit = rules[number].ports_limit();
-        mark_limit(to, words, destination, number - run.first, limit);
-        mark_limit(from, words, source, number - run.first, limit);
+}
+
+impl Shape<'_> {
+    /// Rows without a bit set.
+    fn empty(self, alloc: Global) -> Result<Vec<u64>, Memory>
+        requires { (length self.bounds.now ≤ 63) × (self.words < 2 ^ 32) }
+        ensures { IfOk result (λ rows. length rows.items ≡ (length self.entry.bounds.now + 1) * self.entry.words) }
+    {
+        Ok(vec![in alloc; 0u64; (self.bounds.len() + 1) * self.words]?)
+    }
+
+    /// Sets the bit of a rule in the rows of all classes that have a number of the limit's.
+    fn mark(self, rows: &mut [u64], rule: usize, limit: Limit<'_>)
+        requires shaped { AreRowsOf self.bounds.now rows.old self.words }
+        requires rule { rule / 64 < self.words }
+        ensures grown { Grown rows.old rows.new }
+        ensures marked { IsMarked self.entry.bounds.now rows.new self.entry.words rule (allows limit.entry) }
+    {
+        match limit {
+            Limit::Any => self.mark_classes(rows, 0, self.bounds.len(), rule),
+            Limit::Range(low, high) => self.mark_range(rows, rule, (low, high)),
+            Limit::Ranges(ranges) => {
+                for &range in ranges {
+                    self.mark_range(rows, rule, range);
+                }
+            }
+        }
+    }
+
+    fn mark_range(self, rows: &mut [u64], rule: usize, range: (u64, u64))
+        requires shaped { AreRowsOf self.bounds.now rows.old self.words }
+        requires rule { rule / 64 < self.words }
+        ensures grown { Grown rows.old rows.new }
+        ensures marked { IsMarked self.entry.bounds.now rows.new self.entry.words rule (λ number. is_in number range) }
+    {
+        let low = class_of(self.bounds, range.0);
+        let high = class_of(self.bounds, range.1);
+        self.mark_classes(rows, low, high, rule);
+    }
+
+    /// Sets the bit of a rule in the rows from one class up to another, this too.
+    fn mark_classes(self, rows: &mut [u64], low: usize, high: usize, rule: usize)
+        requires room { (high + 1) * self.words ≤ length rows.old }
+        requires rule { rule / 64 < self.words }
+        ensures grown { Grown rows.old rows.new }
+        ensures marked { (class : ℕ) → low ≤ class → class ≤ high → bit_in rows.new self.entry.words class rule ≡ 1 }
+    {
+        for class in low..high + 1 {
+            set_bit(rows, class * self.words + rule / 64, rule % 64);
+        }
     }
 }
 
@@ -159,94 +230,13 @@ fn class_of(bounds: &[u64], number: u64) -> usize
     class
 }
 
-/// The row of a class, of which none is above `last`.
-pub(crate) fn row_of(rows: &[u64], words: usize, last: usize, class: usize) -> &[u64]
-    requires size { length rows.now ≡ (last + 1) * words }
-    requires within { class ≤ last }
+/// The row of a class.
+fn row_of(rows: &[u64], words: usize, class: usize) -> &[u64]
+    requires { (class + 1) * words ≤ length rows.now }
     ensures size { length result.now ≡ words }
-    ensures row { (k : ℕ) → k < words → get_or result.now k 0 ≡ get_or rows.now (class * words + k) 0 }
+    ensures row { (rule : ℕ) → rule / 64 < words → bit_of result.now rule ≡ bit_in rows.now words class rule }
 {
     &rows[class * words..][..words]
-}
-
-/// Rows without a bit set.
-fn empty_rows(alloc: Global, classes: usize, words: usize) -> Result<Vec<u64>, Memory>
-    requires { (classes ≤ 64) × (words < 2 ^ 32) }
-    ensures { IfOk result (λ rows. length rows.items ≡ classes * words) }
-{
-    Ok(vec![in alloc; 0u64; classes * words]?)
-}
-
-/// Sets the bits of all rules of the run.
-fn mark_rules(rows: &mut [u64], words: usize, bounds: &[u64], run: Run<'_>, field: Field)
-    requires within { run.end ≤ length run.rules.now }
-    requires shaped { AreRowsOf bounds.now rows.old words }
-    requires words { words ≡ words_for (run.end - run.first) }
-    ensures size { length rows.new ≡ length rows.old }
-    ensures marked { AreMarked run.entry.rules.now run.entry.first run.entry.end field bounds.now rows.new words }
-{
-    let rules = run.rules;
-    for number in run.first..run.end {
-        let limit = rules[number].limit(field);
-        mark_limit(rows, words, bounds, number - run.first, limit);
-    }
-}
-
-/// Sets the bit of a rule in the rows of all classes that have a number of the limit's.
-fn mark_limit(rows: &mut [u64], words: usize, bounds: &[u64], rule: usize, limit: Limit<'_>)
-    requires shaped { AreRowsOf bounds.now rows.old words }
-    requires rule { rule / 64 < words }
-    ensures grown { Grown rows.old rows.new }
-    ensures marked { (number class : ℕ)
-        → allows limit.entry number ≡ true
-        → IsClass bounds.now number class
-        → bit_in rows.new words class rule ≡ 1 }
-{
-    match limit {
-        Limit::Any => mark_classes(rows, words, 0, bounds.len(), rule),
-        Limit::Range(low, high) => mark_range(rows, words, bounds, rule, (low, high)),
-        Limit::Ranges(ranges) => mark_ranges(rows, words, bounds, rule, ranges),
-    }
-}
-
-fn mark_ranges(rows: &mut [u64], words: usize, bounds: &[u64], rule: usize, ranges: &[(u64, u64)])
-    requires shaped { AreRowsOf bounds.now rows.old words }
-    requires rule { rule / 64 < words }
-    ensures grown { Grown rows.old rows.new }
-    ensures marked { (number class : ℕ)
-        → contains ranges.now number ≡ true
-        → IsClass bounds.now number class
-        → bit_in rows.new words class rule ≡ 1 }
-{
-    for &range in ranges {
-        mark_range(rows, words, bounds, rule, range);
-    }
-}
-
-fn mark_range(rows: &mut [u64], words: usize, bounds: &[u64], rule: usize, range: (u64, u64))
-    requires shaped { AreRowsOf bounds.now rows.old words }
-    requires rule { rule / 64 < words }
-    ensures grown { Grown rows.old rows.new }
-    ensures marked { (number class : ℕ)
-        → is_in number range ≡ true
-        → IsClass bounds.now number class
-        → bit_in rows.new words class rule ≡ 1 }
-{
-    let low = class_of(bounds, range.0);
-    let high = class_of(bounds, range.1);
-    mark_classes(rows, words, low, high, rule);
-}
-
-/// Sets the bit of a rule in the rows from one class up to another, this too.
-fn mark_classes(rows: &mut [u64], words: usize, low: usize, high: usize, rule: usize)
-    requires room { (high + 1) * words ≤ length rows.old }
-    requires rule { rule / 64 < words }
-    ensures grown { Grown rows.old rows.new }
-    ensures marked { (class : ℕ) → low ≤ class → class ≤ high → bit_in rows.new words class rule ≡ 1 }
-{
-    for class in low..high + 1 {
-        set_bit(rows, class * words + rule / 64, rule % 64);
-    }
 }
 
 fn set_bit(rows: &mut [u64], word: usize, bit: usize)

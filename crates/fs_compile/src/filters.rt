@@ -3,7 +3,7 @@
 ghost use Rattle.std.specs.{Prelude.{◌≡◌, ℕ, ◌+◌, ◌-◌, ◌*◌, ◌^◌, ◌<◌, ◌≤◌, false, true, IfOk, IfSome, List, get_or, length, min}, Int.{bit_at}};
 ghost use Rattle.fs_compile.specs.{Filters.{AreFilters, AreRows, IsFilter, IsInside, first_at, front_of, word_of}, Search.{Scanned, tests_of}};
 
-use crate::columns::{Column, PortRows, Run, row_of, words_of};
+use crate::columns::{Column, PortRows, Run, words_of};
 use crate::tested::Tested;
 use fs_base::{Memory, Steps};
 use fs_ranges::{Fast, Field};
@@ -71,7 +71,7 @@ impl Filters {
         ensures { Scanned (tests_of tested.entry) from to to steps.old steps.new result }
     {
         match self.of(from, to) {
-            Some(filter) => filter.scan(&tested, from, to, steps),
+            Some(filter) => filter.rows(&tested).scan(&tested, from, to, steps),
             None => tested.scan(from, to, steps),
         }
     }
@@ -250,19 +250,13 @@ impl Filter {
         }
     }
 
-    /// The first rule that matches of those from `from` on before `to`. As many steps at most as rules up to that one.
-    pub(crate) fn scan<L: Ledger>(
-        &self,
-        tested: &Tested<'_>,
-        from: usize,
-        to: usize,
-        steps: &mut Steps<L>,
-    ) -> Option<usize>
+    /// The rows of the packet's classes.
+    #[inline(always)]
+    fn rows(&self, tested: &Tested<'_>) -> Rows<'_>
         requires filter { IsFilter tested.now.rules.now self.now }
         requires few { length tested.now.rules.now < 2 ^ 32 }
-        requires from { self.now.first ≤ from }
-        requires to { to ≤ self.now.end }
-        ensures { Scanned (tests_of tested.now) from to to steps.old steps.new result }
+        ensures rows { AreRows (tests_of tested.now) self.now.end result }
+        ensures first { result.first ≡ self.now.first }
     {
         let facts = tested.facts;
         let words = words_of(self.end - self.first);
@@ -273,20 +267,16 @@ impl Filter {
             .class(facts.number(Field::DestinationPort));
         let out_of = self.source_port.class(facts.number(Field::SourcePort));
         let length = self.length.class(facts.number(Field::Length));
-        let (to_last, from_last) = (
-            self.destination_port.bounds.len(),
-            self.source_port.bounds.len(),
-        );
-        let rows = Rows {
+        let (to_port, from_port) = self.ports.rows(into, out_of, words);
+        Rows {
             first: self.first,
             source: self.source.row(source, words),
             protocol: self.protocol.row(protocol, words),
             destination_port: self.destination_port.row(into, words),
             source_port: self.source_port.row(out_of, words),
             length: self.length.row(length, words),
-            to_port: row_of(&self.ports.to, words, to_last, into),
-            from_port: row_of(&self.ports.from, words, from_last, out_of),
-        };
-        rows.scan(tested, from, to, steps)
+            to_port,
+            from_port,
+        }
     }
 }

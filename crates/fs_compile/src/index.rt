@@ -224,19 +224,18 @@ impl Index {
     {
         let search = Search {
             buckets: &self.buckets,
-            filters: &self.filters,
             tested: Tested {
                 rules: &self.rules,
                 facts,
             },
-            long: false,
+            filters: None,
         };
         // two copies, so that where no run is long no bucket pays for the others
         if self.filters.runs.is_empty() {
             search.climb(start, steps)
         } else {
             Search {
-                long: true,
+                filters: Some(&self.filters),
                 ..search
             }
             .climb(start, steps)

@@ -31,10 +31,9 @@ pub(crate) struct Hit {
 #[derive(Clone, Copy, Drop)]
 pub(crate) struct Search<'a> {
     pub(crate) buckets: &'a Buckets,
-    pub(crate) filters: &'a Filters,
     pub(crate) tested: Tested<'a>,
-    /// Whether runs are asked for their length, and long ones for their filters. Without filters that would be in vain.
-    pub(crate) long: bool,
+    /// Those of the long runs. Where there are none, no run is asked for its length.
+    pub(crate) filters: Option<&'a Filters>,
 }
 
 impl<'a> Search<'a> {
@@ -110,10 +109,11 @@ impl<'a> Search<'a> {
         requires within { to ≤ count_of self.now }
         ensures { Scanned (tests_of self.now.tested) from to to steps.old steps.new result }
     {
-        if self.long && to.wrapping_sub(from) > FEW_RULES {
-            self.filters.scan(self.tested, from, to, steps)
-        } else {
-            self.tested.scan(from, to, steps)
+        match self.filters {
+            Some(filters) if to.wrapping_sub(from) > FEW_RULES => {
+                filters.scan(self.tested, from, to, steps)
+            }
+            _ => self.tested.scan(from, to, steps),
         }
     }
 }

@@ -5,9 +5,7 @@ use Rattle.fs_compile.proofs.index.Index.stretch.Goals as goal
 
 pub returns-in-Some-clause-stretch : goal.returns-in-Some-clause-stretch
 returns-in-Some-clause-stretch c = λ family rules h.
-    let inner : IsIndexOf family rules
-    (record { buckets = c.self.inside.buckets; rules = c.self.inside.rules.items; actions = c.self.inside.actions.items }) =
-    subst (IsIndexOf family rules) (sym c.self.view_is) h in
+    let inner = subst (IsIndexOf family rules) (sym c.self.view_is) h in
     let size : length c.self.inside.rules.items ≡ length rules = stand_size rules c.self.inside.rules.items inner.stands in
     let few = c.self.invariant.0.few in
     subst (λ (o : Option (ℕ × ℕ)). IsStretch (spans_of rules) o c.stretch.result.0 c.stretch.result.1)
@@ -18,9 +16,7 @@ returns-in-Some-clause-stretch c = λ family rules h.
 
 pub returns-in-None-clause-stretch : goal.returns-in-None-clause-stretch
 returns-in-None-clause-stretch c = λ family rules h.
-    let inner : IsIndexOf family rules
-    (record { buckets = c.self.inside.buckets; rules = c.self.inside.rules.items; actions = c.self.inside.actions.items }) =
-    subst (IsIndexOf family rules) (sym c.self.view_is) h in
+    let inner = subst (IsIndexOf family rules) (sym c.self.view_is) h in
     let size : length c.self.inside.rules.items ≡ length rules = stand_size rules c.self.inside.rules.items inner.stands in
     let few = c.self.invariant.0.few in
     let count : c.len-in-None.result ≡ length c.self.inside.rules.items = c.len-in-None.ensures ∙ c.self.inside.rules.ok.0 in
