@@ -1,12 +1,13 @@
 //! Which rules of a long run a packet may match.
 
 ghost use Rattle.std.specs.{Prelude.{◌≡◌, ℕ, ◌+◌, ◌-◌, ◌*◌, ◌^◌, ◌<◌, ◌≤◌, false, true, IfOk, IfSome, List, get_or, length, min}, Int.{bit_at}};
+ghost use Rattle.fs_ranges.specs.declared.Fast.{Fast};
 ghost use Rattle.fs_compile.specs.{Filters.{AreFilters, AreRows, IsFilter, IsInside, first_at, front_of, word_of}, Search.{Scanned, tests_of}};
 
 use crate::columns::{Column, PortRows, Run, words_of};
 use crate::tested::Tested;
 use fs_base::{Memory, Steps};
-use fs_ranges::{Fast, Field};
+use fs_ranges::Field;
 use std::alloc::Global;
 use std::sync::ledger::Ledger;
 
@@ -33,15 +34,6 @@ pub(crate) struct Filters {
 }
 
 impl Filters {
-    /// No filters.
-    pub(crate) fn none(alloc: Global) -> Filters
-        ensures { (rules : List Fast) → AreFilters rules result }
-    {
-        Filters {
-            runs: Vec::new(alloc),
-        }
-    }
-
     /// The filter of the run in which the rules from `from` on before `to` are, if there is one.
     pub(crate) fn of(&self, from: usize, to: usize) -> Option<&Filter>
         ensures { (rules : List Fast)
@@ -203,26 +195,20 @@ impl<'a> Rows<'a> {
 }
 
 impl Filter {
-    /// Of the rules from the number `first` on before `end`.
-    pub(crate) fn of(
-        alloc: Global,
-        rules: &[Fast],
-        first: usize,
-        end: usize,
-    ) -> Result<Filter, Memory>
-        requires some { first < end }
-        requires within { end ≤ length rules.now }
-        requires few { length rules.now < 2 ^ 32 }
-        ensures { IfOk result (IsFilter rules.now) }
+    /// Of the rules of the run.
+    pub(crate) fn of(alloc: Global, run: Run<'_>) -> Result<Filter, Memory>
+        requires some { run.first < run.end }
+        requires within { run.end ≤ length run.rules.now }
+        requires few { length run.rules.now < 2 ^ 32 }
+        ensures { IfOk result (IsFilter run.entry.rules.now) }
     {
-        let run = Run { rules, first, end };
-        let source = rules[first].source_field();
+        let source = run.rules[run.first].source_field();
         let destination_port = Column::of(alloc, run, Field::DestinationPort)?;
         let source_port = Column::of(alloc, run, Field::SourcePort)?;
         let ports = PortRows::of(alloc, run, &destination_port.bounds, &source_port.bounds)?;
         Ok(Filter {
-            first,
-            end,
+            first: run.first,
+            end: run.end,
             source: Column::of(alloc, run, source)?,
             protocol: Column::of(alloc, run, Field::Protocol)?,
             destination_port,
@@ -241,12 +227,7 @@ impl Filter {
         Filter {
             first,
             end: first + (self.end - self.first),
-            source: self.source,
-            protocol: self.protocol,
-            destination_port: self.destination_port,
-            source_port: self.source_port,
-            length: self.length,
-            ports: self.ports,
+            ..self
         }
     }
 

@@ -11,6 +11,7 @@ ghost use Rattle.fs_ranges.specs.{Facts.{AreFacts}, declared.Fast.{Fast}};
 ghost use Rattle.fs_compile.specs.{Filters.{AreFilters, IsFilter}, Index.{IsIndexOf, IsMended, StandForEach, actions_of}, Mending.{replaced}};
 ghost use Rattle.fs_compile.specs.{Matcher.{next_from}, Reach.{reaching_behind, reaching_from}, Search.{Starts, behind_hit, hit_number}};
 
+use crate::columns::Run;
 use crate::filters::{FEW_RULES, Filter, Filters};
 use crate::search::{Cursor, Hit, Search, place_behind, place_from};
 use crate::tested::Tested;
@@ -276,9 +277,10 @@ fn filters_of(alloc: Global, buckets: &Buckets, rules: &[Fast]) -> Result<Filter
     for bucket in 0..buckets.lasts.len() {
         let first = buckets.nodes.at(bucket).start as usize;
         let end = buckets.nodes.at(bucket + 1).start as usize;
-        put_filter(alloc, &mut runs, rules, first, end)?;
+        put_filter(alloc, &mut runs, Run { rules, first, end })?;
     }
-    put_filter(alloc, &mut runs, rules, buckets.homes.len(), rules.len())?;
+    let (first, end) = (buckets.homes.len(), rules.len());
+    put_filter(alloc, &mut runs, Run { rules, first, end })?;
     Ok(Filters { runs })
 }
 
@@ -310,27 +312,22 @@ fn mended_filters(
             runs.push(filter.moved(first))?;
         }
     }
-    put_filter(alloc, &mut runs, rules, from, from + size)?;
+    let (first, end) = (from, from + size);
+    put_filter(alloc, &mut runs, Run { rules, first, end })?;
     Ok(Filters { runs })
 }
 
 /// Adds the filter of a run of rules, if it's long, in the order of runs.
-fn put_filter(
-    alloc: Global,
-    filters: &mut Vec<Filter>,
-    rules: &[Fast],
-    first: usize,
-    end: usize,
-) -> Result<(), Memory>
-    requires ordered { first ≤ end }
-    requires within { end ≤ length rules.now }
-    requires few { length rules.now < 2 ^ 32 }
-    requires filters { All (IsFilter rules.now) filters.old.items }
-    ensures { OnOk result (All (IsFilter rules.now) filters.new.items) }
+fn put_filter(alloc: Global, filters: &mut Vec<Filter>, run: Run<'_>) -> Result<(), Memory>
+    requires ordered { run.first ≤ run.end }
+    requires within { run.end ≤ length run.rules.now }
+    requires few { length run.rules.now < 2 ^ 32 }
+    requires filters { All (IsFilter run.rules.now) filters.old.items }
+    ensures { OnOk result (All (IsFilter run.entry.rules.now) filters.new.items) }
 {
-    if end - first > FEW_RULES {
-        let place = filters.partition_point(|filter| filter.end <= first);
-        filters.insert(place, Filter::of(alloc, rules, first, end)?)?;
+    if run.end - run.first > FEW_RULES {
+        let place = filters.partition_point(|filter| filter.end <= run.first);
+        filters.insert(place, Filter::of(alloc, run)?)?;
     }
     Ok(())
 }

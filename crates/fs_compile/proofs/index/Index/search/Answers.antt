@@ -1,28 +1,24 @@
-use Rattle.fs_compile.proofs.{Words.{subst, sym, Indexed, IsIndexOf, hit_number}, Indexing.{search_is, steps_are}}
+use Rattle.fs_compile.proofs.{Words.{subst, sym, IsIndexOf, hit_number}, Indexing.{search_is, steps_are}}
 use Rattle.fs_compile.proofs.index.Index.search.Goals as goal
 
 pub returns-then-is_empty-clause-found : goal.returns-then-is_empty-clause-found
 returns-then-is_empty-clause-found g c = λ view rules are h.
-    let inside : Indexed = record { buckets = c.self.inside.buckets; rules = c.self.inside.rules.items; actions = c.self.inside.actions.items } in
-    search_is view c.args.facts.now rules inside c.deref.result.now c.args.start.address c.args.start.from c.climb.result
+    search_is view c.args.facts.now rules _ c.deref.result.now c.args.start.address c.args.start.from c.climb.result
     c.deref.ensures.value are c.requires.address (subst (IsIndexOf view.family rules) (sym c.self.view_is) h) c.climb.ensures.found
 
 pub returns-then-is_empty-clause-steps : goal.returns-then-is_empty-clause-steps
 returns-then-is_empty-clause-steps g c = λ view rules are h.
-    let inside : Indexed = record { buckets = c.self.inside.buckets; rules = c.self.inside.rules.items; actions = c.self.inside.actions.items } in
-    steps_are view c.args.facts.now rules inside c.deref.result.now c.args.start.address c.args.start.from
+    steps_are view c.args.facts.now rules _ c.deref.result.now c.args.start.address c.args.start.from
     c.args.steps.now c.climb.new.steps (hit_number c.climb.result)
     c.deref.ensures.value are c.requires.address (subst (IsIndexOf view.family rules) (sym c.self.view_is) h) c.climb.ensures.steps
 
 pub returns-else-is_empty-clause-found : goal.returns-else-is_empty-clause-found
 returns-else-is_empty-clause-found g c = λ view rules are h.
-    let inside : Indexed = record { buckets = c.self.inside.buckets; rules = c.self.inside.rules.items; actions = c.self.inside.actions.items } in
-    search_is view c.args.facts.now rules inside c.deref.result.now c.args.start.address c.args.start.from c.climb-else-is_empty.result
+    search_is view c.args.facts.now rules _ c.deref.result.now c.args.start.address c.args.start.from c.climb-else-is_empty.result
     c.deref.ensures.value are c.requires.address (subst (IsIndexOf view.family rules) (sym c.self.view_is) h) c.climb-else-is_empty.ensures.found
 
 pub returns-else-is_empty-clause-steps : goal.returns-else-is_empty-clause-steps
 returns-else-is_empty-clause-steps g c = λ view rules are h.
-    let inside : Indexed = record { buckets = c.self.inside.buckets; rules = c.self.inside.rules.items; actions = c.self.inside.actions.items } in
-    steps_are view c.args.facts.now rules inside c.deref.result.now c.args.start.address c.args.start.from
+    steps_are view c.args.facts.now rules _ c.deref.result.now c.args.start.address c.args.start.from
     c.args.steps.now c.climb-else-is_empty.new.steps (hit_number c.climb-else-is_empty.result)
     c.deref.ensures.value are c.requires.address (subst (IsIndexOf view.family rules) (sym c.self.view_is) h) c.climb-else-is_empty.ensures.steps
