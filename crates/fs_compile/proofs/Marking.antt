@@ -1,5 +1,5 @@
 -- Bits that are set where no other is cleared, for more and more of a run's rules.
-use Rattle.fs_compile.proofs.Words.{◌≡◌, ℕ, ◌+◌, ◌-◌, ◌*◌, ◌/◌, ◌%◌, ◌^◌, ◌<◌, ◌≤◌, ◌⊎◌, inl, inr, max, refl, sym, subst, ◌∙◌, Bool, true, false}
+use Rattle.fs_compile.proofs.Words.{◌≡◌, ℕ, ◌+◌, ◌*◌, ◌/◌, ◌%◌, ◌^◌, ◌<◌, ◌≤◌, ◌⊎◌, inl, inr, max, refl, sym, subst, ◌∙◌, Bool, true, false}
 use Rattle.fs_compile.proofs.Words.{true≢false, ◌||◌, bit_or, set, take, List, get_or, length, w64, arith, bit_at, cases_lt, cases_order, get_or-map}
 use Rattle.fs_compile.proofs.Words.{get_or-set_other, get_or-set_same, length-set, bit_at-lt, bit_at_or, bit_at_set_same, Fast, IsMarked}
 use Rattle.fs_compile.proofs.Words.{AreRowsOf, Grown, bit_in, Facts, facts_hold, hits, contains, is_in}
