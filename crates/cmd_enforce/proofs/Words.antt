@@ -11,16 +11,15 @@ pub use Rattle.fs_tape.specs.Tape.{Item, Timed}
 pub use Rattle.fs_rules.specs.{Lent.{Listed}, Table.{Held}, Walk.{first_from, goes_on, walk_from, walk_of}}
 pub use Rattle.fs_compile.specs.{Matcher.{StandsForLists, WalksOn, admitted_in}, Matches.{AreMatchesOf, Matching, behind}}
 pub use Rattle.fs_compile.specs.Reach.{reaching, reaching_behind, reaching_from}
-pub use Rattle.fs_desk.specs.Desk.{Desked, Played}
 pub use Rattle.fs_line.proofs.Outputs.{goes_as, goes_flush, goes_flush_part, goes_none, goes_stops, goes_then, partly_flushed, sends_as}
-pub use Rattle.fs_line.proofs.Outputs.{sends_stopped, sends_then, stops_as}
+pub use Rattle.fs_line.proofs.Outputs.{stops_as}
 pub use Rattle.fs_line.specs.{Line.{line_of, unread_line_of}, Output.{Goes, Partly, Stops}, Walked.{actions_walked, entries, entry_of}}
 pub use Rattle.fs_line.specs.declared.walked.Walked.{Walked}
 pub use Rattle.cmd_stages.proofs.Stages.{accepted_with, answered_err, answers_for, either_rose, ends_early, finished_by, match_err, outside_one}
 pub use Rattle.cmd_stages.proofs.Stages.{reason_then, rose_later}
 pub use Rattle.cmd_stages.proofs.Openings.{opened_due, refused_at}
 pub use Rattle.cmd_stages.specs.Load.{Names, config_stage}
-pub use Rattle.cmd_stages.specs.Play.{HasVersion, IsOpenOrDone, accepted_stage, tape_stage, until, untimed}
+pub use Rattle.cmd_stages.specs.Play.{HasVersion, IsOpenOrDone, accepted_stage, tape_stage, until}
 pub use Rattle.cmd_stages.specs.Player.{IsReadWhole, IsUnplayed, PlayerState, Stands, StandsOrWaits, due_item}
 pub use Rattle.cmd_stages.specs.Refusal.{Found, HasReason, Stage, Stopped, and_then, answered, status_of}
 pub use Rattle.cmd_stages.specs.declared.refusal.Refusal.{Refusal, TheVariants.{Memory, Outside}}

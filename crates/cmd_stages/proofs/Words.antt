@@ -14,7 +14,7 @@ pub use Rattle.fs_tape.specs.Tape.{IsBegun, IsItem, Item, TapeState, Timed, comi
 pub use Rattle.fs_tape.specs.declared.{fault.TapeReason.{TapeReason}, magic.Version.{Version, TheVariants.{One, Two}}}
 pub use Rattle.fs_rules.specs.Changes.{Covers, Noted}
 pub use Rattle.fs_desk.specs.{Desk.{Desked, Played, Plays}, Leaves.{Leaves, nobody}}
-pub use Rattle.cmd_stages.specs.{Items.{Ceases, GivesNone, ItemState, read_stage, to_give}, Load.{Names, Openings, OpensFront, config_stage}}
+pub use Rattle.cmd_stages.specs.{Items.{Ceases, GivesNone, read_stage}, Load.{Names, Openings, OpensFront, config_stage}}
 pub use Rattle.cmd_stages.specs.Play.{Gives, HasVersion, HaveNoMoments, IsOpenOrDone, IsOpened, IsPlayed, PlaysOn, accepted_stage, played_to}
 pub use Rattle.cmd_stages.specs.Play.{tape_stage, until, untimed}
 pub use Rattle.cmd_stages.specs.Player.{IsReadWhole, IsReady, IsUnplayed, PlayerState, Stands, due_item, items_ahead, to_play}

@@ -35,11 +35,11 @@ pub use Rattle.fs_speaker.specs.Announcer.{without_update}
 pub use Rattle.fs_speaker.specs.End.{HandsOver, IsAt, StandsAt, TicksOver, first_point, ticked, ticks}
 pub use Rattle.fs_speaker.specs.Handed.{Handed, Point, hand, handed, point, runs, runs_by, shuts}
 pub use Rattle.fs_speaker.specs.{JointLaws.{CanArrive, IsUnnamed, TakesFront, TakesNone}, Laws.{AreSendable, ComesBack, IsSent}}
-pub use Rattle.fs_speaker.specs.Line.{Advanced, CloseIs, FeedsOpen, Lined, StaysOver, Step, closed_after, fresh, moved, rest_step, state_in, step_at}
+pub use Rattle.fs_speaker.specs.Line.{Advanced, FeedsOpen, Lined, StaysOver, Step, closed_after, fresh, moved, rest_step, state_in, step_at}
 pub use Rattle.fs_speaker.specs.Line.{step_by, stops, takes, waits}
 pub use Rattle.fs_speaker.specs.Sending.{body_by, is_short, needs_of, sender_of, text_sent, update_sent}
 pub use Rattle.fs_speaker.specs.Session.{Last, at_start, begins, closed, live, plays, rest_closes, session_by, session_from, still, with_update}
-pub use Rattle.fs_speaker.specs.Side.{announcer, as_update, at_fault, keepalive_to, lacks_of, no_farewell, notice_text, receiver, reply_at, reply_to}
+pub use Rattle.fs_speaker.specs.Side.{announcer, as_update, at_fault, keepalive_to, no_farewell, notice_text, receiver, reply_at, reply_to}
 pub use Rattle.fs_speaker.specs.{State.{standing_at, standing_by}, Times.{at_moment, taken_in, tick_at, times, written_now}}
 pub use Rattle.fs_speaker.specs.Transition.{Machine, closing_of, faulted, not_taken, notified, opened, phase, taken, terms_of, transition_at}
 pub use Rattle.fs_speaker.specs.Transition.{transition_by, updates}
@@ -56,7 +56,7 @@ pub use Rattle.fs_desk.specs.Limit.{replies_to_limit, routes_left, too_many}
 pub use Rattle.fs_peering.specs.Course.{after, course, course_from, hears}
 pub use Rattle.fs_peering.specs.Hearer.{ClosesIn, ExpiresAt, HasClosed, IsHearing, Receives, StandsBy, bare, course_of, is_ended, tape_of}
 pub use Rattle.fs_peering.specs.HoldTime.{AreTimely, IsTakenAt, Spans, most}
-pub use Rattle.fs_peering.specs.Joined.{AreJoined, Exchanged, ExchangedOut, Exchanges, Heard, SaidAll, Side, StopsSo, heard_by, moments_of, of_first}
+pub use Rattle.fs_peering.specs.Joined.{AreJoined, ExchangedOut, Exchanges, Heard, SaidAll, Side, StopsSo, heard_by, moments_of, of_first}
 pub use Rattle.fs_peering.specs.Joined.{of_second}
 pub use Rattle.fs_peering.specs.Laws.{AreRead, ClosesUnnamed, OpeningIsSession, OpensAs, SendsFront}
 pub use Rattle.fs_peering.specs.Listen.{EndsHearing, IsReceiving, ListensOver, ListensSo, MeetsLimit}

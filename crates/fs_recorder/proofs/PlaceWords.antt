@@ -3,13 +3,12 @@ pub use Rattle.std.proofs.Common.{Bool, Err, List, None, Ok, Option, Result, Som
 pub use Rattle.std.proofs.Common.{subst, sym, true, ℕ, ◌++◌, ◌<◌, ◌≤◌, ◌==◌, ◌∙◌, ◌∷◌, ◌≡◌}
 pub use Rattle.std.proofs.lemmas.List.{append-nil, map-append}
 pub use Rattle.std.specs.{List.{AllByRecursion}, Prelude.{IsSome, OnErr, OnOk, filter, find, if◌then◌else◌, map, option_map}}
-pub use Rattle.fs_base.proofs.NumberTests.{eq_itself}
 pub use Rattle.fs_base.specs.{Config.{peer_of}, Gate.{Turn, What, ended, gave, made, nothing, shut, taken}, Sink.{Grew}}
 pub use Rattle.fs_base.specs.declared.config.{Address.{Address}, Config.{Config}, Peer.{Peer}}
 pub use Rattle.fs_tape.specs.{Header.{longest_payload}, Laws.{IsNumbered, IsWritable}, Tape.{Item, came_up, received, was_lost}}
 pub use Rattle.fs_speaker.specs.{Handed.{Point}, Line.{fresh}, Session.{begins, live}}
-pub use Rattle.fs_desk.specs.{Desk.{Desked, KeepsOthers, Played, PlayedBut, expired_after, session_at, standing_of}, Leaves.{nobody}}
-pub use Rattle.fs_recorder.specs.Books.{Booked, Tells, TellsPart}
+pub use Rattle.fs_desk.specs.{Desk.{Desked, KeepsOthers, Played, expired_after, session_at, standing_of}, Leaves.{nobody}}
+pub use Rattle.fs_recorder.specs.Books.{Tells, TellsPart}
 pub use Rattle.fs_recorder.specs.Deeds.{Deed, Does, Recording, is_closed, items_of, leaves, says, shuts, tells}
 pub use Rattle.fs_recorder.specs.Seats.{seat_for, seat_of}
 pub use Rattle.fs_recorder.specs.Door.{AtDoor, guest_of, has_time, is_due, late_lines, said_as, swept_at, swept_where_due, with_guest, without_guest}

@@ -1,5 +1,5 @@
 -- The words of the crates below, and of the specs, that lemmas here speak of.
-pub use Rattle.std.proofs.Common.{Bool, Err, List, None, Ok, Option, Result, Some, eqb-true, inl, inr, map, true≢false, option_map, unwrap_or, [], ap}
+pub use Rattle.std.proofs.Common.{Bool, Err, List, None, Ok, Option, Result, Some, eqb-true, inl, inr, map, true≢false, unwrap_or, [], ap}
 pub use Rattle.std.proofs.Common.{append_assoc, arith, drop, false, filter, length, length-append, not, refl, rules, subst, sym, take, true, ℕ, ◌++◌}
 pub use Rattle.std.proofs.Common.{◌+◌, ◌-◌, ◌<◌, ◌&&◌, ◌==◌, ◌||◌, ◌^◌, ◌∙◌, ◌∷◌, ◌≡◌, ◌≢◌, ◌≤◌, ◌⊎◌}
 pub use Rattle.std.proofs.{lemmas.{List.{append-nil, length-drop, take_all}}, Math.Seq.{drop-append_seam}}
@@ -9,7 +9,7 @@ pub use Rattle.fs_base.proofs.{NumberTests.{eq_itself}, Grew.{Grew-refl, Grew-tr
 pub use Rattle.fs_base.specs.{Config.{peer_of}, Gate.{Turn, said, shut}, Sink.{Grew, GrewPart}, declared.config.{Config.{Config}, Peer.{Peer}}}
 pub use Rattle.fs_input.specs.Parts.{AllFrom}
 pub use Rattle.fs_tape.specs.Header.{longest_payload}
-pub use Rattle.fs_tape.specs.Laws.{Fits, IsNumbered, IsWritable, after, item_text, record_text, tape_text}
+pub use Rattle.fs_tape.specs.Laws.{Fits, IsNumbered, IsWritable, after, item_text, record_text}
 pub use Rattle.fs_tape.specs.Tape.{Item, Timed, came_up, received, stands, timed, was_lost}
 pub use Rattle.fs_tape.specs.declared.magic.Version.TheVariants.{Two}
 pub use Rattle.fs_speaker.specs.{Handed.{Point}, Session.{Live}}
@@ -20,10 +20,10 @@ pub use Rattle.fs_recorder.specs.Books.{Agrees, AgreesBut, Booked, Tells, TellsP
 pub use Rattle.fs_recorder.specs.Deeds.{AreKnown, Deed, Does, IsKnown, Recording, StayKnown, answered, asked_in, behind_answer, is_closed, items_of}
 pub use Rattle.fs_recorder.specs.Deeds.{leaves, passing, says, sends, shuts, stands_established, tells, text_at, told_at}
 pub use Rattle.fs_recorder.specs.Seats.{seat_for, seat_of, without}
-pub use Rattle.fs_recorder.specs.Steps.{Place, Station, Step, checks, doing, expires, handed_point, hurries, hurries_where_late, hurries_where_new}
-pub use Rattle.fs_recorder.specs.Steps.{is_early, is_established, moved, octets_of, peers_at, place_for, place_of, places_without, receives}
+pub use Rattle.fs_recorder.specs.Steps.{Place, Station, Step, doing, expires, handed_point, hurries, hurries_where_late, hurries_where_new}
+pub use Rattle.fs_recorder.specs.Steps.{is_early, is_established, moved, peers_at, place_for, place_of, places_without, receives}
 pub use Rattle.fs_recorder.specs.Steps.{replies_to, resting, seat_at, settles, speaks, then_do, wakes, woken}
 pub use Rattle.fs_recorder.specs.{Tapes.{Scribed, items_in, last_of, longer_by}, Door.{AtDoor, open_time}, declared.seats.Seat.{Seat}}
-pub use Rattle.fs_recorder.specs.Works.{Answered, AreApart, BreaksAt, DoesStep, IsOpenAt, Left, Ran, RanAnswer, RanAt, RanHear, RanSeat, RanSo}
+pub use Rattle.fs_recorder.specs.Works.{Answered, AreApart, BreaksAt, DoesStep, IsOpenAt, Left, Ran, RanAnswer, RanAt, RanHear, RanSo}
 pub use Rattle.fs_recorder.specs.Works.{Settled, Stands, WakesSo, broken, done}
-pub use Rattle.fs_recorder.specs.declared.stop.Stop.{Stop, TheVariants.{Limit, Memory}}
+pub use Rattle.fs_recorder.specs.declared.stop.Stop.{Stop, TheVariants.{Limit}}
